@@ -9,3 +9,4 @@ pub mod TraceLawLemmas
 pub mod ExplainLemmas
 pub mod NoteLemmas
 pub mod ReasonLemmas
+pub mod CompareLemmas

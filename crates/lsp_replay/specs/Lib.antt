@@ -14,6 +14,7 @@ pub mod Counts
 pub mod Lines
 pub mod Trace
 pub mod Explained
+pub mod Compared
 pub mod inside
 pub mod Commands
 pub mod laws

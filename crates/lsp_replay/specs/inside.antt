@@ -1,5 +1,6 @@
 -- Definitions that only private contracts speak of.
 pub mod Bodies
+pub mod Compared
 pub mod Tallies
 pub mod Joining
 pub mod Kept

@@ -12,12 +12,14 @@ ghost use Rattle.lsp_replay.specs.Run.{IsEngineRun, WritesLog};
 ghost use Rattle.lsp_replay.specs.Run.{serve_engine, check_engine, replay_engine, convert_engine};
 ghost use Rattle.lsp_replay.specs.Session.{opened};
 
+mod compared;
 mod explained;
 mod live;
 mod normalised;
 mod parts;
 mod traced;
 
+pub use crate::commands::compared::compare;
 pub use crate::commands::explained::{Listing, explain};
 pub use crate::commands::live::{check_live, explain_live, trace_live};
 pub use crate::commands::normalised::{normalise, normalise_documents};

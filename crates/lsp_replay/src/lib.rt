@@ -2,7 +2,7 @@
 //! server's end. The streams (`lsp_stream`) are re-exported.
 //!
 //! - `commands`: `serve` and `serve_on`, `check` and `explain`, `trace`, `replay` and
-//!   `replay_part`, `normalise` and `normalise_documents`, and `convert`; `check_live`,
+//!   `replay_part`, `compare`, `normalise` and `normalise_documents`, and `convert`; `check_live`,
 //!   `explain_live` and `trace_live` of a session as it goes on.
 //! - `counts`: how often what came.
 //! - `engine`: the one loop from a reader to a writer; `handler` is what it hands records to.
@@ -33,9 +33,10 @@ mod printer;
 mod session;
 
 pub use commands::{
-    Details, Listing, Part, Settings, check, check_live, convert, explain, explain_live, normalise,
-    normalise_documents, replay, replay_part, serve, serve_on, trace, trace_live,
+    Details, Listing, Part, Settings, check, check_live, compare, convert, explain, explain_live,
+    normalise, normalise_documents, replay, replay_part, serve, serve_on, trace, trace_live,
 };
 pub use laws::{documents_laws, json_laws, log_laws};
+pub use line_diff::Comparison;
 pub use lsp_stream::{CallEnd, Duplex, EngineFault, Sink, Source, StopReader, StopWriter, Told};
 pub use outcome::{Missing, Outcome};

@@ -2,7 +2,7 @@
 //! what it has to say of it.
 //!
 //! Its modules are the commands, `serving`, `checking`, `explaining`, `tracing`, `replaying`,
-//! `partial` (of a part of a log), `normalising`, `squashing` and `converting`. `live` is any of
+//! `partial` (of a part of a log), `comparing`, `normalising`, `squashing` and `converting`. `live` is any of
 //! them, flushed before more is read. `front` writes what comes before a record's frame, `reasons`
 //! why a record was refused, and `noted` what is suspicious of one that was accepted.
 
@@ -15,6 +15,7 @@ ghost use Rattle.lsp_replay.specs.inside.RunOutput.{after, output_of, IsRecordFa
 ghost use Rattle.lsp_replay.specs.inside.Session.{judge_at};
 
 pub(crate) mod checking;
+pub(crate) mod comparing;
 pub(crate) mod converting;
 pub(crate) mod explaining;
 mod front;

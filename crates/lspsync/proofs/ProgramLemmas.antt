@@ -8,7 +8,7 @@ use Rattle.clap.specs.Simple.{on_top}
 use Rattle.clap.specs.declared.builder.arg.Arg.{Arg}
 use Rattle.clap.specs.declared.builder.command.Command.{Command}
 use Rattle.clap.specs.declared.builder.command.Command.TheViews.{out-Command as fields_of}
-use Rattle.lspsync.specs.CommandLine.{Choices, IsProgram, check_rules, detail_rules, encoding_rule, limit_rules, log_rule, logs_rule, part_rules, server_rules, writing_rules}
+use Rattle.lspsync.specs.CommandLine.{Choices, IsProgram, check_rules, compare_rules, detail_rules, encoding_rule, limit_rules, log_rule, logs_rule, part_rules, server_rules, writing_rules}
 use Rattle.lspsync.specs.inside.Help.{IsPage, file_rules, own_rules, page_rules, rules_of_limits}
 use Rattle.lspsync.specs.inside.Options.{AddsRules, IsCommand, page_shape, shape_by, top_app}
 use Rattle.lspsync.specs.declared.command_line.help.Page.{Page}
@@ -88,9 +88,10 @@ abbrev pub before_last : Choices → Choices → App
 before_last encodings kinds =
     let more = λ (app : App) (name : Text) (own : List Rule). with_subcommand app
     (page_shape name own encodings limit_rules) in
-    more (more (more (more (more top_app (codes "serve") (server_rules kinds)) (codes "check")
+    more (more (more (more (more (more top_app (codes "serve") (server_rules kinds)) (codes "check")
     (check_rules ++ logs_rule ∷ [])) (codes "trace") (detail_rules ++ logs_rule ∷ [])) (codes "replay")
-    (part_rules ++ log_rule ∷ [])) (codes "normalise") (writing_rules ++ log_rule ∷ [])
+    (part_rules ++ log_rule ∷ [])) (codes "compare") (compare_rules ++ log_rule ∷ [])) (codes "normalise")
+    (writing_rules ++ log_rule ∷ [])
 
 pub program_is : {E : Type 0} (old : App) (page : Page) (values : Values) (made : Result Command E)
     → map (λ s. s.now) values.encodings.now ≡ codes "utf-8" ∷ codes "utf-16" ∷ codes "utf-32" ∷ []

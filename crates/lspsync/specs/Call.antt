@@ -1,6 +1,7 @@
 -- The calls of the program, by what `clap` finds in its words.
 use Rattle.std.specs.Prelude.{ℕ, ◌≡◌, ◌<◌, ◌^◌, ◌⊎◌, ◌&&◌, ◌||◌, ◌∷◌, not, is_some, [], Result, Ok, Err, Bool, true, false, List, All, map, Option, Some, None, codes, option_map, option_and_then, unwrap_or, if◌then◌else◌, Vec}
 use Rattle.std.specs.declared.alloc.Global.{Global}
+use Rattle.std.specs.Option.{option_or}
 use Rattle.std.specs.Str.{bytes_eq}
 use Rattle.std.specs.String.{string_bytes}
 use Rattle.std.specs.Str.Parse.{IsNumeral, digits_value, without_leading_plus}
@@ -25,6 +26,7 @@ use Rattle.lsp_replay.specs.declared.commands.explained.Listing.{Listing}
 use Rattle.lsp_replay.specs.declared.commands.parts.Part.{Part}
 use Rattle.lsp_replay.specs.declared.commands.traced.Details.{Details}
 use Rattle.lspsync.specs.CommandLine.{IsProgram}
+use Rattle.lspsync.specs.declared.command_line.Against.{Against}
 use Rattle.lspsync.specs.declared.command_line.Call.{Call}
 use Rattle.lspsync.specs.declared.command_line.Call.TheVariants as call
 use Rattle.lspsync.specs.declared.command_line.Task.{Task}
@@ -115,6 +117,16 @@ pub record IsListing (options : ArgMatches) (listing : Listing) : Type 0 where
   pub brief : IsFlag options (codes "brief") listing.brief
   pub all : IsFlag options (codes "all") listing.all
 
+-- How the URI of the document that is compared ends: as `--uri` says, else as the saved text's name.
+abbrev pub ending_given : ArgMatches → Option (List ℕ)
+ending_given options = option_or (first_value (found_of options) (codes "uri"))
+    (first_value (found_of options) (codes "SAVED"))
+
+-- A comparison before the saved text was read.
+pub record IsAgainst (options : ArgMatches) (against : Against) : Type 0 where
+  pub ending : ending_given options ≡ Some (string_bytes against.ending)
+  pub text : string_bytes against.text ≡ []
+
 -- The call of a subcommand with this name and these options.
 abbrev pub IsCallNamed : List ℕ → ArgMatches → Call → Type 0
 IsCallNamed name options (call.Serve config) = (name ≡ codes "serve") × IsConfig options config
@@ -129,6 +141,8 @@ IsCallNamed name options (call.Replay settings) = (name ≡ codes "replay")
     × AreSettings options settings × IsLogPart options whole
 IsCallNamed name options (call.ReplayPart settings part) = (name ≡ codes "replay")
     × AreSettings options settings × IsLogPart options part × (is_whole part ≡ false)
+IsCallNamed name options (call.Compare settings against) = (name ≡ codes "compare")
+    × AreSettings options settings × IsAgainst options against
 IsCallNamed name options (call.Normalise settings) = (name ≡ codes "normalise")
     × AreSettings options settings × IsFlag options (codes "squash") settings.squash
     × IsFlag options (codes "documents") false
@@ -152,13 +166,26 @@ file_named word = if bytes_eq word (codes "-") then None else Some word
 abbrev pub file_of : Task → Option (List ℕ)
 file_of task = option_map string_bytes task.file
 
+-- The file of a saved text that the options name.
+abbrev pub saved_given : ArgMatches → Option (List ℕ)
+saved_given options = first_value (found_of options) (codes "SAVED")
+
+-- That of a task.
+abbrev pub saved_of : Task → Option (List ℕ)
+saved_of task = option_map string_bytes task.saved
+
+-- A task has the call of a subcommand, with the saved text that its options name.
+abbrev pub IsTaskNamed : List ℕ → ArgMatches → Task → Type 0
+IsTaskNamed name options task =
+    IsCallNamed name options task.call × (saved_of task ≡ saved_given options)
+
 -- The tasks that were found in the words: the call of the subcommand on each of the files.
 pub record AreTasks (found : ArgMatches) (tasks : List Task) : Type 0 where
   pub name : List ℕ
   pub options : ArgMatches
   pub named : subcommand_name_of found ≡ Some name
   pub rows : option_map (λ p. p.1) (subcommand_rows_of found) ≡ Some (rows_of (found_of options))
-  pub calls : All (λ task. IsCallNamed name options task.call) tasks
+  pub calls : All (IsTaskNamed name options) tasks
   pub files : map file_of tasks ≡ map file_named (files_given options)
 
 -- No call was found in the words: no subcommand, or one whose name and options are no call.

@@ -95,6 +95,14 @@ uri_rule = text_rule (codes "uri")
 abbrev pub part_rules : List Rule
 part_rules = at_rule ∷ uri_rule ∷ []
 
+-- The saved text that `compare` reads.
+abbrev pub saved_rule : Rule
+saved_rule = record (new_rule (codes "SAVED")) { required = true }
+
+-- What `compare` compares.
+abbrev pub compare_rules : List Rule
+compare_rules = saved_rule ∷ uri_rule ∷ []
+
 -- The options of `trace` that say what it writes of each record, and when.
 abbrev pub detail_rules : List Rule
 detail_rules = flag_rule (codes "texts") ∷ flag_rule (codes "bodies") ∷ flag_rule (codes "live")
@@ -112,6 +120,7 @@ program_app encodings kinds = record {
       ∷ command_shape (codes "check") (encoding_rule encodings ∷ check_rules ++ logs_rule ∷ [])
       ∷ command_shape (codes "trace") (encoding_rule encodings ∷ detail_rules ++ logs_rule ∷ [])
       ∷ command_shape (codes "replay") (encoding_rule encodings ∷ part_rules ++ log_rule ∷ [])
+      ∷ command_shape (codes "compare") (encoding_rule encodings ∷ compare_rules ++ log_rule ∷ [])
       ∷ command_shape (codes "normalise")
       (encoding_rule encodings ∷ writing_rules ++ log_rule ∷ [])
       ∷ command_shape (codes "convert") (encoding_rule encodings ∷ log_rule ∷ []) ∷ [];

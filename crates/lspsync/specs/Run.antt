@@ -1,8 +1,9 @@
 -- What the program writes, and the status that it ends with.
-use Rattle.std.specs.Prelude.{ℕ, ◌≡◌, ◌⊎◌, ◌++◌, ◌∷◌, [], Bool, true, false, List, length, max, nat_lt, codes, Option, Some, None, option_map, unwrap_or, Result, Ok, Err, Vec}
+use Rattle.std.specs.Prelude.{ℕ, ◌≡◌, ◌⊎◌, ◌++◌, ◌∷◌, [], Bool, true, false, List, length, max, nat_lt, codes, Option, Some, None, option_map, unwrap_or, IfSome, Result, Ok, Err, String, Vec}
 use Rattle.std.specs.Result.{result_and}
 use Rattle.std.specs.declared.alloc.Global.{Global}
 use Rattle.std.specs.Io.KnownBytes.{Keeps}
+use Rattle.std.specs.String.{string_bytes}
 use Rattle.clap.specs.Values.{kind_of}
 use Rattle.clap.specs.declared.error.Error.{Error}
 use Rattle.clap.specs.declared.error.kind.ErrorKind.{ErrorKind}
@@ -14,6 +15,8 @@ use Rattle.lsp_program.specs.Output.{IsFlushed, IsPrinted, IsTextPrinted, Stream
 use Rattle.lsp_replay.specs.declared.outcome.Missing.{Missing}
 use Rattle.lsp_replay.specs.declared.outcome.Missing.TheVariants as missing
 use Rattle.lsp_replay.specs.declared.outcome.Outcome.{Outcome}
+use Rattle.line_diff.specs.Compared.{new_comparison}
+use Rattle.lsp_replay.specs.Compared.{compare_engine}
 use Rattle.lsp_replay.specs.Documents.{documents_engine}
 use Rattle.lsp_replay.specs.Explained.{explain_engine}
 use Rattle.lsp_replay.specs.Parts.{part_engine}
@@ -23,7 +26,8 @@ use Rattle.lspsync.specs.declared.command_line.Call.{Call}
 use Rattle.lspsync.specs.declared.command_line.Call.TheVariants as call
 use Rattle.lspsync.specs.declared.ends.Ending.{Ending}
 use Rattle.lspsync.specs.declared.command_line.Task.{Task}
-use Rattle.lspsync.specs.Call.{AreWordsReadAs, file_of}
+use Rattle.lspsync.specs.Call.{AreWordsReadAs, file_of, saved_of}
+use Rattle.lspsync.specs.Loaded.{with_text}
 use Rattle.lspsync.specs.FaultText.{blame_text, fault_cause, fault_text}
 
 -- The status of a fault: 3 if a stream failed, 4 if out of memory, 5 if the input is no log.
@@ -48,6 +52,8 @@ engine_of (call.Explain settings listing is_live) =
 engine_of (call.Trace settings details is_live) = live_if is_live (trace_engine settings details)
 engine_of (call.Replay settings) = replay_engine settings
 engine_of (call.ReplayPart settings part) = part_engine settings part
+engine_of (call.Compare settings against) = compare_engine settings
+    (new_comparison (string_bytes against.ending) (string_bytes against.text))
 engine_of (call.Normalise settings) = normalise_engine settings
 engine_of (call.NormaliseDocuments settings) = documents_engine settings
 engine_of (call.Convert settings) = convert_engine settings
@@ -210,6 +216,25 @@ IsHeaded true name before after printed =
     IsPrinted (codes "==> " ++ (shown_name name ++ codes " <==\n")) before after printed
 IsHeaded false name before after printed = (after ≡ before) × (printed ≡ Ok tt)
 
+-- A call, once the file of its saved text was read, of whose bytes this may be known.
+abbrev pub IsLoaded : KnownFiles → Call → Option (List ℕ) → Call → Type 0
+IsLoaded known asked None loaded = loaded ≡ asked
+IsLoaded known asked (Some name) loaded = (text : String Global)
+    × IfSome (known name) (λ bytes. string_bytes text ≡ bytes) × (loaded ≡ with_text text asked)
+
+-- A file of a saved text can't be read.
+abbrev pub IsNotLoaded : Option (List ℕ) → WriterState → WriterState → Ending → Type 0
+IsNotLoaded None before after ending = ⊥
+IsNotLoaded (Some name) before after ending = IsUnreadable name before after ending
+
+-- A call was made on an input; or its saved text can't be read, and then nothing else is.
+abbrev pub IsTaskRun : KnownFiles → Task → Streams → Streams → Ending → Type 0
+IsTaskRun known task before after ending =
+    ((loaded : Call) × IsLoaded known task.call (saved_of task) loaded
+    × IsDoneOn known loaded (file_of task) before after ending)
+    ⊎ ((after.reader ≡ before.reader) × (after.writer ≡ before.writer)
+    × IsNotLoaded (saved_of task) before.errors after.errors ending)
+
 -- A task was done, after its heading. The ending has the first failure to print.
 pub record IsTaskDone (known : KnownFiles) (is_headed : Bool) (task : Task) (before after : Streams)
     (ending : Ending) : Type 0 where
@@ -218,7 +243,7 @@ pub record IsTaskDone (known : KnownFiles) (is_headed : Bool) (task : Task) (bef
   pub heading : Result (Unit {0}) EngineFault
   pub headed : IsHeaded is_headed (file_of task) before.errors errors heading
   pub one : Ending
-  pub done : IsDoneOn known task.call (file_of task) (record before { errors = errors }) after one
+  pub done : IsTaskRun known task (record before { errors = errors }) after one
   pub ends : ending ≡ record one { printed = result_and heading one.printed }
 
 -- The ends of two parts are both_ends: the greater status, and the first failure to print.

@@ -12,7 +12,8 @@ ghost use Rattle.std.specs.Prelude.{IfOk, IfSome, IsSome, ℕ, map, option_map};
 ghost use Rattle.std.specs.String.{string_bytes};
 ghost use Rattle.lspsync.specs.Call.{AreDetails, AreLimits, AreSettings, AreWordsReadAs, HasNumber};
 ghost use Rattle.lspsync.specs.Call.{IsCallNamed, IsConfig, IsExplained, IsFound, IsListing};
-ghost use Rattle.lspsync.specs.Call.{IsLogPart, encoding_given};
+ghost use Rattle.lspsync.specs.Call.{IsLogPart, encoding_given, ending_given, saved_given};
+ghost use Rattle.lspsync.specs.Loaded.{with_text};
 ghost use Rattle.lspsync.specs.Call.{file_named, files_given, is_whole, sync_given};
 ghost use Rattle.lsp_frame.specs.Limits.{LimitsData};
 
@@ -58,6 +59,9 @@ pub enum Call {
     Replay(Settings),
     /// `replay --at N --uri URI`: print the documents after a record, or a document's last text.
     ReplayPart(Settings, Part),
+    /// `compare`: print whether the last text of a document is a saved one, and else which message
+    /// made each line that differs.
+    Compare(Settings, Against),
     /// `normalise`: write a log with each accepted change as its canonical message.
     Normalise(Settings),
     /// `normalise --documents`: write of it only what is about the session and the documents'
@@ -67,10 +71,36 @@ pub enum Call {
     Convert(Settings),
 }
 
+/// What `compare` compares.
+#[derive(Debug, PartialEq, Eq, Drop)]
+pub struct Against {
+    /// How the document's URI ends.
+    pub ending: String,
+    /// The saved text, once it was read.
+    pub text: String,
+}
+
+impl Call {
+    /// Returns the call with a text that was read for it.
+    pub fn with_text(self, text: String) -> Call
+        ensures { result ≡ with_text text self }
+    {
+        match self {
+            Call::Compare(settings, against) => Call::Compare(
+                settings,
+                Against { text, ..against },
+            ),
+            other => other,
+        }
+    }
+}
+
 /// A call on one input.
 #[derive(Debug, PartialEq, Eq, Drop)]
 pub struct Task {
     pub call: Call,
+    /// The name of the file with the text that `compare` compares.
+    pub saved: Option<String>,
     /// The name of the file that is read; of standard input it is none.
     pub file: Option<String>,
 }
@@ -104,8 +134,9 @@ fn tasks_of(alloc: Global, matches: &ArgMatches<'_>) -> Result<Option<Vec<Task>>
         let Some(call) = call_named(alloc, name, options)? else {
             return Ok(None);
         };
+        let saved = saved_of(alloc, options)?;
         let file = file_named(alloc, file)?;
-        tasks.push(Task { call, file })?;
+        tasks.push(Task { call, saved, file })?;
     }
     Ok(Some(tasks))
 }
@@ -117,6 +148,16 @@ fn files_of<'a>(options: &'a ArgMatches<'_>) -> &'a [&'a str]
     options
         .get_strs("FILE")
         .unwrap_or(STANDARD_INPUT.as_slice())
+}
+
+/// Returns the file of a saved text, if the options name one.
+fn saved_of(alloc: Global, options: &ArgMatches<'_>) -> Result<Option<String>, AllocError>
+    ensures { IfOk result (λ saved. option_map string_bytes saved ≡ saved_given options.now) }
+{
+    match options.get_str("SAVED") {
+        Some(name) => Ok(Some(String::from_str(alloc, name)?)),
+        None => Ok(None),
+    }
 }
 
 /// Returns the file that a word names. `-` is standard input.
@@ -141,14 +182,15 @@ fn call_named(
 {
     match name {
         "replay" => replay_call(alloc, options),
+        "compare" => compare_call(alloc, options),
         _ => Ok(other_call(name, options)),
     }
 }
 
-/// Returns the call of another subcommand than `replay`.
+/// Returns the call of another subcommand than `replay` and `compare`.
 fn other_call(name: &str, options: &ArgMatches<'_>) -> Option<Call>
     ensures some { IfSome result (IsCallNamed name.now options.now) }
-    ensures none { (call : Call) → name.now ≢ codes "replay" →
+    ensures none { (call : Call) → name.now ≢ codes "replay" → name.now ≢ codes "compare" →
         IsCallNamed name.now options.now call → IsSome result }
 {
     match name {
@@ -237,6 +279,35 @@ fn replay_call(alloc: Global, options: &ArgMatches<'_>) -> Result<Option<Call>, 
     };
     let part = part_of(alloc, options)?;
     Ok(Some(replaying(settings, part)))
+}
+
+/// Returns the call of `compare`, before the saved text was read.
+fn compare_call(alloc: Global, options: &ArgMatches<'_>) -> Result<Option<Call>, AllocError>
+    ensures some { IfOk result (λ found. IfSome found (IsCallNamed (codes "compare") options.now)) }
+    ensures none { IfOk result (λ found. (call : Call) →
+        IsCallNamed (codes "compare") options.now call → IsSome found) }
+{
+    let Some(settings) = settings_of(options, false) else {
+        return Ok(None);
+    };
+    let Some(ending) = ending_of(options) else {
+        return Ok(None);
+    };
+    let against = Against {
+        ending: String::from_str(alloc, ending)?,
+        text: String::new(alloc),
+    };
+    Ok(Some(Call::Compare(settings, against)))
+}
+
+/// Returns how the URI of the document that is compared ends.
+fn ending_of<'a>(options: &'a ArgMatches<'_>) -> Option<&'a str>
+    ensures { option_map (λ ending. ending.now) result ≡ ending_given options.now }
+{
+    match options.get_str("uri") {
+        Some(uri) => Some(uri),
+        None => options.get_str("SAVED"),
+    }
 }
 
 /// Returns the call of `replay` with these settings.

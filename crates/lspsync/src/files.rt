@@ -1,6 +1,6 @@
 //! Files of logs, by their names.
 
-ghost use Rattle.std.specs.Prelude.{◌++◌, Err, IfOk, List, Option, false, option_map, ℕ};
+ghost use Rattle.std.specs.Prelude.{◌≡◌, ◌++◌, Err, IfOk, IfSome, List, Option, false, option_map, string_bytes, ℕ};
 ghost use Rattle.std.specs.Io.KnownBytes.{Keeps};
 ghost use Rattle.lsp_program.specs.Output.{IsPrinted};
 ghost use Rattle.lspsync.specs.FaultText.{fault_text};
@@ -123,8 +123,16 @@ fn end_fault<T, E: Sink>(
     }
 }
 
+/// Reads a file's text.
+pub fn read_text<F: Folder>(alloc: Global, name: &str, folder: &F) -> io::Result<String>
+    ensures { IfOk result (λ text. IfSome (F.bytes folder.now name.now)
+        (λ bytes. string_bytes text ≡ bytes)) }
+{
+    io::read_to_string(alloc, folder.open(name)?)
+}
+
 /// Prints why a file can't be opened or read.
-fn unreadable<E: Sink>(alloc: Global, name: &str, error: io::Error, errors: &mut E) -> Ending
+pub fn unreadable<E: Sink>(alloc: Global, name: &str, error: io::Error, errors: &mut E) -> Ending
     ensures { IsUnreadable name.now (E.seen errors.old) (E.seen errors.new) result }
 {
     match format!(in alloc; "{error}") {

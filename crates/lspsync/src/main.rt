@@ -1,4 +1,4 @@
-//! `lspsync`: a language server's end of a session on standard input and output, and five commands
+//! `lspsync`: a language server's end of a session on standard input and output, and six commands
 //! on recorded sessions.
 //!
 //! - `run`: the program over any reader, folder and writers; the engines are those of `lsp_replay`.

@@ -1,6 +1,6 @@
 //! The program over any reader, folder and writers.
 
-ghost use Rattle.std.specs.Prelude.{◌≡◌, ◌≢◌, ◌⊎◌, length, Result, map, nat_lt, option_map};
+ghost use Rattle.std.specs.Prelude.{◌≡◌, ◌≢◌, ◌⊎◌, length, MatchResult, Result, map, nat_lt, option_map};
 ghost use Rattle.std.specs.String.{string_bytes};
 ghost use Rattle.clap.specs.Values.{kind_of};
 ghost use Rattle.clap.specs.declared.error.kind.ErrorKind.TheVariants.{OutOfMemory};
@@ -9,18 +9,19 @@ ghost use Rattle.lsp_stream.specs.Ports.{ports};
 ghost use Rattle.lsp_program.specs.Output.{IsPrinted, IsTextPrinted, allowed_turns, streams};
 ghost use Rattle.lsp_replay.specs.Run.{IsEngineRun};
 ghost use Rattle.lspsync.specs.Run.{AreDone, IsDoneOn, IsEnding, IsHeaded, IsHelpEnd, IsPerformed};
-ghost use Rattle.lspsync.specs.Run.{IsFaultEnd, IsProgramRun, IsTaskDone, answer_after_flush};
+ghost use Rattle.lspsync.specs.Run.{IsFaultEnd, IsLoaded, IsNotLoaded, IsProgramRun, IsTaskDone};
+ghost use Rattle.lspsync.specs.Run.{answer_after_flush};
 ghost use Rattle.lspsync.specs.Run.{engine_of, nothing_yet, shown_name};
 
 use crate::command_line::{Call, Task, parse};
 use crate::ends::{Ending, both, end_well, report};
-use crate::files::{Folder, run_file};
+use crate::files::{Folder, read_text, run_file, unreadable};
 use crate::live::{run_check, run_explain, run_trace};
 use clap::error as clap_error;
 use lsp_program::{MAX_TURNS, USAGE, flush, print, print_text};
 use lsp_replay::{
-    EngineFault, Outcome, Sink, Source, convert, normalise, normalise_documents, replay,
-    replay_part, serve,
+    Comparison, EngineFault, Outcome, Sink, Source, compare, convert, normalise,
+    normalise_documents, replay, replay_part, serve,
 };
 use std::alloc::Global;
 
@@ -86,9 +87,12 @@ fn do_task<F: Folder, R: Source, W: Sink, E: Sink>(
         (streams (R.seen input.old) (W.seen output.old) (E.seen errors.old))
         (streams (R.seen input.new) (W.seen output.new) (E.seen errors.new)) result }
 {
-    let Task { call, file } = task;
+    let Task { call, saved, file } = task;
     let headed = head(is_headed, &file, errors);
-    let done = do_on(alloc, call, file, folder, input, output, errors);
+    let done = match loaded(alloc, call, saved, folder, errors) {
+        Ok(call) => do_on(alloc, call, file, folder, input, output, errors),
+        Err(ending) => ending,
+    };
     Ending {
         printed: headed.and(done.printed),
         ..done
@@ -112,6 +116,29 @@ fn shown_name<'a>(file: &'a Option<String>) -> &'a str
     match file {
         Some(name) => name.as_str(),
         None => "standard input",
+    }
+}
+
+/// Returns a call once its saved text was read, or the end if that can't be read.
+fn loaded<F: Folder, E: Sink>(
+    alloc: Global,
+    call: Call,
+    saved: Option<String>,
+    folder: &F,
+    errors: &mut E,
+) -> Result<Call, Ending>
+    ensures { MatchResult result
+        (λ loaded. IsLoaded (F.bytes folder.now) call (option_map string_bytes saved) loaded
+        × (E.seen errors.new ≡ E.seen errors.old))
+        (λ ending. IsNotLoaded (option_map string_bytes saved)
+        (E.seen errors.old) (E.seen errors.new) ending) }
+{
+    let Some(name) = saved else {
+        return Ok(call);
+    };
+    match read_text(alloc, &name, folder) {
+        Ok(text) => Ok(call.with_text(text)),
+        Err(error) => Err(unreadable(alloc, &name, error, errors)),
     }
 }
 
@@ -209,6 +236,10 @@ fn obey<R: Source, W: Sink>(
         Call::Replay(settings) => replay(alloc, input, output, settings, MAX_TURNS),
         Call::ReplayPart(settings, part) => {
             replay_part(alloc, input, output, settings, part, MAX_TURNS)
+        }
+        Call::Compare(settings, against) => {
+            let comparison = Comparison::new(against.ending, against.text);
+            compare(alloc, input, output, settings, comparison, MAX_TURNS)
         }
         Call::Normalise(settings) => normalise(alloc, input, output, settings, MAX_TURNS),
         Call::NormaliseDocuments(settings) => {

@@ -1,5 +1,6 @@
 //! Rows of inputs, with the result and the output of each engine, as they were worked out by hand.
 
+mod compares;
 mod failing_runs;
 mod failures;
 mod notes;
@@ -9,9 +10,9 @@ mod words;
 
 use lsp_frame::{Limits, frame};
 use lsp_replay::{
-    CallEnd, Details, Duplex, EngineFault, Listing, Outcome, Part, Settings, Sink, Source,
-    StopReader, StopWriter, Told, check, check_live, convert, explain, explain_live, normalise,
-    normalise_documents, replay, replay_part, serve, trace, trace_live,
+    CallEnd, Comparison, Details, Duplex, EngineFault, Listing, Outcome, Part, Settings, Sink,
+    Source, StopReader, StopWriter, Told, check, check_live, compare, convert, explain,
+    explain_live, normalise, normalise_documents, replay, replay_part, serve, trace, trace_live,
 };
 use lsp_samples::bodies::{
     ACCEPTED as REPLY, CANONICAL, CHANGE as EDITED, CLOSE, EXIT, INITIALIZE, INITIALIZED, OPEN,
@@ -100,6 +101,8 @@ enum Command {
     CheckLive,
     ExplainLive,
     TraceLive,
+    /// `compare` of the document that ends in `a` with this text.
+    Compare(&'static str),
 }
 
 /// Some bytes of a row.
@@ -245,6 +248,11 @@ fn call<R: Source, W: Sink>(
         Command::Trace => trace(alloc, from, to, settings, TEXTS, turns),
         Command::CheckLive | Command::ExplainLive | Command::TraceLive => {
             call_live(alloc, command, &mut Duplex::new(from, to), settings)
+        }
+        Command::Compare(text) => {
+            let ending = String::from_str(alloc, "a")?;
+            let comparison = Comparison::new(ending, String::from_str(alloc, text)?);
+            compare(alloc, from, to, settings, comparison, turns)
         }
     }
 }

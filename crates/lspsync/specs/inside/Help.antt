@@ -2,11 +2,11 @@
 use Rattle.std.specs.Prelude.{◌≡◌, ◌++◌, ◌∷◌, [], List, codes}
 use Rattle.clap.specs.Words.{Rule, Text}
 use Rattle.clap.specs.declared.builder.value_parser.ValueParser.TheVariants.{Unsigned}
-use Rattle.lspsync.specs.CommandLine.{Choices, check_rules, detail_rules, flag_rule, log_rule, logs_rule, option_rule, part_rules, server_rules, writing_rules}
+use Rattle.lspsync.specs.CommandLine.{Choices, check_rules, compare_rules, detail_rules, flag_rule, log_rule, logs_rule, option_rule, part_rules, server_rules, writing_rules}
 use Rattle.lspsync.specs.declared.command_line.help.Limit.{Limit}
 use Rattle.lspsync.specs.declared.command_line.help.LimitOptions.{LimitOptions}
 use Rattle.lspsync.specs.declared.command_line.help.OwnHelp.{OwnHelp}
-use Rattle.lspsync.specs.declared.command_line.help.OwnHelp.TheVariants.{Nothing, Serving, Checking, Details, Part, Writing}
+use Rattle.lspsync.specs.declared.command_line.help.OwnHelp.TheVariants.{Nothing, Serving, Checking, Details, Part, Comparing, Writing}
 use Rattle.lspsync.specs.declared.command_line.help.Page.{Page}
 
 -- The options that a command has beside those of all, by the help of them.
@@ -16,6 +16,7 @@ own_rules kinds (Serving help) = server_rules kinds
 own_rules kinds (Checking help) = check_rules
 own_rules kinds (Details help) = detail_rules
 own_rules kinds (Part help) = part_rules
+own_rules kinds (Comparing help) = compare_rules
 own_rules kinds (Writing help) = writing_rules
 
 -- The file that a command takes, or the files.

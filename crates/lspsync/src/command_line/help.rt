@@ -1,14 +1,15 @@
 //! The pages of help. They are in functions, so that proofs don't unfold them.
 
 ghost use Rattle.std.specs.Prelude.{◌≡◌, ◌++◌, ◌∷◌, [], codes};
-ghost use Rattle.lspsync.specs.CommandLine.{check_rules, detail_rules, limit_rules, log_rule};
+ghost use Rattle.lspsync.specs.CommandLine.{check_rules, compare_rules, detail_rules, limit_rules, log_rule};
 ghost use Rattle.lspsync.specs.CommandLine.{logs_rule, part_rules, server_rules, writing_rules};
 ghost use Rattle.lspsync.specs.inside.Help.{IsPage, rules_of_limits};
 
 use crate::command_line::texts::{
-    ALL, AT, BODIES, BRIEF, CHECK, CHECK_EXAMPLE, CONVERT, CONVERT_EXAMPLE, DOCUMENTS, ENCODING,
-    EXPLAIN, LIVE, NORMALISE, NORMALISE_EXAMPLE, PREFERRED_ENCODING, REPLAY, REPLAY_EXAMPLE, SERVE,
-    SERVE_EXAMPLE, SQUASH, STDIO, SYNC, TEXTS, TRACE, TRACE_EXAMPLE, URI,
+    ALL, AT, BODIES, BRIEF, CHECK, CHECK_EXAMPLE, COMPARE, COMPARE_EXAMPLE, CONVERT,
+    CONVERT_EXAMPLE, DOCUMENTS, ENCODING, ENDING, EXPLAIN, LIVE, NORMALISE, NORMALISE_EXAMPLE,
+    PREFERRED_ENCODING, REPLAY, REPLAY_EXAMPLE, SAVED, SERVE, SERVE_EXAMPLE, SQUASH, STDIO, SYNC,
+    TEXTS, TRACE, TRACE_EXAMPLE, URI,
 };
 use lsp_frame::Limits;
 
@@ -39,6 +40,8 @@ pub enum OwnHelp {
     Details(DetailHelp),
     /// `--at` and `--uri`.
     Part(PartHelp),
+    /// SAVED and `--uri`.
+    Comparing(ComparingHelp),
     /// `--documents` and `--squash`.
     Writing(WritingHelp),
 }
@@ -79,6 +82,13 @@ pub struct DetailHelp {
 pub struct PartHelp {
     pub at: &'static str,
     pub uri: &'static str,
+}
+
+/// The help of what `compare` compares.
+#[derive(Clone, Copy, Debug)]
+pub struct ComparingHelp {
+    pub saved: &'static str,
+    pub ending: &'static str,
 }
 
 /// An option that sets a limit.
@@ -150,6 +160,18 @@ pub fn replay() -> Page
     Page {
         own: OwnHelp::Part(PartHelp { at: AT, uri: URI }),
         ..log_page("replay", REPLAY, REPLAY_EXAMPLE)
+    }
+}
+
+pub fn compare() -> Page
+    ensures { IsPage result (codes "compare") (λ _. compare_rules ++ log_rule ∷ []) }
+{
+    Page {
+        own: OwnHelp::Comparing(ComparingHelp {
+            saved: SAVED,
+            ending: ENDING,
+        }),
+        ..log_page("compare", COMPARE, COMPARE_EXAMPLE)
     }
 }
 

@@ -5,17 +5,17 @@ ghost use Rattle.std.specs.Prelude.{◌≡◌, ◌∷◌, [], true, false};
 ghost use Rattle.std.specs.Prelude.{IfOk};
 ghost use Rattle.clap.specs.Words.{app_of, rule_of, with_subcommand};
 ghost use Rattle.clap.specs.declared.builder.value_parser.ValueParser.TheVariants.{Names};
-ghost use Rattle.lspsync.specs.CommandLine.{IsProgram, at_rule, check_rules, detail_rules};
+ghost use Rattle.lspsync.specs.CommandLine.{IsProgram, at_rule, check_rules, compare_rules, detail_rules};
 ghost use Rattle.lspsync.specs.CommandLine.{encoding_rule, flag_rule, limit_rules, log_rule};
 ghost use Rattle.lspsync.specs.CommandLine.{logs_rule, option_rule, part_rules, server_rules};
-ghost use Rattle.lspsync.specs.CommandLine.{sync_rule, uri_rule, writing_rules};
+ghost use Rattle.lspsync.specs.CommandLine.{saved_rule, sync_rule, uri_rule, writing_rules};
 ghost use Rattle.lspsync.specs.inside.Help.{file_rules, own_rules, rule_of_limit};
 ghost use Rattle.lspsync.specs.inside.Help.{rules_of_limits};
 ghost use Rattle.lspsync.specs.inside.Options.{AddsRules, IsCommand, shape_by, top_app};
 
 use crate::command_line::help::{
-    self, CheckingHelp, DetailHelp, Limit, LimitOptions, OwnHelp, Page, PartHelp, ServingHelp,
-    WritingHelp,
+    self, CheckingHelp, ComparingHelp, DetailHelp, Limit, LimitOptions, OwnHelp, Page, PartHelp,
+    ServingHelp, WritingHelp,
 };
 use crate::command_line::texts::{LOG, LOGS};
 use clap::builder::ValueParser;
@@ -49,6 +49,7 @@ pub(crate) fn program<'a>(
     let program = with_command(alloc, program, help::check(), values)?;
     let program = with_command(alloc, program, help::trace(), values)?;
     let program = with_command(alloc, program, help::replay(), values)?;
+    let program = with_command(alloc, program, help::compare(), values)?;
     let program = with_command(alloc, program, help::normalise(), values)?;
     with_command(alloc, program, help::convert(), values)
 }
@@ -115,6 +116,7 @@ fn with_own<'a>(
         OwnHelp::Checking(help) => with_checking(alloc, command, help),
         OwnHelp::Details(help) => with_details(alloc, command, help),
         OwnHelp::Part(help) => with_part(alloc, command, help),
+        OwnHelp::Comparing(help) => with_comparing(alloc, command, help),
         OwnHelp::Writing(help) => with_writing(alloc, command, help),
     }
 }
@@ -159,6 +161,19 @@ fn with_part<'a>(
         .arg(uri_option(alloc, help.uri))
 }
 
+/// Adds SAVED and `--uri`.
+fn with_comparing<'a>(
+    alloc: Global,
+    command: Command<'a>,
+    help: ComparingHelp,
+) -> Result<Command<'a>, AllocError>
+    ensures { IfOk result (AddsRules command.entry compare_rules) }
+{
+    command
+        .arg(saved(alloc, help.saved))?
+        .arg(uri_option(alloc, help.ending))
+}
+
 /// Adds `--explain`, `--brief`, `--all` and `--live`.
 fn with_checking<'a>(
     alloc: Global,
@@ -199,7 +214,9 @@ fn with_file<'a>(
     match own {
         OwnHelp::Serving(_) => Ok(command),
         OwnHelp::Checking(_) | OwnHelp::Details(_) => command.arg(logs(alloc)),
-        OwnHelp::Nothing | OwnHelp::Part(_) | OwnHelp::Writing(_) => command.arg(log(alloc)),
+        OwnHelp::Nothing | OwnHelp::Part(_) | OwnHelp::Comparing(_) | OwnHelp::Writing(_) => {
+            command.arg(log(alloc))
+        }
     }
 }
 
@@ -247,6 +264,14 @@ fn log<'a>(alloc: Global) -> Arg<'a>
     ensures global { result.global ≡ false }
 {
     Arg::new(alloc, "FILE").default_value("-").help(LOG)
+}
+
+/// Returns the file of a saved text.
+fn saved<'a>(alloc: Global, help: &'a str) -> Arg<'a>
+    ensures rule { rule_of result ≡ saved_rule }
+    ensures global { result.global ≡ false }
+{
+    Arg::new(alloc, "SAVED").required(true).help(help)
 }
 
 /// Returns files of logs.

@@ -71,6 +71,28 @@ Example, and a document's text alone, then and after the third record:
   lspsync replay --uri file:///home/ada/hello.py examples/typing.log
   lspsync replay --uri file:///home/ada/hello.py --at 3 examples/typing.log";
 
+pub static COMPARE: &str =
+    "Say whether a document's text is a saved one, and which message made it so";
+
+pub static COMPARE_EXAMPLE: &str =
+    "SAVED is the editor's own text, as it saved it. It is compared with the last
+text of the document whose URI ends so, or as `--uri` says, also after its
+`didClose`. Where both differ in line ends, the last line end or a byte order
+mark alone, a line says so. Else the lines that differ are printed, with the
+message that made each of the document's: that message is wrong, or a change
+after it is missing. `\\u{a0}` and the like are characters that can't be seen.
+
+The status is 0 where the texts are equal, byte for byte, else 1. Where no
+document's URI ends so, a line on standard error says so, and the status is 1.
+
+Example, whose server lost a change:
+  lspsync replay --uri file:///home/ada/hello.py examples/typing.log > hello.py
+  lspsync compare hello.py examples/typing.log";
+
+pub static SAVED: &str = "The file of the saved text";
+
+pub static ENDING: &str = "Compare the document whose URI ends so";
+
 pub static NORMALISE: &str = "Write a log with each accepted change as its canonical message";
 
 pub static NORMALISE_EXAMPLE: &str =

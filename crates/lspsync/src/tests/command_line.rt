@@ -8,7 +8,7 @@ use lsp_server::Config;
 use std::str;
 use std::test::Fail;
 
-static WRONG: [&str; 29] = [
+static WRONG: [&str; 32] = [
     "lspsync",
     "lspsync rewrite",
     "lspsync --max-body 4096 check",
@@ -35,6 +35,9 @@ static WRONG: [&str; 29] = [
     "lspsync check --max-docs 0",
     "lspsync check --max-docs 65537",
     "lspsync check --max-changes x",
+    "lspsync compare",
+    "lspsync compare a b c",
+    "lspsync compare --uri=a --uri=b a",
     "lspsync normalise --uri file:///a",
     "lspsync replay --at 0",
     "lspsync replay --at x",
@@ -50,7 +53,7 @@ static MISPLACED: [(&str, &str); 7] = [
     ("lspsync --at 3 replay", "'--at' is an option of replay\n"),
     (
         "lspsync --lenient",
-        "of serve, check, trace, replay, normalise, convert\n",
+        "of serve, check, trace, replay, compare, normalise, convert\n",
     ),
     ("lspsync check --att", "unexpected argument '--att'"),
     ("lspsync check -x", "unexpected argument '-x'"),
@@ -80,7 +83,15 @@ fn a_wrong_command_line_has_a_text_and_status_2(rt: HostRuntime) -> Result<(), F
     Ok(())
 }
 
-static COMMANDS: [&str; 6] = ["serve", "check", "trace", "replay", "normalise", "convert"];
+static COMMANDS: [&str; 7] = [
+    "serve",
+    "check",
+    "trace",
+    "replay",
+    "compare",
+    "normalise",
+    "convert",
+];
 
 /// Returns whether these words are this call.
 fn is_call<'a>(alloc: Global, words: &'a [&'a str], wanted: command_line::Call) -> bool {

@@ -33,8 +33,23 @@ const BROKEN: &str = "lspsync: broken.log: a call that was to fail\n";
 
 const NO_URI: &str = "lspsync: good.log: the document was never open\n";
 
+const SAME: &str = "\"file:///a\" after message 3: the text is the file's\n";
+
+const OTHER: &str =
+    "\"file:///a\" after message 3: the text is not the file's:\nline 1 (made by message 3): \"aXc\"\n  the file has: \"abc\\n\"\nOf each line the message that is named is wrong, or after it one is missing.\n";
+
+const BYTES: &str = "lspsync: nvim.bin: stream did not contain valid UTF-8\n";
+
+const NO_SAVED: &str = "lspsync: gone.txt: entity not found\n";
+
 /// Words, the status, the output, and what is printed on standard error.
-static ROWS: [(&str, u8, &str, &str); 10] = [
+static ROWS: [(&str, u8, &str, &str); 16] = [
+    ("lspsync compare a good.log", 0, SAME, ""),
+    ("lspsync compare --uri=a saved.txt -", 1, OTHER, ""),
+    ("lspsync compare nvim.bin good.log", 3, "", BYTES),
+    ("lspsync compare gone.txt", 3, "", NO_SAVED),
+    ("lspsync compare saved.txt good.log", 1, "", NO_URI),
+    ("lspsync compare a cut.log", 5, "", CUT),
     ("lspsync check good.log", 0, GOOD, ""),
     ("lspsync check -", 0, GOOD, ""),
     ("lspsync check --live good.log", 0, GOOD, ""),
@@ -58,7 +73,10 @@ fn is_answered(alloc: Global, row: &(&str, u8, &str, &str)) -> Result<bool, Allo
     let words: Vec<&str> = words.split(' ').collect(alloc)?;
     let good = log(alloc, &[INITIALIZE, OPEN, WHOLE])?;
     let cut = Vec::from_slice(alloc, good.get(..400).unwrap_or(&[]))?;
-    let files: [Held<'_>; 5] = [
+    let files: [Held<'_>; 8] = [
+        ("a", b"aXc", &[Take(1)]),
+        ("saved.txt", b"abc\n", &[]),
+        ("nvim.bin", b"a\xff", &[]),
         ("bare.log", b"Content-Length: 2\n\n{}", &[]),
         ("good.log", &good, &[Take(1), Take(30)]),
         ("cut.log", &cut, &[]),

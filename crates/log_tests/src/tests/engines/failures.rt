@@ -14,7 +14,7 @@ static SERVED: [Case; 1] = [Case {
 }];
 
 /// The log commands over a log of version 1.
-static OVER_1: [Case; 10] = [
+static OVER_1: [Case; 11] = [
     Case {
         command: Command::Check,
         input: Bytes::Frames(WORKED),
@@ -61,6 +61,15 @@ static OVER_1: [Case; 10] = [
         command: Command::Text(None),
         input: Bytes::Frames(&[INITIALIZE, OPEN, WHOLE, CLOSE]),
         output: Bytes::Plain(b"aXc"),
+        end: Ended(0, 4, 0),
+        records: &[],
+        flushes: &[],
+    },
+    // A document is compared with a file.
+    Case {
+        command: Command::Compare("aXc"),
+        input: Bytes::Frames(&[INITIALIZE, OPEN, WHOLE, CLOSE]),
+        output: Bytes::Plain(b"\"file:///a\" after message 3: the text is the file's\n"),
         end: Ended(0, 4, 0),
         records: &[],
         flushes: &[],

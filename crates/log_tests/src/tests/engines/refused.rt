@@ -99,7 +99,7 @@ impl Wanted {
     }
 }
 
-static RUNS: [Wanted; 14] = [
+static RUNS: [Wanted; 15] = [
     Wanted {
         command: Command::Serve,
         input: Bytes::Frames(&[SHORT]),
@@ -234,6 +234,16 @@ static RUNS: [Wanted; 14] = [
         ],
         lengths: &[80, 245, 484],
         end: Ended(0, 4, 0),
+    },
+    // The text is compared with a file, by its lines.
+    Wanted {
+        command: Command::Compare("aYc\n"),
+        input: Bytes::Frames(&[SHORT, OPEN]),
+        parts: &[
+            "\"file:///a\" after message 2: the text is not the file's:\nline 1 (made by message 2): \"abc\"\n  the file has: \"aYc\\n\"\nOf each line the message that is named is wrong, or after it one is missing.\n",
+        ],
+        lengths: &[192],
+        end: Ended(1, 2, 0),
     },
     // Two frames, and two records of version 2.
     Wanted {

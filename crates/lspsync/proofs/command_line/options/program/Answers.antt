@@ -1,6 +1,6 @@
 use Rattle.std.specs.Prelude.{◌++◌, ◌∷◌, [], codes}
 use Rattle.clap.specs.Words.{app_of}
-use Rattle.lspsync.specs.CommandLine.{check_rules, detail_rules, log_rule, logs_rule, part_rules, server_rules, writing_rules}
+use Rattle.lspsync.specs.CommandLine.{check_rules, compare_rules, detail_rules, log_rule, logs_rule, part_rules, server_rules, writing_rules}
 use Rattle.lspsync.specs.declared.command_line.options.Values.{Values}
 use Rattle.lspsync.proofs.ProgramLemmas.{program_is, puts}
 use Rattle.lspsync.proofs.command_line.options.program.Goals as goal
@@ -20,8 +20,9 @@ returns c same =
     (λ _. detail_rules ++ logs_rule ∷ []) c.trace.ensures same c.in_ok-program-3.ensures two in
     let four = puts _ (app_of c.in_ok-program-4.program) _ c.replay.result values (codes "replay")
     (λ _. part_rules ++ log_rule ∷ []) c.replay.ensures same c.in_ok-program-4.ensures three in
-    let five = puts _ (app_of c.in_ok-program-5.program) _ c.normalise.result values (codes "normalise")
-    (λ _. writing_rules ++ log_rule ∷ []) c.normalise.ensures same c.in_ok-program-5.ensures four in
-    program_is _ c.convert.result values c.with_command-6.result c.encodings.ensures c.change_forms.ensures
-    c.convert.ensures
-    same c.with_command-6.ensures five
+    let five = puts _ (app_of c.in_ok-program-5.program) _ c.compare.result values (codes "compare")
+    (λ _. compare_rules ++ log_rule ∷ []) c.compare.ensures same c.in_ok-program-5.ensures four in
+    let six = puts _ (app_of c.in_ok-program-6.program) _ c.normalise.result values (codes "normalise")
+    (λ _. writing_rules ++ log_rule ∷ []) c.normalise.ensures same c.in_ok-program-6.ensures five in
+    program_is _ c.convert.result values c.with_command-7.result c.encodings.ensures c.change_forms.ensures
+    c.convert.ensures same c.with_command-7.ensures six

@@ -11,4 +11,10 @@ pub returns-in-Nothing : goal.returns-in-Nothing
 returns-in-Nothing c =
     let added = adds _ c.log.result _ c.arg-in-Nothing.result c.log.ensures.global c.log.ensures.rule
     c.arg-in-Nothing.ensures in
-    elim c.in-Nothing.is [ inl w ↦ rw w added | inr w ↦ elim w [ inl v ↦ rw v.1 added | inr v ↦ rw v.1 added ] ]
+    elim c.in-Nothing.is [
+      | inl w ↦ rw w added
+      | inr w ↦ elim w [
+        | inl v ↦ rw v.1 added
+        | inr v ↦ elim v [ inl u ↦ rw u.1 added | inr u ↦ rw u.1 added ]
+      ]
+    ]

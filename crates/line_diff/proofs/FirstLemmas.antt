@@ -1,0 +1,35 @@
+-- The first of several numbers with a property, as a loop finds it.
+use Rattle.std.proofs.Common.{◌≡◌, ℕ, suc, ◌+◌, ◌-◌, ◌<◌, Bool, true, false, List, Option, Some, None, length, refl, add-one, arith}
+use Rattle.std.specs.Prelude.{slice_get}
+use Rattle.std.proofs.lemmas.Option.{slice_get_within}
+use Rattle.line_diff.specs.Common.{are_equal, first_with}
+
+pub first_passed : (property : ℕ → Bool) (n i : ℕ) → i < n → property i ≡ false
+    → first_with property (n - i) i ≡ first_with property (n - (i + 1)) (i + 1)
+first_passed property n i within missed =
+    let more : n - i ≡ suc (n - (i + 1)) = omega arith in
+    rw (more, missed, add-one) refl
+
+pub first_found : (property : ℕ → Bool) (n i : ℕ) → i < n → property i ≡ true
+    → first_with property (n - i) i ≡ i
+first_found property n i within hit =
+    let more : n - i ≡ suc (n - (i + 1)) = omega arith in
+    rw (more, hit) refl
+
+pub first_missing : (property : ℕ → Bool) (n i : ℕ) → i ≡ n → first_with property (n - i) i ≡ n
+first_missing property n i end =
+    let none : n - i ≡ 0 = omega arith in
+    rw none end
+
+-- lines that are equal are there
+within_by : (lines others : List (List ℕ)) (k j : ℕ) (line other : Option (List ℕ)) → slice_get lines k ≡ line
+    → slice_get others j ≡ other → are_equal line other ≡ true → (k < length lines) × (j < length others)
+within_by lines others k j None other at other_at hit = cc
+within_by lines others k j (Some line) None at other_at hit = cc
+within_by lines others k j (Some line) (Some other) at other_at hit =
+    (slice_get_within lines k line at, slice_get_within others j other other_at)
+
+pub equal_within : (lines others : List (List ℕ)) (k j : ℕ)
+    → are_equal (slice_get lines k) (slice_get others j) ≡ true → (k < length lines) × (j < length others)
+equal_within lines others k j hit =
+    within_by lines others k j (slice_get lines k) (slice_get others j) refl refl hit

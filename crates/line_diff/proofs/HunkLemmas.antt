@@ -1,0 +1,46 @@
+-- The places at which two texts have other lines, as a loop finds them.
+use Rattle.std.proofs.Common.{◌≡◌, ℕ, zero, suc, ◌+◌, ◌-◌, ◌<◌, ◌≤◌, List, ◌++◌, Some, None, length, drop, refl, ap, ◌∙◌, arith}
+use Rattle.std.proofs.lemmas.List.{drop-drop, length-drop}
+use Rattle.line_diff.specs.declared.hunks.Gap.{Gap}
+use Rattle.line_diff.specs.Hunks.{hunk_before, hunks_from, last_hunk, next_gap, unless_empty}
+
+dropped : (start more : ℕ) (lines : List (List ℕ))
+    → drop (suc more) (drop start lines) ≡ drop (start + (more + 1)) lines
+dropped start more lines =
+    let sum : start + suc more ≡ start + (more + 1) = omega arith in
+    drop-drop (suc more) start lines ∙ ap (λ k. drop k lines) sum
+
+pub rest_is : (start other_start : ℕ) (lines others : List (List ℕ)) (n m : ℕ) → length lines ≡ n → length others ≡ m
+    → start ≤ n → other_start ≤ m
+    → unless_empty (record { start = start; end = n; other_start = other_start; other_end = m })
+    ≡ last_hunk start other_start (drop start lines) (drop other_start others)
+rest_is start other_start lines others n m lines_are others_are within within_others =
+    let end : start + (n - start) ≡ n = omega arith in
+    let other_end : other_start + (m - other_start) ≡ m = omega arith in
+    rw (length-drop start lines, length-drop other_start others, lines_are, others_are, end, other_end) refl
+
+module _ (farthest start other_start : ℕ) (lines others : List (List ℕ)) where
+  pub hunk_step : (n step : ℕ) (gap : Gap) → step < n
+      → Some gap ≡ next_gap farthest (drop start lines) (drop other_start others)
+      → hunks_from (n - step) farthest start other_start (drop start lines) (drop other_start others)
+      ≡ hunk_before start other_start gap ++ hunks_from (n - (step + 1)) farthest (start + (gap.lines + 1))
+      (other_start + (gap.others + 1)) (drop (start + (gap.lines + 1)) lines)
+      (drop (other_start + (gap.others + 1)) others)
+  hunk_step n step gap within found =
+      let more : n - step ≡ suc (n - (step + 1)) = omega arith in
+      let next : suc (start + gap.lines) ≡ start + (gap.lines + 1) = omega arith in
+      let other_next : suc (other_start + gap.others) ≡ other_start + (gap.others + 1) = omega arith in
+      rw (more, ← found, next, other_next, dropped start gap.lines lines, dropped other_start gap.others others) refl
+
+  pub none_near : (steps : ℕ) → None ≡ next_gap farthest (drop start lines) (drop other_start others)
+      → last_hunk start other_start (drop start lines) (drop other_start others)
+      ≡ hunks_from steps farthest start other_start (drop start lines) (drop other_start others)
+  none_near zero missed = refl
+  none_near (suc steps) missed = rw (← missed) refl
+
+  pub none_left : (n step : ℕ) → step ≡ n
+      → last_hunk start other_start (drop start lines) (drop other_start others)
+      ≡ hunks_from (n - step) farthest start other_start (drop start lines) (drop other_start others)
+  none_left n step end =
+      let none : n - step ≡ 0 = omega arith in
+      rw none refl

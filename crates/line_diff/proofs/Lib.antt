@@ -1,0 +1,6 @@
+mod FirstLemmas
+mod GapLemmas
+mod HunkLemmas
+mod LineLemmas
+mod ReportLemmas
+mod ShownLemmas

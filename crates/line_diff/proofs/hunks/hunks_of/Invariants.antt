@@ -1,0 +1,12 @@
+use Rattle.std.specs.Prelude.{◌≡◌, ◌≤◌, ◌++◌, ◌-◌, drop, length, map}
+use Rattle.line_diff.specs.Hunks.{hunks_from, hunks_of}
+use Rattle.line_diff.proofs.hunks.hunks_of.Given as goal
+
+abbrev pub invariant-gaps : goal.invariant-gaps
+invariant-gaps l = record {
+  within : l.start ≤ length l.lines;
+  within_others : l.other_start ≤ length l.others;
+  rest : l.found.items ++ hunks_from (length l.lines - l._step) l.farthest l.start l.other_start
+      (drop l.start (map (λ line. line.now) l.lines)) (drop l.other_start (map (λ line. line.now) l.others))
+      ≡ hunks_of l.farthest (map (λ line. line.now) l.lines) (map (λ line. line.now) l.others);
+}

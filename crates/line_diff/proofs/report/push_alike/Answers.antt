@@ -1,0 +1,19 @@
+use Rattle.std.proofs.Common.{append_assoc}
+use Rattle.line_diff.specs.Report.{alike_words}
+use Rattle.line_diff.proofs.report.push_alike.Goals as goal
+
+pub returns : goal.returns
+unfolding alike_words
+returns c =
+    rw (
+      c.in_ok-push_alone-2.ensures,
+      c.in_ok-push_alone.ensures,
+      c.in_ok-push_ends.ensures,
+      c.in_ok-push_words.ensures,
+      c.have_same_ends.ensures,
+      c.has_last_end.ensures,
+      c.has_last_end-2.ensures,
+      c.has_mark.ensures,
+      c.has_mark-2.ensures,
+    )
+    (simp append_assoc)

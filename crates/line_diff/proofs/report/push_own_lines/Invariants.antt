@@ -1,0 +1,10 @@
+use Rattle.std.specs.Prelude.{◌≡◌, ◌++◌, ◌-◌, map}
+use Rattle.line_diff.specs.Report.{own_line_at, words_from}
+use Rattle.line_diff.proofs.report.push_own_lines.Given as goal
+
+abbrev pub invariant-loop-index : goal.invariant-loop-index
+invariant-loop-index l =
+    l.buffer.items
+    ++ words_from (own_line_at l.owners (map (λ line. line.now) l.lines)) (l.end - l.index) l.index
+    ≡ l.fn.buffer.items
+    ++ words_from (own_line_at l.owners (map (λ line. line.now) l.lines)) (l.end - l.start) l.start

@@ -1,0 +1,115 @@
+//! Where two texts have other lines.
+
+ghost use Rattle.std.specs.Prelude.{◌≡◌, ◌<◌, ◌-◌, ◌++◌, IfOk, IfSome, OnOk, length, map, suc};
+ghost use Rattle.std.specs.Option.{unwrap_or};
+ghost use Rattle.line_diff.specs.Hunks.{hunks_of, next_gap, pair_in, unless_empty};
+
+use crate::lines::line_at;
+use crate::owners::are_equal;
+use std::alloc::{AllocError, Global};
+
+/// A place at which two texts have other lines: those from one index to another of the one text, and
+/// those of the other text in their place.
+#[derive(Clone, Copy, Debug, PartialEq, Eq)]
+pub struct Hunk {
+    pub start: usize,
+    pub end: usize,
+    pub other_start: usize,
+    pub other_end: usize,
+}
+
+/// So many lines of one text, and so many of another, come before a line that is common to both.
+#[derive(Clone, Copy, Debug)]
+struct Gap {
+    lines: usize,
+    others: usize,
+}
+
+/// Of the pairs of lines before which are so many lines of both texts together, less 1, returns the
+/// index of the first line of one that is equal.
+fn pair_in(count: usize, lines: &[&str], others: &[&str]) -> Option<usize>
+    ensures value { unwrap_or result count ≡ pair_in count
+        (map (λ line. line.now) lines.entry.now) (map (λ line. line.now) others.entry.now) }
+    ensures within { IfSome result (λ first. (first < count) × (first < length lines.now)
+        × (count - suc first < length others.now)) }
+{
+    for first in 0..count {
+        if are_equal(line_at(lines, first), line_at(others, count - 1 - first)) {
+            return Some(first);
+        }
+    }
+    None
+}
+
+/// Returns what comes before the nearest line that is common to both texts, if this is fewer lines
+/// than a limit.
+fn next_gap(farthest: usize, lines: &[&str], others: &[&str]) -> Option<Gap>
+    ensures value { result ≡ next_gap farthest (map (λ line. line.now) lines.entry.now)
+        (map (λ line. line.now) others.entry.now) }
+    ensures within { IfSome result (λ gap. (gap.lines < length lines.now)
+        × (gap.others < length others.now)) }
+{
+    for sum in 0..farthest {
+        if let Some(first) = pair_in(sum + 1, lines, others) {
+            return Some(Gap {
+                lines: first,
+                others: sum - first,
+            });
+        }
+    }
+    None
+}
+
+/// Appends a hunk, unless no line is in it.
+fn push_hunk(found: &mut Vec<Hunk>, hunk: Hunk) -> Result<(), AllocError>
+    ensures { OnOk result (found.new.items ≡ found.old.items ++ unless_empty hunk) }
+{
+    if hunk.start == hunk.end && hunk.other_start == hunk.other_end {
+        return Ok(());
+    }
+    found.push(hunk)?;
+    Ok(())
+}
+
+/// Returns the places at which two texts have other lines, from the first on. After a place comes
+/// the nearest line that is common to both: the lines of both before it are the fewest together.
+/// Where they aren't fewer than `farthest`, all that is left is one place.
+///
+/// Fails only where memory runs out. Linear where texts are near; between two places it compares at
+/// most the square of `farthest` lines.
+pub fn hunks_of(
+    alloc: Global,
+    farthest: usize,
+    lines: &[&str],
+    others: &[&str],
+) -> Result<Vec<Hunk>, AllocError>
+    ensures { IfOk result (λ found. found.items
+        ≡ hunks_of farthest (map (λ line. line.now) lines.entry.now)
+        (map (λ line. line.now) others.entry.now)) }
+{
+    let mut found = Vec::new(alloc);
+    let mut start = 0;
+    let mut other_start = 0;
+    'gaps: for _step in 0..lines.len() {
+        let Some(gap) = next_gap(farthest, &lines[start..], &others[other_start..]) else {
+            break;
+        };
+        let hunk = Hunk {
+            start,
+            end: start + gap.lines,
+            other_start,
+            other_end: other_start + gap.others,
+        };
+        push_hunk(&mut found, hunk)?;
+        start += gap.lines + 1;
+        other_start += gap.others + 1;
+    }
+    let rest = Hunk {
+        start,
+        end: lines.len(),
+        other_start,
+        other_end: others.len(),
+    };
+    push_hunk(&mut found, rest)?;
+    Ok(found)
+}

@@ -1,0 +1,88 @@
+//! A text, and which change made each of its lines.
+
+ghost use Rattle.std.specs.Prelude.{◌≡◌, ◌++◌, IfOk, OnOk, string_bytes};
+ghost use Rattle.line_diff.specs.Report.{report_words};
+ghost use Rattle.line_diff.specs.Tracked.{changed_by, opened_by};
+
+use crate::lines::lines_of;
+use crate::owners::owners_after;
+use crate::report::push_report;
+use std::alloc::{AllocError, Global};
+use std::marker::Model;
+
+/// A text after several numbered changes, with the number of the change that made each line so.
+#[derive(Drop)]
+pub struct TrackedText {
+    text: String,
+    // The number of the last change.
+    made: u64,
+    owners: Vec<u64>,
+}
+
+impl Model for TrackedText {
+    ghost use Rattle.std.specs.Prelude.{◌≡◌, length, string_bytes};
+    ghost use Rattle.line_diff.specs.Lines.{lines_of};
+    ghost use Rattle.line_diff.specs.Tracked.{Tracked};
+
+    ghost Value = { Tracked };
+
+    ghost view = { λ t. record {
+      text = string_bytes t.text;
+      made = t.made;
+      owners = t.owners.items;
+    } };
+
+    ghost invariant = { λ t. length t.owners.items ≡ length (lines_of (string_bytes t.text)) };
+}
+
+impl TrackedText {
+    /// Starts with a text that the change of this number has made whole. Fails only where memory
+    /// runs out.
+    pub fn new(alloc: Global, number: u64, text: String) -> Result<TrackedText, AllocError>
+        ensures { IfOk result (λ t. t ≡ opened_by number (string_bytes text)) }
+    {
+        let count = lines_of(alloc, &text)?.len();
+        let mut owners = Vec::new(alloc);
+        owners.resize(count, number)?;
+        Ok(TrackedText {
+            text,
+            made: number,
+            owners,
+        })
+    }
+
+    /// Takes the text that the change of this number has made of the one before. Lines that are
+    /// common at the front and at the back keep their numbers. Fails only where memory runs out.
+    /// Linear in both texts.
+    pub fn change(&mut self, alloc: Global, number: u64, text: String) -> Result<(), AllocError>
+        ensures { OnOk result (self.new ≡ changed_by number (string_bytes text) self.old) }
+    {
+        let owners = owners_after(alloc, number, &self.owners, &self.text, &text)?;
+        self.owners = owners;
+        self.text = text;
+        self.made = number;
+        Ok(())
+    }
+
+    /// Returns the text.
+    pub fn text(&self) -> &str
+        ensures { result.now ≡ self.now.text }
+    {
+        self.text.as_str()
+    }
+
+    /// Writes whether the text is a file's, and else how they differ: by line ends, the last line
+    /// end or a byte order mark alone, or by which lines, with the change that made each. Fails only
+    /// where memory runs out. Linear where the texts are near.
+    #[tactic(auto, unfolding(crate::specs::Report::report_words))]
+    pub fn push_report(
+        &self,
+        alloc: Global,
+        buffer: &mut Vec<u8>,
+        file: &str,
+    ) -> Result<(), AllocError>
+        ensures { OnOk result (buffer.new.items ≡ buffer.old.items ++ report_words self.now file.now) }
+    {
+        push_report(alloc, buffer, &self.text, self.made, &self.owners, file)
+    }
+}

@@ -1,0 +1,125 @@
+//! Whether a document's last text is that of a file, and else which message made it so.
+
+use super::*;
+use lsp_replay::Missing;
+
+/// Opens a document of three lines.
+const THREE_LINES: &str =
+    r#"{"jsonrpc":"2.0","method":"textDocument/didOpen","params":{"textDocument":{"languageId":"c","text":"one\ntwo\nthree\n","uri":"file:///a","version":1}}}"#;
+
+/// Changes the second one.
+const SECOND_LINE: &str =
+    r#"{"jsonrpc":"2.0","method":"textDocument/didChange","params":{"contentChanges":[{"range":{"start":{"line":1,"character":0},"end":{"line":1,"character":3}},"text":"2\t"}],"textDocument":{"uri":"file:///a","version":2}}}"#;
+
+/// Opens another document that ends in `a`, and one that doesn't.
+const OTHER: &str =
+    r#"{"jsonrpc":"2.0","method":"textDocument/didOpen","params":{"textDocument":{"languageId":"c","text":"","uri":"file:///b/a","version":1}}}"#;
+
+const ANOTHER: &str =
+    r#"{"jsonrpc":"2.0","method":"textDocument/didOpen","params":{"textDocument":{"languageId":"c","text":"","uri":"file:///b","version":1}}}"#;
+
+/// The session, the file, the end, and what is written.
+static ROWS: [(&[&str], &str, End, &str); 9] = [
+    (
+        &[INITIALIZE, OPEN, WHOLE],
+        "aXc",
+        Ended(0, 3, 0),
+        "\"file:///a\" after message 3: the text is the file's\n",
+    ),
+    // The document was closed, and another one is open that doesn't end so.
+    (
+        &[INITIALIZE, OPEN, WHOLE, ANOTHER, CLOSE],
+        "aXc",
+        Ended(0, 5, 0),
+        "\"file:///a\" after message 3: the text is the file's\n",
+    ),
+    (
+        &[INITIALIZE, OPEN, WHOLE],
+        "\u{feff}aXc\r\n",
+        Ended(1, 3, 0),
+        "\"file:///a\" after message 3: the text is the file's, but for\n  the last line end, which the file alone has\n  a byte order mark, which the file alone has\n",
+    ),
+    (
+        &[INITIALIZE, THREE_LINES],
+        "one\r\ntwo\rthree\n",
+        Ended(1, 2, 0),
+        "\"file:///a\" after message 2: the text is the file's, but for\n  line ends\n",
+    ),
+    // A line differs, and one is missing at the end.
+    (
+        &[INITIALIZE, THREE_LINES, SECOND_LINE],
+        "one\ntwo\u{a0}\nthree\nfour\n",
+        Ended(1, 3, 0),
+        "\"file:///a\" after message 3: the text is not the file's:\nline 2 (made by message 3): \"2\\t\\n\"\n  the file has: \"two\\u{a0}\\n\"\nafter line 3, after message 2:\n  the file has: \"four\\n\"\nOf each line the message that is named is wrong, or after it one is missing.\n",
+    ),
+    // A line is missing at the beginning, and there are two too many at the end.
+    (
+        &[INITIALIZE, THREE_LINES, SECOND_LINE],
+        "zero\none\n",
+        Ended(1, 3, 0),
+        "\"file:///a\" after message 3: the text is not the file's:\nafter line 0, after message 2:\n  the file has: \"zero\\n\"\nline 2 (made by message 3): \"2\\t\\n\"\nline 3 (made by message 2): \"three\\n\"\nOf each line the message that is named is wrong, or after it one is missing.\n",
+    ),
+    // It was opened again, so each line is of that message.
+    (
+        &[INITIALIZE, THREE_LINES, SECOND_LINE, CLOSE, OPEN],
+        "",
+        Ended(1, 5, 0),
+        "\"file:///a\" after message 5: the text is not the file's:\nline 1 (made by message 5): \"abc\"\nOf each line the message that is named is wrong, or after it one is missing.\n",
+    ),
+    (
+        &[INITIALIZE, OPEN, OTHER],
+        "abc",
+        Ended(1, 3, 0),
+        "more than one document ends so; `--uri` names one:\n\"file:///a\"\n\"file:///b/a\"\n",
+    ),
+    // An empty file, and an empty text.
+    (
+        &[INITIALIZE, OTHER],
+        "",
+        Ended(0, 2, 0),
+        "\"file:///b/a\" after message 2: the text is the file's\n",
+    ),
+];
+
+/// Returns whether a session is compared with a file so.
+fn is_compared(
+    alloc: Global,
+    bodies: &[&str],
+    file: &'static str,
+    end: End,
+    output: &str,
+) -> Result<bool, Fail> {
+    let input = log(alloc, bodies)?;
+    let run = run_with(alloc, Command::Compare(file), &input, settings()?, SMOOTH)?;
+    Ok(run.answer == end.answer() && run.output.as_slice() == output.as_bytes())
+}
+
+#[test]
+fn texts_are_compared_with_files(rt: HostRuntime) -> Result<(), Fail> {
+    for (bodies, file, end, output) in &ROWS {
+        assert!(rt;
+            is_compared(rt.alloc(), bodies, file, *end, output)?,
+            "at {file:?}"
+        );
+    }
+    Ok(())
+}
+
+/// Returns whether a document that was never open is missing.
+fn is_missing(alloc: Global) -> Result<bool, Fail> {
+    let input = log(alloc, &[INITIALIZE, ANOTHER])?;
+    let run = run_with(alloc, Command::Compare(""), &input, settings()?, SMOOTH)?;
+    let missing = Outcome {
+        status: 1,
+        messages: 2,
+        refused: 0,
+        missing: Some(Missing::Document),
+    };
+    Ok(run.answer == Ok(missing) && run.output.is_empty())
+}
+
+#[test]
+fn a_document_that_was_never_open_is_missing(rt: HostRuntime) -> Result<(), Fail> {
+    assert!(rt; is_missing(rt.alloc())?);
+    Ok(())
+}

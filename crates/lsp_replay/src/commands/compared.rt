@@ -1,0 +1,45 @@
+//! `compare`.
+
+ghost use Rattle.lsp_stream.specs.Ports.{ports};
+ghost use Rattle.lsp_replay.specs.Compared.{compare_engine};
+ghost use Rattle.lsp_replay.specs.Run.{IsEngineRun};
+
+use crate::commands::Settings;
+use crate::outcome::Outcome;
+use crate::pipeline::run;
+use crate::printer::comparing::Compare;
+use line_diff::Comparison;
+use lsp_stream::{EngineFault, Sink, Source};
+use std::alloc::Global;
+
+/// Writes whether a document's last text is that of a file, also if it was closed. If it isn't, it
+/// writes how they differ: by line ends, the last line end or a byte order mark alone; or line by
+/// line, with the message that made each line so. That message is wrong, or a change after it is
+/// missing.
+///
+/// The status is 0 if the texts are equal, byte for byte, else 1, whatever was refused. If no
+/// document's URI ends as the comparison wants, nothing is written, and the outcome says that it is
+/// missing. If another one ends so too, both are named.
+///
+/// Errors are those of [`check`](crate::check). A change of the document costs what its text has.
+/// The memory is for the open documents, the document's text and the file.
+pub fn compare<R: Source, W: Sink>(
+    alloc: Global,
+    reader: &mut R,
+    writer: &mut W,
+    settings: Settings,
+    comparison: Comparison,
+    max_turns: u64,
+) -> Result<Outcome, EngineFault>
+    ensures run { IsEngineRun (compare_engine settings comparison) max_turns
+        (ports (R.seen reader.old) (W.seen writer.old))
+        (ports (R.seen reader.new) (W.seen writer.new)) result }
+{
+    let rules = settings.rules(false);
+    let compare = Compare {
+        session: settings.session(alloc),
+        alloc,
+        comparison,
+    };
+    run(alloc, reader, writer, compare, None, rules, max_turns)
+}
