@@ -31,9 +31,9 @@ answer_code (exits status) = codes "exit 1"
 answer_code answer = []
 
 -- The code of a record that counts as refused.
-abbrev pub code_of : Verdict → Option (List ℕ)
-code_of (answered answer) = if is_refused answer then Some (answer_code answer) else None
-code_of verdict = None
+abbrev pub refused_code : Verdict → Option (List ℕ)
+refused_code (answered answer) = if is_refused answer then Some (answer_code answer) else None
+refused_code verdict = None
 
 -- Some notes came with the record of this number.
 abbrev pub tallied_notes : List Note → ℕ → List Tally → List Tally
@@ -45,7 +45,7 @@ tallied_notes (note ∷ notes) number ts =
 abbrev pub counts_after : Counts → ℕ → Verdict → List Note → Counts
 counts_after counts number verdict notes = record {
   changes = count_if (has_changed verdict) counts.changes;
-  refusals = tallied_if (code_of verdict) number counts.refusals;
+  refusals = tallied_if (refused_code verdict) number counts.refusals;
   noted = tallied_notes notes number counts.noted;
 }
 

@@ -128,8 +128,8 @@ advice listing refusals known =
     ++ habit_advice (not listing.all && has_repeated known.counts.noted)
 
 -- The lines at the end: what came how often, and what to do next.
-abbrev pub end_lines : Listing → Known → Session → List ℕ
-end_lines listing known s = if s.records == 0 then codes "The log has no messages.\n"
+abbrev pub last_lines : Listing → Known → Session → List ℕ
+last_lines listing known s = if s.records == 0 then codes "The log has no messages.\n"
     else counts_words s.messages known.counts ++ advice listing s.refusals known
 
 -- ---- the engine
@@ -138,7 +138,7 @@ end_lines listing known s = if s.records == 0 then codes "The log has no message
 abbrev pub explaining : Listing → LineView
 explaining listing = record {
   line = λ known s r j. explained_line listing known s r j (incoming_of (reading r.body));
-  end_lines = end_lines listing;
+  end_lines = last_lines listing;
 }
 
 -- The output of `check --explain`.

@@ -66,13 +66,13 @@ abbrev pub is_not_open : Verdict → Bool
 is_not_open (answered (refused (Store NotOpen))) = true
 is_not_open verdict = false
 
-abbrev pub is_stale : Verdict → Bool
-is_stale (answered (refused (Store (StaleVersion current)))) = true
-is_stale verdict = false
+abbrev pub is_stale_refusal : Verdict → Bool
+is_stale_refusal (answered (refused (Store (StaleVersion current)))) = true
+is_stale_refusal verdict = false
 
 -- Is a record refused with S1, or with S5 and changes? `change` is what it asks for.
 abbrev pub is_strict_refusal : Option ChangeData → Verdict → Bool
-is_strict_refusal change verdict = is_open_already verdict || is_stale verdict && not (is_idle change)
+is_strict_refusal change verdict = is_open_already verdict || is_stale_refusal verdict && not (is_idle change)
 
 -- The documents that were opened, closed or refused last, after a record of one side that asks `m`.
 abbrev pub mentions_after : List Mention → Sender → IncomingData → Judged → List Mention
@@ -102,7 +102,7 @@ known_after known s head body j = record {
 -- refusal the last one that opened, closed or refused the document.
 abbrev pub last_in : Known → Option (List ℕ) → Verdict → Option ℕ
 last_in known uri verdict =
-    if is_stale verdict then last_for known.made uri verdict else last_for known.mentions uri verdict
+    if is_stale_refusal verdict then last_for known.made uri verdict else last_for known.mentions uri verdict
 
 -- None of this name was opened, and another was.
 abbrev pub is_new_name : List Mention → Option (List ℕ) → Bool

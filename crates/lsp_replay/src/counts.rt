@@ -2,7 +2,7 @@
 
 ghost use Rattle.std.specs.Prelude.{◌≡◌, IfOk, OnOk, option_map};
 ghost use Rattle.lsp_server.specs.Seen.{answer_view};
-ghost use Rattle.lsp_replay.specs.Counts.{answer_code, code_of, counts_after, is_frequent, is_habit};
+ghost use Rattle.lsp_replay.specs.Counts.{answer_code, counts_after, is_frequent, is_habit, refused_code};
 ghost use Rattle.lsp_replay.specs.Counts.{nothing_counted, rare_notes, tallied_notes};
 ghost use Rattle.lsp_replay.specs.inside.Verdicts.{verdict_view};
 
@@ -89,7 +89,7 @@ impl Counts {
         if has_changed(verdict) {
             self.changed = one_more(self.changed);
         }
-        add_if(self.alloc, &mut self.refused, code_of(verdict), number)?;
+        add_if(self.alloc, &mut self.refused, refused_code(verdict), number)?;
         add_notes(self.alloc, &mut self.noted, notes, number)
     }
 
@@ -126,8 +126,8 @@ fn is_frequent(changed: u64, count: u64) -> bool
 }
 
 /// Returns the code of a record that counts as refused.
-fn code_of(verdict: &Verdict) -> Option<&'static str>
-    ensures { option_map (λ code. code.now) result ≡ code_of (verdict_view verdict.now) }
+fn refused_code(verdict: &Verdict) -> Option<&'static str>
+    ensures { option_map (λ code. code.now) result ≡ refused_code (verdict_view verdict.now) }
 {
     let Verdict::Answered(answer) = verdict else {
         return None;

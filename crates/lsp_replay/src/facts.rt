@@ -6,7 +6,7 @@
 ghost use Rattle.std.specs.Prelude.{◌≡◌, ◌≢◌, ◌⊎◌, IfErr, IfOk, OnOk, option_map};
 ghost use Rattle.lsp_message.specs.Seen.{change_view};
 ghost use Rattle.lsp_replay.specs.Lines.{has_notes, is_new_name, is_not_open, is_open_already};
-ghost use Rattle.lsp_replay.specs.Lines.{is_renamed, is_stale, is_strict_refusal, known_after};
+ghost use Rattle.lsp_replay.specs.Lines.{is_renamed, is_stale_refusal, is_strict_refusal, known_after};
 ghost use Rattle.lsp_replay.specs.Lines.{last_in, nothing_known};
 ghost use Rattle.lsp_replay.specs.Mentions.{is_mention, last_for};
 ghost use Rattle.lsp_replay.specs.Session.{bad};
@@ -202,7 +202,7 @@ impl Known {
         ensures { result ≡ last_in self.now (option_map (λ uri. uri.now) uri.entry)
             (verdict_view verdict.now) }
     {
-        if is_stale(verdict) {
+        if is_stale_refusal(verdict) {
             last_for(&self.made, uri, verdict)
         } else {
             last_for(&self.mentions, uri, verdict)
@@ -271,7 +271,7 @@ fn is_strict_refusal(change: Option<&ChangeParams>, verdict: &Verdict) -> bool
     ensures { result ≡ is_strict_refusal (option_map (λ p. change_view p.now) change.entry)
         (verdict_view verdict.now) }
 {
-    is_open_already(verdict) || is_stale(verdict) && !is_idle(change)
+    is_open_already(verdict) || is_stale_refusal(verdict) && !is_idle(change)
 }
 
 /// Returns whether a record is refused with S1.
@@ -295,8 +295,8 @@ fn is_not_open(verdict: &Verdict) -> bool
 }
 
 /// Returns whether a record is refused with S5.
-fn is_stale(verdict: &Verdict) -> bool
-    ensures { result ≡ is_stale (verdict_view verdict.now) }
+fn is_stale_refusal(verdict: &Verdict) -> bool
+    ensures { result ≡ is_stale_refusal (verdict_view verdict.now) }
 {
     matches!(
         verdict,

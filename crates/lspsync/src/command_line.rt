@@ -7,7 +7,7 @@
 //! Each function of `options` adds one option, so each is proved alone. The parse returns an
 //! `Option`, since `clap` has no law that values which it checked are there.
 
-ghost use Rattle.std.specs.Prelude.{◌≡◌, ◌≢◌, codes, true, false};
+ghost use Rattle.std.specs.Prelude.{◌≡◌, ◌≢◌, ◌||◌, codes, true, false};
 ghost use Rattle.std.specs.Prelude.{IfOk, IfSome, IsSome, ℕ, map, option_map};
 ghost use Rattle.std.specs.String.{string_bytes};
 ghost use Rattle.lspsync.specs.Call.{AreDetails, AreLimits, AreSettings, AreWordsReadAs, HasNumber};
@@ -227,6 +227,13 @@ fn is_explained(options: &ArgMatches<'_>) -> bool
     let explain = options.get_flag("explain");
     let brief = options.get_flag("brief");
     let all = options.get_flag("all");
+    is_any(explain, brief, all)
+}
+
+/// Returns whether one of the flags is set.
+fn is_any(explain: bool, brief: bool, all: bool) -> bool
+    ensures { result ≡ (explain || (brief || all)) }
+{
     explain || brief || all
 }
 

@@ -5,8 +5,8 @@ ghost use Rattle.std.specs.Prelude.{◌≡◌, ◌++◌, refl, OnOk, codes, deci
 ghost use Rattle.lsp_message.specs.Seen.{change_view};
 ghost use Rattle.lsp_replay.specs.Counts.{counts_words};
 ghost use Rattle.lsp_replay.specs.Tallies.{tally_words};
-ghost use Rattle.lsp_replay.specs.Explained.{advice, document_words, end_lines, explaining, explanation, first_advice};
-ghost use Rattle.lsp_replay.specs.Explained.{habit_advice, is_listed, lenient_advice, line_with, remark, see_words};
+ghost use Rattle.lsp_replay.specs.Explained.{advice, document_words, explaining, explanation, first_advice};
+ghost use Rattle.lsp_replay.specs.Explained.{habit_advice, is_listed, last_lines, lenient_advice, line_with, remark, see_words};
 ghost use Rattle.lsp_replay.specs.inside.Lines.{lines_in};
 ghost use Rattle.lsp_replay.specs.inside.Facts.{explained_by, listed_by, seen_by};
 ghost use Rattle.lsp_replay.specs.inside.Verdicts.{verdict_view};
@@ -45,7 +45,7 @@ impl Explain {
     /// Writes the lines at the end.
     fn push_end(&self, buffer: &mut Vec<u8>) -> Result<(), AllocError>
         ensures { OnOk result (buffer.new.items ≡ buffer.old.items
-            ++ end_lines self.now.listing self.now.known self.now.session) }
+            ++ last_lines self.now.listing self.now.known self.now.session) }
     {
         if self.session.records() == 0 {
             return push_words(buffer, "The log has no messages.\n");

@@ -6,9 +6,11 @@ use Rattle.lsp_replay.proofs.printer.explaining.push_counts.Goals as goal
 pub returns : goal.returns
 returns c =
     let counts = c.args.counts.now in
+    let refused = flat_map (tally_words (codes "refused by ")) counts.refusals in
+    let noted = flat_map (tally_words (codes "noted ")) counts.noted in
     seven_words c.push_tallies-2.result _ c.args.buffer.now.items (codes "messages of the editor: ")
     (decimal c.args.messages) (codes ", changed documents: ") (decimal counts.changes) (codes "\n")
-    (flat_map (tally_words (codes "refused by ")) counts.refusals) (flat_map (tally_words (codes "noted ")) counts.noted)
+    refused noted
     (rw (
       c.in_ok-push_tallies.ensures,
       c.in_ok-push_words-3.ensures,
