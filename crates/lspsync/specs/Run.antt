@@ -228,12 +228,13 @@ IsNotLoaded None before after ending = ⊥
 IsNotLoaded (Some name) before after ending = IsUnreadable name before after ending
 
 -- A call was made on an input; or its saved text can't be read, and then nothing else is.
-abbrev pub IsTaskRun : KnownFiles → Task → Streams → Streams → Ending → Type 0
-IsTaskRun known task before after ending =
-    ((loaded : Call) × IsLoaded known task.call (saved_of task) loaded
-    × IsDoneOn known loaded (file_of task) before after ending)
+abbrev pub IsDoneWith : KnownFiles → Call → Option (List ℕ) → Option (List ℕ) → Streams → Streams
+    → Ending → Type 0
+IsDoneWith known asked saved file before after ending =
+    ((loaded : Call) × IsLoaded known asked saved loaded
+    × IsDoneOn known loaded file before after ending)
     ⊎ ((after.reader ≡ before.reader) × (after.writer ≡ before.writer)
-    × IsNotLoaded (saved_of task) before.errors after.errors ending)
+    × IsNotLoaded saved before.errors after.errors ending)
 
 -- A task was done, after its heading. The ending has the first failure to print.
 pub record IsTaskDone (known : KnownFiles) (is_headed : Bool) (task : Task) (before after : Streams)
@@ -243,7 +244,8 @@ pub record IsTaskDone (known : KnownFiles) (is_headed : Bool) (task : Task) (bef
   pub heading : Result (Unit {0}) EngineFault
   pub headed : IsHeaded is_headed (file_of task) before.errors errors heading
   pub one : Ending
-  pub done : IsTaskRun known task (record before { errors = errors }) after one
+  pub done : IsDoneWith known task.call (saved_of task) (file_of task)
+      (record before { errors = errors }) after one
   pub ends : ending ≡ record one { printed = result_and heading one.printed }
 
 -- The ends of two parts are both_ends: the greater status, and the first failure to print.

@@ -8,7 +8,8 @@ ghost use Rattle.clap.specs.declared.error.kind.ErrorKind.TheVariants.{DisplayHe
 ghost use Rattle.lsp_stream.specs.Ports.{ports};
 ghost use Rattle.lsp_program.specs.Output.{IsPrinted, IsTextPrinted, allowed_turns, streams};
 ghost use Rattle.lsp_replay.specs.Run.{IsEngineRun};
-ghost use Rattle.lspsync.specs.Run.{AreDone, IsDoneOn, IsEnding, IsHeaded, IsHelpEnd, IsPerformed};
+ghost use Rattle.lspsync.specs.Run.{AreDone, IsDoneOn, IsDoneWith, IsEnding, IsHeaded, IsHelpEnd};
+ghost use Rattle.lspsync.specs.Run.{IsPerformed};
 ghost use Rattle.lspsync.specs.Run.{IsFaultEnd, IsLoaded, IsNotLoaded, IsProgramRun, IsTaskDone};
 ghost use Rattle.lspsync.specs.Run.{answer_after_flush};
 ghost use Rattle.lspsync.specs.Run.{engine_of, nothing_yet, shown_name};
@@ -89,10 +90,7 @@ fn do_task<F: Folder, R: Source, W: Sink, E: Sink>(
 {
     let Task { call, saved, file } = task;
     let headed = head(is_headed, &file, errors);
-    let done = match loaded(alloc, call, saved, folder, errors) {
-        Ok(call) => do_on(alloc, call, file, folder, input, output, errors),
-        Err(ending) => ending,
-    };
+    let done = do_with(alloc, call, saved, file, folder, input, output, errors);
     Ending {
         printed: headed.and(done.printed),
         ..done
@@ -116,6 +114,28 @@ fn shown_name<'a>(file: &'a Option<String>) -> &'a str
     match file {
         Some(name) => name.as_str(),
         None => "standard input",
+    }
+}
+
+/// Makes a call on a file, or on standard input, once its saved text was read.
+fn do_with<F: Folder, R: Source, W: Sink, E: Sink>(
+    alloc: Global,
+    call: Call,
+    saved: Option<String>,
+    file: Option<String>,
+    folder: &F,
+    input: &mut R,
+    output: &mut W,
+    errors: &mut E,
+) -> Ending
+    ensures { IsDoneWith (F.bytes folder.now) call (option_map string_bytes saved)
+        (option_map string_bytes file)
+        (streams (R.seen input.old) (W.seen output.old) (E.seen errors.old))
+        (streams (R.seen input.new) (W.seen output.new) (E.seen errors.new)) result }
+{
+    match loaded(alloc, call, saved, folder, errors) {
+        Ok(call) => do_on(alloc, call, file, folder, input, output, errors),
+        Err(ending) => ending,
     }
 }
 

@@ -85,7 +85,7 @@ after it is missing. `\\u{a0}` and the like are characters that can't be seen.
 The status is 0 where the texts are equal, byte for byte, else 1. Where no
 document's URI ends so, a line on standard error says so, and the status is 1.
 
-Example, whose server lost a change:
+Example, of a text that is the same:
   lspsync replay --uri file:///home/ada/hello.py examples/typing.log > hello.py
   lspsync compare hello.py examples/typing.log";
 
