@@ -114,7 +114,7 @@ def faults_of_crate(header, sources, version):
     yield from (f"the crate exports laspidru_{name}, and the header has none" for name in functions)
     numbers = {name: int(value) for name, value in re.findall(r"^pub const (\w+): u32 = (\d+);", sources, re.M)}
     numbers |= {name.upper(): int(value) for value, name in re.findall(r"^        (\d+) => Some\(CommandName::(\w+)\)", sources, re.M)}
-    numbers |= {name.upper(): int(value) for value, name in re.findall(r"^        (\d+) => Some\(Encoding::(\w+)\)", sources, re.M)}
+    numbers |= {name.upper(): int(value) for value, name in re.findall(r"^        (\d+) => Ok\(Encoding::(\w+)\)", sources, re.M)}
     numbers |= {f"PHASE_{name.upper()}": int(value) for name, value in re.findall(r"^        Phase::(\w+)(?:\(\w+\))? => \((\d), ", sources, re.M)}
     if numbers.pop("VERSION", None) != int(header.version[1]):
         yield f"LASPIDRU_VERSION_NUMBER is {header.version[1]}, and VERSION of the crate isn't"

@@ -26,7 +26,7 @@ use Rattle.laspidru.specs.declared.structs.CPosition.{CPosition}
 use Rattle.laspidru.specs.declared.structs.Edit.{Edit}
 use Rattle.laspidru.specs.declared.structs.FaultAt.{FaultAt}
 use Rattle.laspidru.specs.Codes.{and_then, unless}
-use Rattle.laspidru.specs.Objects.{IsCopy, encoding_at, position_at, stored_batch}
+use Rattle.laspidru.specs.Objects.{IsCopy, as_batch, encoding_at, in_handle, position_at}
 
 -- The range of an edit, if it isn't one of the whole text.
 abbrev pub range_if : Bool → CPosition → CPosition → Option Range
@@ -68,10 +68,15 @@ fitting encoding edits texts document = and_then document (λ text.
     then Ok (record { encoding = encoding; edits = edits_of edits texts; text = text })
     else Err TOO_LONG)
 
+-- The encoding of edits, if it is known and each edit has its text.
+abbrev pub edits_encoding : ℕ → List Edit → List ℕ → Result Encoding ℕ
+edits_encoding number edits texts =
+    and_then (encoding_at number) (λ encoding. unless (refused_edit edits texts) (Ok encoding))
+
 -- A batch as C passes it, or the code of its refusal.
 abbrev pub batch_asked : ℕ → List Edit → List ℕ → Result (List ℕ) ℕ → Result Asked ℕ
-batch_asked number edits texts document = and_then (encoding_at number) (λ encoding.
-    unless (refused_edit edits texts) (fitting encoding edits texts document))
+batch_asked number edits texts document =
+    and_then (edits_encoding number edits texts) (λ encoding. fitting encoding edits texts document)
 
 -- The text after a batch, if that isn't too long.
 abbrev pub text_left_by : Asked → Result (List ℕ) BatchFault
@@ -110,7 +115,7 @@ pub record IsBatchOf (asked : Asked) (changes : List Change) : Type 0 where
 -- The handle has the canonical batch if there is a text after the batch, or the fault is reported.
 abbrev pub IsCanonicalIf : Result (List ℕ) BatchFault → Asked → ℕ → Option Object → FaultAt → Type 0
 IsCanonicalIf (Ok text) asked code stored out =
-    (code ≡ OK) × IsOkAnd (stored_batch stored) (IsBatchOf asked)
+    (code ≡ OK) × IsOkAnd (in_handle as_batch stored) (IsBatchOf asked)
 IsCanonicalIf (Err fault) asked code stored out = IsReport fault code out
 
 -- A change of a batch, by its number.

@@ -1,7 +1,6 @@
 -- A client that C asks for, the calls on it, and what C gets of them.
-use Rattle.std.specs.Prelude.{ℕ, ℤ, ◌≡◌, ◌⊎◌, false, List, [], length, Option, Some, None, Result, Ok, Err}
+use Rattle.std.specs.Prelude.{ℕ, ℤ, ◌≡◌, ◌⊎◌, false, List, [], length, Option, Some, Result, Ok, Err}
 use Rattle.lsp_frame.specs.Frame.{frame}
-use Rattle.lsp_frame.specs.Limits.{LimitsData}
 use Rattle.lsp_edit.specs.declared.fault.EditFault.TheVariants as edit
 use Rattle.lsp_message.specs.Outgoing.{body_of}
 use Rattle.lsp_store.specs.declared.fault.StoreFault.{StoreFault}
@@ -12,44 +11,35 @@ use Rattle.lsp_client.specs.declared.phase.Phase.{Phase}
 use Rattle.lsp_client.specs.declared.phase.Phase.TheVariants.{New, Asked, Ready, Closing, Closed, Done, Failed}
 use Rattle.lsp_client.specs.declared.phase.Reason.{Reason}
 use Rattle.lsp_client.specs.declared.phase.Reason.TheVariants.{NotAnAnswer, ErrorAnswer, NoSync, BadEncoding}
-use Rattle.lsp_client.specs.Step.{Call, ClientData, starts, shuts_down, exits, opens, edits, Order, Sending, DeliveredData, sends, noted, ignored, bad_server, new_client}
+use Rattle.lsp_client.specs.Step.{Call, ClientData, call_result, opens, edits, Order, Sending, DeliveredData, sends, noted, ignored, bad_server, new_client}
 use Rattle.laspidru.specs.declared.answers.Answer.{Answer}
-use Rattle.laspidru.specs.declared.reports.Call.{Call as Lifecycle}
-use Rattle.laspidru.specs.declared.reports.Call.TheVariants.{Start, Shutdown, Exit}
 use Rattle.laspidru.specs.declared.reports.ClientSettings.{ClientSettings}
-use Rattle.laspidru.specs.declared.codes.TheConstants.{BAD_ENCODING, BAD_SERVER, EMPTY, ERROR_ANSWER, IGNORED, NO_SYNC, NOT_AN_ANSWER, NOTED, OK, OTHER_KIND, OUT_OF_MEMORY, REPLIED, WRONG_PHASE}
+use Rattle.laspidru.specs.declared.codes.TheConstants.{BAD_ENCODING, BAD_SERVER, ERROR_ANSWER, IGNORED, NO_SYNC, NOT_AN_ANSWER, NOTED, OK, OTHER_KIND, OUT_OF_MEMORY, REPLIED, WRONG_PHASE}
 use Rattle.laspidru.specs.declared.object.Object.{Object}
 use Rattle.laspidru.specs.declared.object.Object.TheVariants.{End}
 use Rattle.laspidru.specs.declared.party.Party.{Party}
 use Rattle.laspidru.specs.declared.party.Party.TheVariants.{Server, Client}
 use Rattle.laspidru.specs.declared.structs.Edit.{Edit}
 use Rattle.laspidru.specs.declared.structs.FaultAt.{FaultAt}
-use Rattle.laspidru.specs.Codes.{and_then}
+use Rattle.laspidru.specs.Codes.{IsRefusedOr, and_then}
 use Rattle.laspidru.specs.Batches.{edits_of, is_end}
 use Rattle.laspidru.specs.HeldEnds.{EndData}
 use Rattle.laspidru.specs.Objects.{uri_asked}
-use Rattle.laspidru.specs.Servers.{limits_asked, plain_out, store_code}
+use Rattle.laspidru.specs.Servers.{bounds, limits_asked, plain_out, store_code}
 use Rattle.laspidru.specs.Streams.{StreamData, stream_of}
 
 -- ---- how a client is set up
 
--- The limits in the settings of a client.
-abbrev pub client_bounds : ClientSettings → LimitsData
-client_bounds settings = record {
-  max_body = settings.max_body;
-  max_text = settings.max_text;
-  max_docs = settings.max_docs;
-  max_changes = settings.max_changes;
-  lenient = settings.lenient;
-}
-
 -- A client at the start of a session, if each limit is in its range. It has sent nothing.
 abbrev pub client_asked : ClientSettings → Result EndData ℕ
-client_asked settings = and_then (limits_asked (client_bounds settings)) (λ limits. Ok (record {
-  party = Client (new_client limits (record { utf8 = settings.utf8; utf32 = settings.utf32 }));
-  frame = [];
-  stream = stream_of limits;
-}))
+client_asked settings =
+    let given = bounds settings.max_body settings.max_text settings.max_docs settings.max_changes
+    settings.lenient in
+    and_then (limits_asked given) (λ limits. Ok (record {
+      party = Client (new_client limits (record { utf8 = settings.utf8; utf32 = settings.utf32 }));
+      frame = [];
+      stream = stream_of limits;
+    }))
 
 -- A client, and the stream of its end.
 pub record ClientEnd : Type 0 where
@@ -66,18 +56,7 @@ abbrev pub as_client : Object → Result ClientEnd ℕ
 as_client (End held) = client_in held.party held.stream
 as_client other = Err OTHER_KIND
 
--- The client in a handle.
-abbrev pub stored_client : Option Object → Result ClientEnd ℕ
-stored_client (Some object) = as_client object
-stored_client None = Err EMPTY
-
 -- ---- calls
-
--- A call of the session's lifecycle.
-abbrev pub lifecycle_call : Lifecycle → Call
-lifecycle_call Start = starts
-lifecycle_call Shutdown = shuts_down
-lifecycle_call Exit = exits
 
 -- The order that opens a document.
 abbrev pub open_asked : List ℕ → List ℕ → ℤ → List ℕ → Order
@@ -118,6 +97,11 @@ abbrev pub IsCalled : StreamData → Result Sending ClientFault → ℕ → Opti
 IsCalled stream (Ok sending) code stored len =
     (code ≡ OUT_OF_MEMORY) ⊎ IsAccepted stream sending code stored len
 IsCalled stream (Err refusal) code stored len = IsRefusedCall refusal code
+
+-- A call of this client, which may be the code of its refusal.
+abbrev pub IsCallOn : Result ClientEnd ℕ → Call → ℕ → Option Object → ℕ → Type 0
+IsCallOn client call code stored len = IsRefusedOr client code (λ it.
+    IsCalled it.stream (call_result it.client call) code stored len)
 
 -- What a refusal writes of a faulty change.
 abbrev pub IsWritten : Result Sending ClientFault → ℕ → FaultAt → Type 0

@@ -22,9 +22,9 @@ use Rattle.laspidru.specs.declared.object.Object.TheVariants.{Document}
 use Rattle.laspidru.specs.declared.structs.CPosition.{CPosition}
 use Rattle.laspidru.specs.declared.structs.Edit.{Edit}
 use Rattle.laspidru.specs.declared.structs.EditsFault.{EditsFault}
-use Rattle.laspidru.specs.Batches.{is_end, len_of, refused_edit}
-use Rattle.laspidru.specs.Codes.{and_then, unless}
-use Rattle.laspidru.specs.Objects.{encoding_at, position_at, stored_batch}
+use Rattle.laspidru.specs.Batches.{edits_encoding, is_end, len_of}
+use Rattle.laspidru.specs.Codes.{and_then}
+use Rattle.laspidru.specs.Objects.{as_batch, in_handle, position_at}
 
 -- The bytes that take a range's place.
 pub record Replacement : Type 0 where
@@ -74,8 +74,8 @@ fitting_edits encoding edits texts document = and_then document (λ text.
 
 -- Text edits as C passes them.
 abbrev pub edits_asked : ℕ → List Edit → List ℕ → Result (List ℕ) ℕ → Result EditsAsked ℕ
-edits_asked number edits texts document = and_then (encoding_at number) (λ encoding.
-    unless (refused_edit edits texts) (fitting_edits encoding edits texts document))
+edits_asked number edits texts document = and_then (edits_encoding number edits texts)
+    (λ encoding. fitting_edits encoding edits texts document)
 
 -- A fault of text edits is reported by its code, with the numbers of the edits that it is about.
 abbrev pub IsEditsReport : TextEditFault → ℕ → EditsFault → Type 0
@@ -104,7 +104,8 @@ pub record IsBatchOfAsked (asked : EditsAsked) (changes : List Change) : Type 0 
 -- The handle holds the batch, or the edits are faulty.
 abbrev pub AreBatched : EditsAsked → ℕ → Option Object → EditsFault → Type 0
 AreBatched asked code stored out =
-    ((code ≡ OK) × IsOkAnd (stored_batch stored) (IsBatchOfAsked asked)) ⊎ AreFaulty asked code out
+    ((code ≡ OK) × IsOkAnd (in_handle as_batch stored) (IsBatchOfAsked asked))
+    ⊎ AreFaulty asked code out
 
 -- What changes leave of a text, if that isn't too long.
 abbrev pub text_left : Encoding → List ℕ → List Change → Result (List ℕ) BatchFault

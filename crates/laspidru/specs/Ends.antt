@@ -18,7 +18,7 @@ use Rattle.lsp_client.specs.Step.{Delivery, delivery_of, is_listening}
 use Rattle.laspidru.specs.declared.answers.Answer.{Answer}
 use Rattle.laspidru.specs.declared.answers.Opened.{Opened}
 use Rattle.laspidru.specs.declared.answers.State.{State}
-use Rattle.laspidru.specs.declared.codes.TheConstants.{EMPTY, ENDED, NOT_OPEN, OK, OTHER_KIND, WRONG_PHASE}
+use Rattle.laspidru.specs.declared.codes.TheConstants.{ENDED, NOT_OPEN, OK, OTHER_KIND, WRONG_PHASE}
 use Rattle.laspidru.specs.declared.object.Object.{Object}
 use Rattle.laspidru.specs.declared.object.Object.TheVariants.{End, Framer}
 use Rattle.laspidru.specs.declared.party.Party.{Party}
@@ -33,11 +33,6 @@ use Rattle.laspidru.specs.Servers.{answer_out, reply_out}
 abbrev pub as_end : Object → Result EndData ℕ
 as_end (End held) = Ok held
 as_end other = Err OTHER_KIND
-
--- The end in a handle.
-abbrev pub stored_end : Option Object → Result EndData ℕ
-stored_end (Some object) = as_end object
-stored_end None = Err EMPTY
 
 -- ---- what it does with a body
 
@@ -113,11 +108,6 @@ abbrev pub as_framing : Object → Result FramerData ℕ
 as_framing (Framer framing) = Ok framing
 as_framing (End held) = Ok held.stream.framing
 as_framing other = Err OTHER_KIND
-
--- The same of a handle.
-abbrev pub stored_framing : Option Object → Result FramerData ℕ
-stored_framing (Some object) = as_framing object
-stored_framing None = Err EMPTY
 
 -- The frame that an end sends last.
 abbrev pub frame_asked : Result EndData ℕ → Result (List ℕ) ℕ

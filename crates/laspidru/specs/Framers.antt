@@ -1,11 +1,11 @@
 -- A framer that C asks for, and what it takes of a stream (LSP 3.17, Base Protocol).
-use Rattle.std.specs.Prelude.{ℕ, ◌≡◌, ◌≢◌, ◌≤◌, ◌<◌, ◌++◌, ◌⊎◌, Bool, true, false, List, length, take, Option, Some, None, Result, Ok, Err}
+use Rattle.std.specs.Prelude.{ℕ, ◌≡◌, ◌≢◌, ◌≤◌, ◌<◌, ◌++◌, ◌⊎◌, Bool, true, false, List, length, take, Result, Ok, Err}
 use Rattle.lsp_frame.specs.Limits.{LimitsData, default_limits}
 use Rattle.lsp_frame.specs.Frame.{IsFrameOf}
 use Rattle.lsp_frame.specs.Stream.{FramerData, IsFrame, HoldsOne, IsFeedFault, released}
 use Rattle.lsp_frame.specs.declared.fault.FrameFault.{FrameFault}
 use Rattle.lsp_frame.specs.declared.fault.FrameFault.TheVariants as frame
-use Rattle.laspidru.specs.declared.codes.TheConstants.{BAD_FRAME, EMPTY, FAILED, NO_MESSAGE, OK, OTHER_KIND, OUT_OF_MEMORY}
+use Rattle.laspidru.specs.declared.codes.TheConstants.{BAD_FRAME, FAILED, NO_MESSAGE, OK, OTHER_KIND, OUT_OF_MEMORY}
 use Rattle.laspidru.specs.declared.object.Object.{Object}
 use Rattle.laspidru.specs.declared.object.Object.TheVariants.{Framer}
 use Rattle.laspidru.specs.declared.taken.Taken.{Taken}
@@ -24,11 +24,6 @@ framer_limits max_body = limits_asked (record default_limits { max_body = max_bo
 abbrev pub as_framer : Object → Result FramerData ℕ
 as_framer (Framer framing) = Ok framing
 as_framer other = Err OTHER_KIND
-
--- The framer in a handle.
-abbrev pub stored_framer : Option Object → Result FramerData ℕ
-stored_framer (Some object) = as_framer object
-stored_framer None = Err EMPTY
 
 -- ---- what it takes
 

@@ -1,7 +1,6 @@
 -- A command on a log that C asks for, and the result that C gets.
 use Rattle.std.specs.Option.{ok_or}
 use Rattle.std.specs.Prelude.{ℕ, ◌≡◌, ◌≢◌, ◌||◌, not, nat_eq, if◌then◌else◌, Bool, true, false, List, [], length, option_map, string_bytes, Option, Some, None, Result, Ok, Err}
-use Rattle.lsp_frame.specs.Limits.{LimitsData}
 use Rattle.lsp_frame.specs.declared.fault.FrameFault.{FrameFault}
 use Rattle.lsp_frame.specs.declared.fault.FrameFault.TheVariants as frame
 use Rattle.lsp_stream.specs.declared.fault.EngineFault.{EngineFault}
@@ -18,7 +17,7 @@ use Rattle.lsp_replay.specs.Parts.{part_engine}
 use Rattle.lsp_replay.specs.Run.{Engine, IsEngineRun, WritesLog, check_engine, convert_engine, normalise_engine, replay_engine}
 use Rattle.lsp_replay.specs.Trace.{trace_engine}
 use Rattle.lsp_replay.specs.laws.Written.{IsConverted, IsCanonicalLog, IsSquashed}
-use Rattle.laspidru.specs.declared.codes.TheConstants.{BAD_FRAME, BAD_LOG, BODY_TOO_LONG, CUT, EMPTY, NOT_OPEN, OK, OTHER_KIND, OUT_OF_MEMORY, OUT_OF_RANGE, TOO_MANY_TURNS}
+use Rattle.laspidru.specs.declared.codes.TheConstants.{BAD_FRAME, BAD_LOG, BODY_TOO_LONG, CUT, NOT_OPEN, OK, OTHER_KIND, OUT_OF_MEMORY, OUT_OF_RANGE, TOO_MANY_TURNS}
 use Rattle.laspidru.specs.declared.command.Command.{Command}
 use Rattle.laspidru.specs.declared.command.Command.TheVariants as command
 use Rattle.laspidru.specs.declared.command.CommandName.{CommandName}
@@ -28,25 +27,17 @@ use Rattle.laspidru.specs.declared.endings.LogSettings.{LogSettings}
 use Rattle.laspidru.specs.declared.object.Object.{Object}
 use Rattle.laspidru.specs.declared.object.Object.TheVariants.{Output}
 use Rattle.laspidru.specs.Codes.{and_then}
-use Rattle.laspidru.specs.Objects.{encoding_at, uri_asked}
-use Rattle.laspidru.specs.Servers.{limits_asked}
+use Rattle.laspidru.specs.Objects.{encoding_at, in_handle, uri_asked}
+use Rattle.laspidru.specs.Servers.{bounds, limits_asked}
 
 -- ---- how a log is read
-
--- The limits in the settings of a log.
-abbrev pub log_bounds : LogSettings → LimitsData
-log_bounds settings = record {
-  max_body = settings.max_body;
-  max_text = settings.max_text;
-  max_docs = settings.max_docs;
-  max_changes = settings.max_changes;
-  lenient = settings.lenient;
-}
 
 -- The settings of a log, if the encoding is known and each limit is in its range.
 abbrev pub log_asked : LogSettings → Result Settings ℕ
 log_asked settings = and_then (encoding_at settings.encoding) (λ encoding.
-    and_then (limits_asked (log_bounds settings)) (λ limits. Ok (record {
+    let given = bounds settings.max_body settings.max_text settings.max_docs settings.max_changes
+    settings.lenient in
+    and_then (limits_asked given) (λ limits. Ok (record {
       limits = limits;
       encoding = encoding;
       squash = settings.squash;
@@ -228,15 +219,10 @@ abbrev pub as_output : Object → Result (List ℕ) ℕ
 as_output (Output bytes) = Ok bytes.items
 as_output other = Err OTHER_KIND
 
--- The output in a handle.
-abbrev pub stored_output : Option Object → Result (List ℕ) ℕ
-stored_output (Some object) = as_output object
-stored_output None = Err EMPTY
-
 -- The handle has the output, and C gets the code and the ending; or only the code.
 abbrev pub IsKept : Result (ℕ × Ending) ℕ → List ℕ → ℕ → Option Object → Ending → Type 0
-IsKept (Ok ended) output code stored out = (code ≡ ended.0) × (stored_output stored ≡ Ok output)
-    × (out ≡ ended.1)
+IsKept (Ok ended) output code stored out = (code ≡ ended.0)
+    × (in_handle as_output stored ≡ Ok output) × (out ≡ ended.1)
 IsKept (Err fault) output code stored out = code ≡ fault
 
 -- The same by the result of the command.

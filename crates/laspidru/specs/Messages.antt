@@ -11,14 +11,14 @@ use Rattle.laspidru.specs.declared.codes.TheConstants.{OK}
 use Rattle.laspidru.specs.declared.object.Object.{Object}
 use Rattle.laspidru.specs.declared.structs.Edit.{Edit}
 use Rattle.laspidru.specs.declared.structs.FaultAt.{FaultAt}
-use Rattle.laspidru.specs.Batches.{edits_of, refused_edit}
+use Rattle.laspidru.specs.Batches.{edits_encoding, edits_of}
 use Rattle.laspidru.specs.Clients.{IsStoreReport}
-use Rattle.laspidru.specs.Codes.{and_then, unless}
+use Rattle.laspidru.specs.Codes.{and_then}
 use Rattle.laspidru.specs.Edits.{EditsAsked, edits_asked}
 use Rattle.laspidru.specs.Ends.{entry_in, entry_text, store_in}
 use Rattle.laspidru.specs.HeldEnds.{EndData}
-use Rattle.laspidru.specs.Logs.{stored_output}
-use Rattle.laspidru.specs.Objects.{encoding_at, uri_asked}
+use Rattle.laspidru.specs.Logs.{as_output}
+use Rattle.laspidru.specs.Objects.{in_handle, uri_asked}
 use Rattle.laspidru.specs.Servers.{store_code}
 
 -- Text edits as C passes them, on the open document of a URI.
@@ -38,14 +38,13 @@ pub record MessageAsked : Type 0 where
 abbrev pub message_asked : List ℕ → ℤ → ℕ → List Edit → List ℕ → Result EndData ℕ →
     Result MessageAsked ℕ
 message_asked uri version number edits texts held = and_then (uri_asked uri) (λ named.
-    and_then (encoding_at number) (λ encoding. unless (refused_edit edits texts) (
-    and_then held (λ it. Ok (record {
+    and_then (edits_encoding number edits texts) (λ encoding. and_then held (λ it. Ok (record {
       store = store_in it.party;
       uri = named;
       version = version;
       encoding = encoding;
       edits = edits_of edits texts;
-    })))))
+    }))))
 
 -- The frame of the canonical message, unless it is refused.
 abbrev pub frame_unless : Option Refusal → List ℕ → Result (List ℕ) Refusal
@@ -63,7 +62,7 @@ canonical_message_of asked =
 -- The handle has the frame, or its refusal is reported.
 abbrev pub IsMessageLeft : Result (List ℕ) Refusal → ℕ → Option Object → ℕ → FaultAt → Type 0
 IsMessageLeft (Ok frame) code stored len out =
-    (code ≡ OK) × (stored_output stored ≡ Ok frame) × (len ≡ length frame)
+    (code ≡ OK) × (in_handle as_output stored ≡ Ok frame) × (len ≡ length frame)
 IsMessageLeft (Err refusal) code stored len out =
     (code ≡ store_code (documents.refusal_fault refusal))
     × IsStoreReport (documents.refusal_fault refusal) out

@@ -1,6 +1,6 @@
 -- The objects in handles, and what C asks of a text in one of the three encodings. `as_document` and
--- the like are what an object is, `stored_document` and the like what a handle has in it. Both are
--- the code of a refusal if it is another kind of object.
+-- the like are what an object is, or the code of a refusal if it is of another kind;
+-- `in_handle as_document` and the like are the same of what a handle has in it.
 use Rattle.std.specs.Prelude.{ℕ, ◌≡◌, ◌≤◌, ◌+◌, ◌++◌, ◌⊎◌, List, length, min, take, drop, Option, Some, None, Result, Ok, Err, if◌then◌else◌, nat_eq, nat_lt, option_map}
 use Rattle.std.specs.Option.{ok_or}
 use Rattle.std.specs.Str.{chars, is_utf8}
@@ -27,6 +27,11 @@ abbrev pub in_use : Option Object → Option ℕ
 in_use (Some object) = Some IN_USE
 in_use None = None
 
+-- What is in a handle, read in this way; the code of an empty handle.
+abbrev pub in_handle : {X : Type 0} → (Object → Result X ℕ) → Option Object → Result X ℕ
+in_handle read (Some object) = read object
+in_handle read None = Err EMPTY
+
 -- A text to be opened, if it isn't too long and is UTF-8.
 abbrev pub text_asked : List ℕ → Result (List ℕ) ℕ
 text_asked text =
@@ -43,20 +48,10 @@ abbrev pub as_document : Object → Result (List ℕ) ℕ
 as_document (Document text) = Ok text
 as_document other = Err OTHER_KIND
 
--- The text of the document in a handle.
-abbrev pub stored_document : Option Object → Result (List ℕ) ℕ
-stored_document (Some object) = as_document object
-stored_document None = Err EMPTY
-
 -- The changes of a batch.
 abbrev pub as_batch : Object → Result (List Change) ℕ
 as_batch (Batch changes) = Ok changes.items
 as_batch other = Err OTHER_KIND
-
--- The changes of the batch in a handle.
-abbrev pub stored_batch : Option Object → Result (List Change) ℕ
-stored_batch (Some object) = as_batch object
-stored_batch None = Err EMPTY
 
 -- The encoding of a number of C.
 abbrev pub encoding_numbered : ℕ → Option Encoding

@@ -27,14 +27,14 @@ use Rattle.laspidru.specs.Streams.{stream_of}
 
 -- ---- how a server is set up
 
--- The limits in the settings of a server.
-abbrev pub bounds_of : Settings → LimitsData
-bounds_of settings = record {
-  max_body = settings.max_body;
-  max_text = settings.max_text;
-  max_docs = settings.max_docs;
-  max_changes = settings.max_changes;
-  lenient = settings.lenient;
+-- Limits as C passes them.
+abbrev pub bounds : (max_body max_text max_docs max_changes : ℕ) → Bool → LimitsData
+bounds max_body max_text max_docs max_changes lenient = record {
+  max_body = max_body;
+  max_text = max_text;
+  max_docs = max_docs;
+  max_changes = max_changes;
+  lenient = lenient;
 }
 
 -- The choice of encoding: fixed, or negotiated with a preference (LSP 3.17, PositionEncodingKind).
@@ -62,7 +62,9 @@ limits_asked bounds = unless (option_map limit_code (first_out_of_range bounds))
 -- The set-up of a server, if the encoding is known and each limit is in its range.
 abbrev pub config_asked : Settings → Result Config ℕ
 config_asked settings = and_then (encoding_at settings.encoding) (λ encoding.
-    and_then (limits_asked (bounds_of settings)) (λ limits. Ok (record {
+    let given = bounds settings.max_body settings.max_text settings.max_docs settings.max_changes
+    settings.lenient in
+    and_then (limits_asked given) (λ limits. Ok (record {
       limits = limits;
       choice = choice_of settings.is_fixed encoding;
       sync = sync_kind settings.is_full;

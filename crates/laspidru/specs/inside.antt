@@ -1,3 +1,5 @@
 -- Definitions that only private contracts speak of.
+pub mod Calls
 pub mod Clients
 pub mod Stored
+pub mod Subjects

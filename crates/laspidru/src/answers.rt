@@ -1,17 +1,16 @@
 //! The settings that C passes to a server, and what it gets of a server or a client.
 
 ghost use Rattle.std.specs.Prelude.{◌≡◌, Err, IfErr, IfOk, Ok};
-ghost use Rattle.lsp_frame.specs.Limits.{LimitsData};
 ghost use Rattle.lsp_server.specs.Seen.{answer_view};
-ghost use Rattle.laspidru.specs.Servers.{answer_out, config_asked, error_number, limit_code};
-ghost use Rattle.laspidru.specs.Servers.{limits_asked, plain_out, refusal_code, reply_out};
-ghost use Rattle.laspidru.specs.Servers.{store_code};
+ghost use Rattle.laspidru.specs.Servers.{answer_out, bounds, config_asked, error_number};
+ghost use Rattle.laspidru.specs.Servers.{limit_code, limits_asked, plain_out, refusal_code};
+ghost use Rattle.laspidru.specs.Servers.{reply_out, store_code};
 
 use crate::changes::encoding_of;
 use crate::codes::{
-    ALREADY_OPEN, BAD_ENCODING, BAD_MAX_BODY, BAD_MAX_CHANGES, BAD_MAX_DOCS, BAD_MAX_TEXT, CHANGED,
-    DROPPED, EXITED, IGNORED, INSIDE_CHARACTER, INVALID_PARAMS, NOT_OPEN, OUT_OF_MEMORY, REFUSED,
-    REPLIED, REVERSED_RANGE, STALE_VERSION, TOO_LONG, TOO_MANY_CHANGES, TOO_MANY_DOCUMENTS,
+    ALREADY_OPEN, BAD_MAX_BODY, BAD_MAX_CHANGES, BAD_MAX_DOCS, BAD_MAX_TEXT, CHANGED, DROPPED,
+    EXITED, IGNORED, INSIDE_CHARACTER, INVALID_PARAMS, NOT_OPEN, OUT_OF_MEMORY, REFUSED, REPLIED,
+    REVERSED_RANGE, STALE_VERSION, TOO_LONG, TOO_MANY_CHANGES, TOO_MANY_DOCUMENTS,
 };
 use lsp_edit::EditFault;
 use lsp_frame::Limits;
@@ -95,13 +94,7 @@ pub(crate) fn limits_of(
     max_changes: usize,
     lenient: bool,
 ) -> Result<Limits, u32>
-    ensures { let given : LimitsData = record {
-      max_body = max_body;
-      max_text = max_text;
-      max_docs = max_docs;
-      max_changes = max_changes;
-      lenient = lenient;
-    } in result ≡ limits_asked given }
+    ensures { result ≡ limits_asked (bounds max_body max_text max_docs max_changes lenient) }
 {
     match Limits::new(max_body, max_text, max_docs, max_changes) {
         Ok(limits) if lenient => Ok(limits.lenient()),
@@ -110,21 +103,28 @@ pub(crate) fn limits_of(
     }
 }
 
+/// Returns the limits in settings, or the code of the first that is out of its range.
+macro_rules! limits_in {
+    ($settings:ident) => {
+        $crate::answers::limits_of(
+            $settings.max_body,
+            $settings.max_text,
+            $settings.max_docs,
+            $settings.max_changes,
+            $settings.lenient,
+        )
+    };
+}
+
+pub(crate) use limits_in;
+
 /// Returns the set-up of a server, or the code for why there is none.
 pub(crate) fn config_of(settings: &Settings) -> Result<Config, u32>
     ensures ok { IfOk result (λ config. config_asked settings.now ≡ Ok config) }
     ensures error { IfErr result (λ code. config_asked settings.now ≡ Err code) }
 {
-    let Some(encoding) = encoding_of(settings.encoding) else {
-        return Err(BAD_ENCODING);
-    };
-    let limits = limits_of(
-        settings.max_body,
-        settings.max_text,
-        settings.max_docs,
-        settings.max_changes,
-        settings.lenient,
-    )?;
+    let encoding = encoding_of(settings.encoding)?;
+    let limits = limits_in!(settings)?;
     let choice = if settings.is_fixed {
         EncodingChoice::Fixed(encoding)
     } else {

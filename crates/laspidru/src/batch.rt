@@ -1,31 +1,28 @@
 //! The functions on canonical batches.
 
-ghost use Rattle.std.specs.Prelude.{◌≡◌, ◌≢◌, None, length};
-ghost use Rattle.laspidru.specs.Batches.{IsBatchOf, IsCanonicalIf, IsEdit, IsEditOf, IsReport};
-ghost use Rattle.laspidru.specs.Batches.{batch_asked, change_asked, fitting, refused_edit};
-ghost use Rattle.laspidru.specs.Batches.{text_left_by};
+ghost use Rattle.std.specs.Prelude.{◌≡◌, ◌≢◌, None, Ok, length};
+ghost use Rattle.laspidru.specs.Batches.{IsCanonicalIf, IsEdit, IsEditOf, batch_asked};
+ghost use Rattle.laspidru.specs.Batches.{change_asked, fitting, refused_edit, text_left_by};
 ghost use Rattle.laspidru.specs.Codes.{IsAnswer, IsAnswerOrNoMemory, unless};
-ghost use Rattle.laspidru.specs.Objects.{as_batch, as_document, in_use, stored_batch};
-ghost use Rattle.laspidru.specs.Objects.{stored_document};
+ghost use Rattle.laspidru.specs.Objects.{as_batch, as_document, in_handle, in_use};
 
 use crate::bytes::copy_bytes;
-use crate::changes::{changes_of, encoding_of, fits, refusal_of, report};
+use crate::changes::{changes_of, edits_encoding_of, fits, report};
 use crate::codes::{
-    BAD_ENCODING, EMPTY, IN_USE, INSIDE_CHARACTER, OK, OTHER_KIND, OUT_OF_MEMORY, OUT_OF_RANGE,
-    REVERSED_RANGE, TOO_LONG,
+    IN_USE, INSIDE_CHARACTER, OK, OUT_OF_MEMORY, OUT_OF_RANGE, REVERSED_RANGE, TOO_LONG, or_return,
 };
-use crate::handle::Handle;
+use crate::handle::{Handle, with_object};
 use crate::object::Object;
 use crate::structs::{CPosition, Edit, FaultAt};
-use lsp_edit::{Change, MAX_OLD_TEXT};
+use lsp_edit::{Change, IndexedText, MAX_OLD_TEXT};
 use lsp_text::Encoding;
 use std::alloc::Global;
 
-/// Puts the canonical batch of a batch on an object's text into an empty handle.
+/// Puts the canonical batch of a batch on a text into an empty handle.
 #[tactic(auto, using(crate::proofs::Batches::is_batch_of))]
-fn object_canonical(
+fn put_canonical(
     alloc: Global,
-    object: &Object,
+    document: &IndexedText,
     encoding: Encoding,
     edits: &[Edit],
     texts: &[u8],
@@ -35,29 +32,21 @@ fn object_canonical(
     requires checked { refused_edit edits.now texts.now ≡ None }
     requires empty { batch.old.value ≡ None }
     ensures answer { IsAnswerOrNoMemory
-        (fitting encoding edits.now texts.now (as_document object.now)) result
+        (fitting encoding edits.now texts.now (Ok document.now)) result
         (λ asked. IsCanonicalIf (text_left_by asked) asked result batch.new.value fault.new) }
     ensures unchanged { result ≢ OK → batch.new.value ≡ None }
     ensures fault { result ≢ INSIDE_CHARACTER → result ≢ REVERSED_RANGE → fault.new ≡ fault.old }
 {
-    let Object::Document(document) = object else {
-        return OTHER_KIND;
-    };
     if !fits(edits) || document.text().len() > MAX_OLD_TEXT {
         return TOO_LONG;
     }
     let Ok(changes) = changes_of(alloc, edits, texts) else {
         return OUT_OF_MEMORY;
     };
-    let changes = match document.canonical(encoding, &changes, MAX_OLD_TEXT) {
-        Ok(canonical) => canonical,
-        Err(error) => return report(error, fault),
-    };
-    let Ok(object) = Box::new(alloc, Object::Batch(changes)) else {
-        return OUT_OF_MEMORY;
-    };
-    batch.put(object);
-    OK
+    match document.canonical(encoding, &changes, MAX_OLD_TEXT) {
+        Ok(canonical) => batch.fill(alloc, Object::Batch(canonical)),
+        Err(error) => report(error, fault),
+    }
 }
 
 /// Puts the canonical batch of a batch on the text into an empty handle. It has one change for each
@@ -74,56 +63,34 @@ pub extern "C" fn laspidru_document_canonical(
     fault: &mut FaultAt,
 ) -> u32
     ensures answer { let text =
-        unless (in_use batch.old.value) (stored_document handle.old.value) in
+        unless (in_use batch.old.value) (in_handle as_document handle.old.value) in
         IsAnswerOrNoMemory (batch_asked encoding edits.now texts.now text) result
         (λ asked. IsCanonicalIf (text_left_by asked) asked result batch.new.value fault.new) }
     ensures handle { handle.new.value ≡ handle.old.value }
     ensures unchanged { result ≢ OK → batch.new.value ≡ batch.old.value }
     ensures fault { result ≢ INSIDE_CHARACTER → result ≢ REVERSED_RANGE → fault.new ≡ fault.old }
 {
-    let Some(encoding) = encoding_of(encoding) else {
-        return BAD_ENCODING;
-    };
-    if let Some(code) = refusal_of(edits, texts) {
-        return code;
-    }
+    let encoding = or_return!(edits_encoding_of(encoding, edits, texts));
     if batch.is_full(alloc) {
         return IN_USE;
     }
-    let Some(object) = handle.take(alloc) else {
-        return EMPTY;
-    };
-    let code = object_canonical(alloc, &object, encoding, edits, texts, batch, fault);
-    handle.put(object);
-    code
-}
-
-/// Returns how many changes a batch has.
-fn object_len(object: &Object, out: &mut usize) -> u32
-    ensures answer { IsAnswer (as_batch object.now) result (λ changes. out.new ≡ length changes) }
-    ensures unchanged { result ≢ OK → out.new ≡ out.old }
-{
-    let Object::Batch(changes) = object else {
-        return OTHER_KIND;
-    };
-    *out = changes.len();
-    OK
+    with_object!(handle, alloc, Object::Document(document) => {
+        put_canonical(alloc, document, encoding, edits, texts, batch, fault)
+    })
 }
 
 /// Returns how many changes a batch has, in constant time. Codes: EMPTY, OTHER_KIND.
 #[unsafe(no_mangle)]
 pub extern "C" fn laspidru_batch_len(alloc: Global, batch: &mut Handle, out: &mut usize) -> u32
-    ensures answer { IsAnswer (stored_batch batch.old.value) result
+    ensures answer { IsAnswer (in_handle as_batch batch.old.value) result
         (λ changes. out.new ≡ length changes) }
     ensures handle { batch.new.value ≡ batch.old.value }
     ensures unchanged { result ≢ OK → out.new ≡ out.old }
 {
-    let Some(object) = batch.take(alloc) else {
-        return EMPTY;
-    };
-    let code = object_len(&object, out);
-    batch.put(object);
-    code
+    with_object!(batch, alloc, Object::Batch(changes) => {
+        *out = changes.len();
+        OK
+    })
 }
 
 /// Returns a change for C. One of the whole text has positions of zeros.
@@ -146,30 +113,6 @@ fn edit_of_change(change: &Change) -> Edit
     }
 }
 
-/// Returns a change of a batch, and as much of its text as `out` has room for.
-fn object_edit(
-    object: &Object,
-    index: usize,
-    edit: &mut Edit,
-    out: &mut [u8],
-    copied: &mut usize,
-) -> u32
-    ensures answer { IsAnswer (change_asked index (as_batch object.now)) result
-        (IsEditOf edit.new out.old out.new copied.new) }
-    ensures unchanged { result ≢ OK
-        → (edit.new ≡ edit.old) × (out.new ≡ out.old) × (copied.new ≡ copied.old) }
-{
-    let Object::Batch(changes) = object else {
-        return OTHER_KIND;
-    };
-    let Some(change) = changes.get(index) else {
-        return OUT_OF_RANGE;
-    };
-    *copied = copy_bytes(change.text.as_bytes(), out);
-    *edit = edit_of_change(change);
-    OK
-}
-
 /// Returns a change of a batch, counted from 0, with the length of its text. Copies as much of the
 /// text as `out` has room for. Codes, in this order: EMPTY, OTHER_KIND, OUT_OF_RANGE. Costs the
 /// copy.
@@ -182,16 +125,18 @@ pub extern "C" fn laspidru_batch_edit(
     out: &mut [u8],
     copied: &mut usize,
 ) -> u32
-    ensures answer { IsAnswer (change_asked index (stored_batch batch.old.value)) result
+    ensures answer { IsAnswer (change_asked index (in_handle as_batch batch.old.value)) result
         (IsEditOf out_edit.new out.old out.new copied.new) }
     ensures handle { batch.new.value ≡ batch.old.value }
     ensures unchanged { result ≢ OK
         → (out_edit.new ≡ out_edit.old) × (out.new ≡ out.old) × (copied.new ≡ copied.old) }
 {
-    let Some(object) = batch.take(alloc) else {
-        return EMPTY;
-    };
-    let code = object_edit(&object, index, out_edit, out, copied);
-    batch.put(object);
-    code
+    with_object!(batch, alloc, Object::Batch(changes) => match changes.get(index) {
+        Some(change) => {
+            *copied = copy_bytes(change.text.as_bytes(), out);
+            *out_edit = edit_of_change(change);
+            OK
+        }
+        None => OUT_OF_RANGE,
+    })
 }

@@ -1,11 +1,11 @@
 //! Bytes that C passes, and bytes that are copied to it.
 
-ghost use Rattle.std.specs.Prelude.{◌≡◌, ◌≢◌, IfNone, IfSome, Ok, false, true};
+ghost use Rattle.std.specs.Prelude.{◌≡◌, ◌≢◌, Err, IfErr, IfNone, IfOk, IfSome, Ok, false, true};
 ghost use Rattle.std.specs.Str.{is_utf8};
 ghost use Rattle.laspidru.specs.Codes.{IsAnswer};
-ghost use Rattle.laspidru.specs.Objects.{IsCopy, rest_asked};
+ghost use Rattle.laspidru.specs.Objects.{IsCopy, rest_asked, uri_asked};
 
-use crate::codes::{OK, OUT_OF_RANGE};
+use crate::codes::{NOT_UTF8, OK, OUT_OF_RANGE};
 use lsp_buffer::TextBuffer;
 
 /// Returns the text of bytes that are UTF-8.
@@ -16,6 +16,17 @@ pub(crate) fn utf8_text(bytes: &[u8]) -> Option<&str>
     match std::str::from_utf8(bytes) {
         Ok(text) => Some(text),
         Err(_) => None,
+    }
+}
+
+/// Returns a URI or another text, or the code for why it is none.
+pub(crate) fn checked_text(bytes: &[u8]) -> Result<&str, u32>
+    ensures ok { IfOk result (λ text. uri_asked bytes.now ≡ Ok text.now) }
+    ensures error { IfErr result (λ code. uri_asked bytes.now ≡ Err code) }
+{
+    match utf8_text(bytes) {
+        Some(text) => Ok(text),
+        None => Err(NOT_UTF8),
     }
 }
 

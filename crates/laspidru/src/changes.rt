@@ -1,32 +1,32 @@
 //! A batch as C passes it, and the report of its fault.
 
-ghost use Rattle.std.specs.Prelude.{◌≡◌, ◌≢◌, ◌≤◌, ◌↔◌, None, IfOk, IsTrue, length, map};
-ghost use Rattle.std.specs.Prelude.{string_len, sum_by, true};
+ghost use Rattle.std.specs.Prelude.{◌≡◌, ◌≢◌, ◌≤◌, ◌↔◌, None, Err, IfErr, IfOk, IsTrue};
+ghost use Rattle.std.specs.Prelude.{Ok, OnOk, length, map, string_len, sum_by, true};
 ghost use Rattle.std.specs.Str.{is_utf8};
 ghost use Rattle.lsp_edit.specs.declared.indexed.fault.BatchFault.TheVariants.{Edit as EditOf};
 ghost use Rattle.lsp_edit.specs.Edited.{content_change};
-ghost use Rattle.laspidru.specs.Objects.{encoding_numbered, position_at};
-ghost use Rattle.laspidru.specs.Batches.{IsReport, edit_with, edits_of, is_end, len_of};
-ghost use Rattle.laspidru.specs.Batches.{refused_edit};
+ghost use Rattle.laspidru.specs.Objects.{encoding_at, position_at};
+ghost use Rattle.laspidru.specs.Batches.{IsReport, edit_with, edits_encoding, edits_of, is_end};
+ghost use Rattle.laspidru.specs.Batches.{len_of, refused_edit};
 
 use crate::bytes::utf8_text;
 use crate::codes::{
-    BAD_LENGTH, INSIDE_CHARACTER, NOT_UTF8, OUT_OF_MEMORY, REVERSED_RANGE, TOO_LONG,
+    BAD_ENCODING, BAD_LENGTH, INSIDE_CHARACTER, NOT_UTF8, OUT_OF_MEMORY, REVERSED_RANGE, TOO_LONG,
 };
 use crate::structs::{CPosition, Edit, FaultAt};
 use lsp_edit::{BatchFault, Change, EditFault, MAX_NEW_TEXT, Side};
 use lsp_text::{Encoding, Position, Range};
 use std::alloc::{AllocError, Global};
 
-/// Returns the encoding of a number: 8, 16 or 32.
-pub(crate) fn encoding_of(number: u32) -> Option<Encoding>
-    ensures { result ≡ encoding_numbered number }
+/// Returns the encoding of a number: 8, 16 or 32. Another is BAD_ENCODING.
+pub(crate) fn encoding_of(number: u32) -> Result<Encoding, u32>
+    ensures { result ≡ encoding_at number }
 {
     match number {
-        8 => Some(Encoding::Utf8),
-        16 => Some(Encoding::Utf16),
-        32 => Some(Encoding::Utf32),
-        _ => None,
+        8 => Ok(Encoding::Utf8),
+        16 => Ok(Encoding::Utf16),
+        32 => Ok(Encoding::Utf32),
+        _ => Err(BAD_ENCODING),
     }
 }
 
@@ -55,6 +55,24 @@ pub(crate) fn refusal_of(edits: &[Edit], texts: &[u8]) -> Option<u32>
         rest = more;
     }
     None
+}
+
+/// Returns the encoding of edits, or the code for why it or one of them is refused.
+pub(crate) fn edits_encoding_of(
+    encoding: u32,
+    edits: &[Edit],
+    texts: &[u8],
+) -> Result<Encoding, u32>
+    ensures ok { IfOk result (λ units. edits_encoding encoding edits.now texts.now ≡ Ok units) }
+    ensures checked { OnOk result (refused_edit edits.now texts.now ≡ None) }
+    ensures error { IfErr result (λ code.
+        edits_encoding encoding edits.now texts.now ≡ Err code) }
+{
+    let encoding = encoding_of(encoding)?;
+    match refusal_of(edits, texts) {
+        None => Ok(encoding),
+        Some(code) => Err(code),
+    }
 }
 
 /// Returns whether the texts of edits have at most [`MAX_NEW_TEXT`] bytes together.

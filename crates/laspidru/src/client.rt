@@ -6,17 +6,19 @@ ghost use Rattle.laspidru.specs.Clients.{client_asked};
 ghost use Rattle.laspidru.specs.Codes.{IsAnswerOrNoMemory, unless};
 ghost use Rattle.laspidru.specs.Objects.{in_use};
 
+mod call;
 mod editing;
 mod lifecycle;
 
-use crate::answers::limits_of;
-use crate::codes::{IN_USE, OK, OUT_OF_MEMORY};
+use crate::answers::limits_in;
+use crate::codes::{IN_USE, OK};
 use crate::end::End;
 use crate::handle::Handle;
 use crate::object::Object;
 use crate::party::Party;
 use crate::reports::ClientSettings;
 use crate::stream::Stream;
+pub use call::Call;
 use lsp_client::Client;
 use lsp_message::Offers;
 use std::alloc::Global;
@@ -26,13 +28,7 @@ fn editor_of(alloc: Global, settings: &ClientSettings) -> Result<End, u32>
     ensures ok { IfOk result (λ held. client_asked settings.now ≡ Ok held) }
     ensures error { IfErr result (λ code. client_asked settings.now ≡ Err code) }
 {
-    let limits = limits_of(
-        settings.max_body,
-        settings.max_text,
-        settings.max_docs,
-        settings.max_changes,
-        settings.lenient,
-    )?;
+    let limits = limits_in!(settings)?;
     let offers = Offers::new(settings.utf8, settings.utf32);
     Ok(End {
         party: Party::Client(Client::new(alloc, limits, offers)),
@@ -57,13 +53,8 @@ pub extern "C" fn laspidru_client_new(
     if handle.is_full(alloc) {
         return IN_USE;
     }
-    let held = match editor_of(alloc, settings) {
-        Ok(held) => held,
-        Err(code) => return code,
-    };
-    let Ok(object) = Box::new(alloc, Object::End(held)) else {
-        return OUT_OF_MEMORY;
-    };
-    handle.put(object);
-    OK
+    match editor_of(alloc, settings) {
+        Ok(held) => handle.fill(alloc, Object::End(held)),
+        Err(code) => code,
+    }
 }

@@ -94,3 +94,15 @@ pub const EXITED: u32 = 5;
 pub const NOTED: u32 = 6;
 /// The client's session can't continue. The documents stay.
 pub const BAD_SERVER: u32 = 7;
+
+/// Returns what a result has; of an error, its code is what the function returns.
+macro_rules! or_return {
+    ($result:expr) => {
+        match $result {
+            Ok(value) => value,
+            Err(code) => return code,
+        }
+    };
+}
+
+pub(crate) use or_return;

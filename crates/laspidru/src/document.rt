@@ -5,18 +5,17 @@ ghost use Rattle.laspidru.specs.declared.object.Object.TheVariants.{Document};
 ghost use Rattle.laspidru.specs.Batches.{IsTextLeft, batch_asked, fitting, refused_edit};
 ghost use Rattle.laspidru.specs.Batches.{text_left_by};
 ghost use Rattle.laspidru.specs.Codes.{IsAnswer, IsAnswerOrNoMemory, unless};
-ghost use Rattle.laspidru.specs.Objects.{IsCopy, IsSize, as_document, in_use, rest_asked};
-ghost use Rattle.laspidru.specs.Objects.{stored_document, text_asked};
+ghost use Rattle.laspidru.specs.Objects.{IsCopy, IsSize, as_document, in_handle, in_use};
+ghost use Rattle.laspidru.specs.Objects.{rest_asked, text_asked};
 
 mod positions;
 
-use crate::bytes::{copy_text, utf8_text};
-use crate::changes::{changes_of, encoding_of, fits, refusal_of, report};
+use crate::bytes::{checked_text, copy_text};
+use crate::changes::{changes_of, edits_encoding_of, fits, report};
 use crate::codes::{
-    BAD_ENCODING, EMPTY, IN_USE, INSIDE_CHARACTER, NOT_UTF8, OK, OTHER_KIND, OUT_OF_MEMORY,
-    REVERSED_RANGE, TOO_LONG,
+    IN_USE, INSIDE_CHARACTER, OK, OTHER_KIND, OUT_OF_MEMORY, REVERSED_RANGE, TOO_LONG, or_return,
 };
-use crate::handle::Handle;
+use crate::handle::{Handle, with_object};
 use crate::object::Object;
 use crate::structs::{Edit, FaultAt, Size};
 use lsp_edit::{IndexedText, MAX_OLD_TEXT};
@@ -31,19 +30,15 @@ fn text_of(bytes: &[u8]) -> Result<&str, u32>
     if bytes.len() > MAX_OLD_TEXT {
         return Err(TOO_LONG);
     }
-    match utf8_text(bytes) {
-        Some(text) => Ok(text),
-        None => Err(NOT_UTF8),
-    }
+    checked_text(bytes)
 }
 
 /// Makes a document of a copy of a text.
-fn opened(alloc: Global, text: &str) -> Result<Box<Object>, AllocError>
+fn opened(alloc: Global, text: &str) -> Result<IndexedText, AllocError>
     requires { length text.now ≤ MAX_OLD_TEXT }
-    ensures { IfOk result (λ object. object.value ≡ Document text.now) }
+    ensures { IfOk result (λ document. document ≡ text.now) }
 {
-    let document = IndexedText::new(alloc, text.to_string(alloc)?)?;
-    Ok(Box::new(alloc, Object::Document(document))?)
+    IndexedText::new(alloc, text.to_string(alloc)?)
 }
 
 /// Opens a document in an empty handle, with a copy of the text. Codes, in this order: IN_USE,
@@ -58,15 +53,11 @@ pub extern "C" fn laspidru_document_open(alloc: Global, handle: &mut Handle, tex
     if handle.is_full(alloc) {
         return IN_USE;
     }
-    let text = match text_of(text) {
-        Ok(text) => text,
-        Err(code) => return code,
-    };
-    let Ok(object) = opened(alloc, text) else {
+    let text = or_return!(text_of(text));
+    let Ok(document) = opened(alloc, text) else {
         return OUT_OF_MEMORY;
     };
-    handle.put(object);
-    OK
+    handle.fill(alloc, Object::Document(document))
 }
 
 /// Frees the object in a handle. An empty handle stays empty. There is no code.
@@ -127,67 +118,33 @@ pub extern "C" fn laspidru_document_change(
     fault: &mut FaultAt,
 ) -> u32
     ensures answer { IsAnswerOrNoMemory
-        (batch_asked encoding edits.now texts.now (stored_document handle.old.value)) result
+        (batch_asked encoding edits.now texts.now (in_handle as_document handle.old.value)) result
         (λ asked. IsTextLeft (text_left_by asked) result handle.new.value fault.new) }
     ensures unchanged { result ≢ OK → handle.new.value ≡ handle.old.value }
     ensures fault { result ≢ INSIDE_CHARACTER → result ≢ REVERSED_RANGE → fault.new ≡ fault.old }
 {
-    let Some(encoding) = encoding_of(encoding) else {
-        return BAD_ENCODING;
-    };
-    if let Some(code) = refusal_of(edits, texts) {
-        return code;
-    }
-    let Some(mut object) = handle.take(alloc) else {
-        return EMPTY;
-    };
-    let code = change_object(alloc, &mut object, encoding, edits, texts, fault);
-    handle.put(object);
-    code
-}
-
-/// Returns how many bytes and how many lines an object's text has.
-#[tactic(auto, using(lsp_text::proofs::TextLines::IndexesLemmas::indexes_count))]
-fn object_size(object: &Object, out: &mut Size) -> u32
-    ensures answer { IsAnswer (as_document object.now) result (IsSize out.new) }
-    ensures unchanged { result ≢ OK → out.new ≡ out.old }
-{
-    let Object::Document(document) = object else {
-        return OTHER_KIND;
-    };
-    *out = Size {
-        bytes: document.text().len(),
-        lines: document.text().line_count(),
-    };
-    OK
+    let encoding = or_return!(edits_encoding_of(encoding, edits, texts));
+    with_object!(handle, alloc, |object| {
+        change_object(alloc, &mut object, encoding, edits, texts, fault)
+    })
 }
 
 /// Returns how many bytes and how many lines the text has, in constant time. Codes: EMPTY,
 /// OTHER_KIND.
+#[tactic(auto, using(lsp_text::proofs::TextLines::IndexesLemmas::indexes_count))]
 #[unsafe(no_mangle)]
 pub extern "C" fn laspidru_document_size(alloc: Global, handle: &mut Handle, out: &mut Size) -> u32
-    ensures answer { IsAnswer (stored_document handle.old.value) result (IsSize out.new) }
+    ensures answer { IsAnswer (in_handle as_document handle.old.value) result (IsSize out.new) }
     ensures handle { handle.new.value ≡ handle.old.value }
     ensures unchanged { result ≢ OK → out.new ≡ out.old }
 {
-    let Some(object) = handle.take(alloc) else {
-        return EMPTY;
-    };
-    let code = object_size(&object, out);
-    handle.put(object);
-    code
-}
-
-/// Copies the bytes of an object's text from `start` on, as many as `out` has room for.
-fn object_copy(object: &Object, start: usize, out: &mut [u8], copied: &mut usize) -> u32
-    ensures answer { IsAnswer (rest_asked start (as_document object.now)) result
-        (IsCopy out.old out.new copied.new) }
-    ensures unchanged { result ≢ OK → (out.new ≡ out.old) × (copied.new ≡ copied.old) }
-{
-    let Object::Document(document) = object else {
-        return OTHER_KIND;
-    };
-    copy_text(document.text(), start, out, copied)
+    with_object!(handle, alloc, Object::Document(document) => {
+        *out = Size {
+            bytes: document.text().len(),
+            lines: document.text().line_count(),
+        };
+        OK
+    })
 }
 
 /// Copies the bytes of the text from `start` on, as many as `out` has room for, and returns how
@@ -200,15 +157,12 @@ pub extern "C" fn laspidru_document_copy(
     out: &mut [u8],
     copied: &mut usize,
 ) -> u32
-    ensures answer { IsAnswer (rest_asked start (stored_document handle.old.value)) result
+    ensures answer { IsAnswer (rest_asked start (in_handle as_document handle.old.value)) result
         (IsCopy out.old out.new copied.new) }
     ensures handle { handle.new.value ≡ handle.old.value }
     ensures unchanged { result ≢ OK → (out.new ≡ out.old) × (copied.new ≡ copied.old) }
 {
-    let Some(object) = handle.take(alloc) else {
-        return EMPTY;
-    };
-    let code = object_copy(&object, start, out, copied);
-    handle.put(object);
-    code
+    with_object!(handle, alloc, Object::Document(document) => {
+        copy_text(document.text(), start, out, copied)
+    })
 }

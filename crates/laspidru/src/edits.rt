@@ -9,17 +9,20 @@ ghost use Rattle.laspidru.specs.Edits.{AreApplied, AreBatched, AreFaulty, IsBatc
 ghost use Rattle.laspidru.specs.Edits.{IsEditsReport, IsTooMuch, IsUnlessFaulty, edits_asked};
 ghost use Rattle.laspidru.specs.Edits.{edits_on, fitting_edits, range_or, replacement_of};
 ghost use Rattle.laspidru.specs.Edits.{replacement_with, replacements_of, text_left};
-ghost use Rattle.laspidru.specs.Objects.{as_document, in_use, stored_document};
+ghost use Rattle.laspidru.specs.Objects.{as_document, in_handle, in_use};
+ghost use Rattle.laspidru.specs.inside.Subjects.{subject_text};
 
-use crate::changes::{encoding_of, fits, is_end, position_of, refusal_of};
+use crate::changes::{edits_encoding_of, fits, is_end, position_of};
 use crate::codes::{
-    BAD_ENCODING, EMPTY, IN_USE, INSIDE_CHARACTER, OK, OTHER_KIND, OUT_OF_MEMORY, OVERLAP,
-    REVERSED_RANGE, TOO_LONG,
+    IN_USE, INSIDE_CHARACTER, OK, OTHER_KIND, OUT_OF_MEMORY, OVERLAP, REVERSED_RANGE, TOO_LONG,
+    or_return,
 };
-use crate::handle::Handle;
+use crate::handle::{Handle, with_object};
 use crate::object::Object;
 use crate::structs::{CPosition, Edit, EditsFault};
+use lsp_buffer::TextBuffer;
 use lsp_edit::{BatchFault, Change, IndexedText, MAX_OLD_TEXT, TextEdit, TextEditFault};
+use lsp_store::Document;
 use lsp_text::{Encoding, Range};
 use std::alloc::{AllocError, Global};
 
@@ -58,11 +61,7 @@ fn text_edit_of(alloc: Global, edit: Edit, own: &[u8]) -> Result<TextEdit, Alloc
 }
 
 /// Returns the text edits, each with its part of the texts.
-pub(crate) fn text_edits_of(
-    alloc: Global,
-    edits: &[Edit],
-    texts: &[u8],
-) -> Result<Vec<TextEdit>, AllocError>
+fn text_edits_of(alloc: Global, edits: &[Edit], texts: &[u8]) -> Result<Vec<TextEdit>, AllocError>
     requires { refused_edit edits.now texts.now ≡ None }
     ensures { IfOk result (λ passed.
         map replacement_of passed.items ≡ replacements_of edits.now texts.now) }
@@ -78,7 +77,7 @@ pub(crate) fn text_edits_of(
 }
 
 /// Returns the code of a fault. A fault of an edit is written to `out`, another leaves it as it is.
-pub(crate) fn report_edits(fault: TextEditFault, out: &mut EditsFault) -> u32
+fn report_edits(fault: TextEditFault, out: &mut EditsFault) -> u32
     ensures report { IsEditsReport fault result out.new }
     ensures unchanged { IsUnlessFaulty result (out.new ≡ out.old) }
 {
@@ -98,10 +97,29 @@ pub(crate) fn report_edits(fault: TextEditFault, out: &mut EditsFault) -> u32
     code
 }
 
-/// Returns the canonical batch of what edits mean on a text, or the code of their fault.
+/// The text that text edits count in: of a document, or of an open document of an end.
+#[derive(Drop)]
+pub(crate) enum Subject<'a> {
+    Own(&'a IndexedText),
+    Open(Document<'a>),
+}
+
+impl Subject<'_> {
+    /// Returns the text.
+    fn text(&self) -> &TextBuffer
+        ensures { result.now ≡ subject_text self.now }
+    {
+        match self {
+            Subject::Own(document) => document.text(),
+            Subject::Open(document) => document.text(),
+        }
+    }
+}
+
+/// Returns the canonical batch of what edits mean on a text, or the code of their refusal.
 fn batch_of(
     alloc: Global,
-    document: &IndexedText,
+    subject: &Subject<'_>,
     encoding: Encoding,
     edits: &[Edit],
     texts: &[u8],
@@ -109,25 +127,31 @@ fn batch_of(
 ) -> Result<Vec<Change>, u32>
     requires { refused_edit edits.now texts.now ≡ None }
     ensures ok { IfOk result (λ changes.
-        IsBatchOfAsked (edits_on encoding edits.now texts.now document.now) changes.items) }
+        IsBatchOfAsked (edits_on encoding edits.now texts.now (subject_text subject.now))
+        changes.items) }
     ensures error { IfErr result (λ code. (code ≡ OUT_OF_MEMORY)
-        ⊎ AreFaulty (edits_on encoding edits.now texts.now document.now) code fault.new) }
+        ⊎ AreFaulty (edits_on encoding edits.now texts.now (subject_text subject.now)) code
+        fault.new) }
     ensures no_fault { IfOk result (λ changes. fault.new ≡ fault.old) }
     ensures unchanged { IfErr result (λ code. IsUnlessFaulty code (fault.new ≡ fault.old)) }
 {
     let Ok(passed) = text_edits_of(alloc, edits, texts) else {
         return Err(OUT_OF_MEMORY);
     };
-    match document.batch_of_edits(encoding, &passed) {
+    let batch = match subject {
+        Subject::Own(document) => document.batch_of_edits(encoding, &passed),
+        Subject::Open(document) => document.batch_of_edits(encoding, &passed),
+    };
+    match batch {
         Ok(changes) => Ok(changes),
         Err(error) => Err(report_edits(error, fault)),
     }
 }
 
-/// Puts the batch of text edits on an object's text into an empty handle.
-fn object_batch_of_edits(
+/// Puts the batch of text edits into an empty handle.
+pub(crate) fn put_batch_of_edits(
     alloc: Global,
-    object: &Object,
+    subject: &Subject<'_>,
     encoding: Encoding,
     edits: &[Edit],
     texts: &[u8],
@@ -136,27 +160,19 @@ fn object_batch_of_edits(
 ) -> u32
     requires checked { refused_edit edits.now texts.now ≡ None }
     requires empty { batch.old.value ≡ None }
-    ensures answer { IsAnswerOrNoMemory
-        (fitting_edits encoding edits.now texts.now (as_document object.now)) result
+    ensures answer { let text = Ok (subject_text subject.now) in
+        IsAnswerOrNoMemory (fitting_edits encoding edits.now texts.now text) result
         (λ asked. AreBatched asked result batch.new.value fault.new) }
     ensures unchanged { result ≢ OK → batch.new.value ≡ None }
     ensures fault { IsUnlessFaulty result (fault.new ≡ fault.old) }
 {
-    let Object::Document(document) = object else {
-        return OTHER_KIND;
-    };
-    if !fits(edits) || document.text().len() > MAX_OLD_TEXT {
+    if !fits(edits) || subject.text().len() > MAX_OLD_TEXT {
         return TOO_LONG;
     }
-    let changes = match batch_of(alloc, document, encoding, edits, texts, fault) {
-        Ok(changes) => changes,
-        Err(code) => return code,
-    };
-    let Ok(object) = Box::new(alloc, Object::Batch(changes)) else {
-        return OUT_OF_MEMORY;
-    };
-    batch.put(object);
-    OK
+    match batch_of(alloc, subject, encoding, edits, texts, fault) {
+        Ok(changes) => batch.fill(alloc, Object::Batch(changes)),
+        Err(code) => code,
+    }
 }
 
 /// Puts the canonical batch of what text edits mean on the text into an empty handle (LSP 3.17,
@@ -177,28 +193,21 @@ pub extern "C" fn laspidru_document_batch_of_edits(
     fault: &mut EditsFault,
 ) -> u32
     ensures answer { let text =
-        unless (in_use batch.old.value) (stored_document handle.old.value) in
+        unless (in_use batch.old.value) (in_handle as_document handle.old.value) in
         IsAnswerOrNoMemory (edits_asked encoding edits.now texts.now text) result
         (λ asked. AreBatched asked result batch.new.value fault.new) }
     ensures handle { handle.new.value ≡ handle.old.value }
     ensures unchanged { result ≢ OK → batch.new.value ≡ batch.old.value }
     ensures fault { IsUnlessFaulty result (fault.new ≡ fault.old) }
 {
-    let Some(encoding) = encoding_of(encoding) else {
-        return BAD_ENCODING;
-    };
-    if let Some(code) = refusal_of(edits, texts) {
-        return code;
-    }
+    let encoding = or_return!(edits_encoding_of(encoding, edits, texts));
     if batch.is_full(alloc) {
         return IN_USE;
     }
-    let Some(object) = handle.take(alloc) else {
-        return EMPTY;
-    };
-    let code = object_batch_of_edits(alloc, &object, encoding, edits, texts, batch, fault);
-    handle.put(object);
-    code
+    with_object!(handle, alloc, Object::Document(document) => {
+        let subject = Subject::Own(document);
+        put_batch_of_edits(alloc, &subject, encoding, edits, texts, batch, fault)
+    })
 }
 
 /// Makes a batch without a faulty change on a text, or answers why there is none.
@@ -241,10 +250,8 @@ fn object_apply_edits(
     if !fits(edits) || document.text().len() > MAX_OLD_TEXT {
         return TOO_LONG;
     }
-    let batch = match batch_of(alloc, document, encoding, edits, texts, fault) {
-        Ok(batch) => batch,
-        Err(code) => return code,
-    };
+    let subject = Subject::Own(document);
+    let batch = or_return!(batch_of(alloc, &subject, encoding, edits, texts, fault));
     match change_by(document, encoding, &batch) {
         Ok(()) => OK,
         Err(code) => code,
@@ -264,21 +271,13 @@ pub extern "C" fn laspidru_document_apply_edits(
     fault: &mut EditsFault,
 ) -> u32
     ensures answer { IsAnswerOrNoMemory
-        (edits_asked encoding edits.now texts.now (stored_document handle.old.value)) result
+        (edits_asked encoding edits.now texts.now (in_handle as_document handle.old.value)) result
         (λ asked. AreApplied asked result handle.new.value fault.new) }
     ensures unchanged { result ≢ OK → handle.new.value ≡ handle.old.value }
     ensures fault { IsUnlessFaulty result (fault.new ≡ fault.old) }
 {
-    let Some(encoding) = encoding_of(encoding) else {
-        return BAD_ENCODING;
-    };
-    if let Some(code) = refusal_of(edits, texts) {
-        return code;
-    }
-    let Some(mut object) = handle.take(alloc) else {
-        return EMPTY;
-    };
-    let code = object_apply_edits(alloc, &mut object, encoding, edits, texts, fault);
-    handle.put(object);
-    code
+    let encoding = or_return!(edits_encoding_of(encoding, edits, texts));
+    with_object!(handle, alloc, |object| {
+        object_apply_edits(alloc, &mut object, encoding, edits, texts, fault)
+    })
 }

@@ -4,11 +4,11 @@ ghost use Rattle.std.specs.Prelude.{◌≡◌, Err, IfErr, IfOk, Ok};
 ghost use Rattle.laspidru.specs.Logs.{IsUnlessEnded, ending_out, fault_out, frame_fault_out};
 ghost use Rattle.laspidru.specs.Logs.{log_asked, missing_code, outcome_out};
 
-use crate::answers::limits_of;
+use crate::answers::limits_in;
 use crate::changes::encoding_of;
 use crate::codes::{
-    BAD_ENCODING, BAD_FRAME, BAD_LOG, BODY_TOO_LONG, CUT, NOT_OPEN, OK, OUT_OF_MEMORY,
-    OUT_OF_RANGE, TOO_MANY_TURNS,
+    BAD_FRAME, BAD_LOG, BODY_TOO_LONG, CUT, NOT_OPEN, OK, OUT_OF_MEMORY, OUT_OF_RANGE,
+    TOO_MANY_TURNS,
 };
 use lsp_frame::FrameFault;
 use lsp_replay::{EngineFault, Missing, Outcome, Settings};
@@ -64,16 +64,8 @@ pub(crate) fn log_settings_of(settings: &LogSettings) -> Result<Settings, u32>
     ensures ok { IfOk result (λ taken. log_asked settings.now ≡ Ok taken) }
     ensures error { IfErr result (λ code. log_asked settings.now ≡ Err code) }
 {
-    let Some(encoding) = encoding_of(settings.encoding) else {
-        return Err(BAD_ENCODING);
-    };
-    let limits = limits_of(
-        settings.max_body,
-        settings.max_text,
-        settings.max_docs,
-        settings.max_changes,
-        settings.lenient,
-    )?;
+    let encoding = encoding_of(settings.encoding)?;
+    let limits = limits_in!(settings)?;
     Ok(Settings {
         limits,
         encoding,

@@ -1,31 +1,28 @@
 //! The functions on either end of a session.
 
 ghost use Rattle.std.specs.Prelude.{◌≡◌, ◌≢◌, IsOkAnd, None, Some};
-ghost use Rattle.laspidru.specs.declared.party.Party.TheVariants.{Client as ClientOf};
-ghost use Rattle.laspidru.specs.declared.party.Party.TheVariants.{Server as ServerOf};
 ghost use Rattle.laspidru.specs.Codes.{IsAnswer, IsAnswerOrNoMemory, IsRefusedOr, OnRefused};
 ghost use Rattle.laspidru.specs.Ends.{IsHandled, IsHandledBy, IsState, agreed_encoding, as_end};
 ghost use Rattle.laspidru.specs.Ends.{as_framing, closed, deaf, frame_asked, handling_of};
 ghost use Rattle.laspidru.specs.Ends.{listening, party_phase, party_reason, session_over, store_in};
-ghost use Rattle.laspidru.specs.Ends.{stored_end, stored_framing};
 ghost use Rattle.laspidru.specs.Framers.{IsBodyAnswer};
-ghost use Rattle.laspidru.specs.Objects.{IsCopy, rest_asked};
+ghost use Rattle.laspidru.specs.Objects.{IsCopy, in_handle, rest_asked};
 ghost use Rattle.laspidru.specs.Taking.{IsTaken};
 
 use crate::answers::{Answer, State, answer_of, reply_of};
 use crate::bytes::copy_from;
-use crate::codes::{EMPTY, ENDED, OK, OTHER_KIND, OUT_OF_MEMORY, WRONG_PHASE};
+use crate::codes::{ENDED, OK, OTHER_KIND, OUT_OF_MEMORY, WRONG_PHASE};
 use crate::end::End;
 use crate::framer::copy_body;
-use crate::handle::Handle;
+use crate::handle::{Handle, with_object};
 use crate::object::Object;
 use crate::party::Party;
 use crate::reports::{
     call_code_of, delivered_answer, frame_of, number_of, phase_of, server_phase_of,
 };
 use crate::taken::Taken;
-use lsp_client::{Client, Phase as ClientPhase};
-use lsp_server::{Phase, Server, ServerFault};
+use lsp_client::Phase as ClientPhase;
+use lsp_server::{Phase, ServerFault};
 use lsp_store::Store;
 use lsp_text::Encoding;
 use std::alloc::Global;
@@ -39,6 +36,21 @@ pub(crate) fn store_of(party: &Party) -> &Store
         Party::Client(client) => client.store(),
     }
 }
+
+/// Computes a code with an open document of the end in a handle, as `with_object` does. The code is
+/// NOT_OPEN if no document of the URI is open.
+macro_rules! with_open {
+    ($handle:ident, $alloc:ident, $uri:ident, |$document:ident| $code:expr) => {
+        $crate::handle::with_object!($handle, $alloc, $crate::object::Object::End(held) => {
+            match $crate::ends::store_of(&held.party).get($uri) {
+                Some($document) => $code,
+                None => $crate::codes::NOT_OPEN,
+            }
+        })
+    };
+}
+
+pub(crate) use with_open;
 
 /// Returns the encoding of positions that was agreed on.
 fn encoding_of_session(party: &Party) -> Option<Encoding>
@@ -93,53 +105,8 @@ fn closed_code(party: &Party) -> Option<u32>
     }
 }
 
-/// Handles a body by a server.
-fn serve(
-    alloc: Global,
-    server: &mut Server,
-    body: &[u8],
-    frame: &mut Vec<u8>,
-    out: &mut Answer,
-) -> u32
-    ensures answer { IsAnswerOrNoMemory (handling_of (ServerOf server.old) body.now) result
-        (IsHandledBy (ServerOf server.new) frame.new.items result out.new) }
-    ensures unchanged { result ≢ OK
-        → (server.new ≡ server.old) × (frame.new ≡ frame.old) × (out.new ≡ out.old) }
-{
-    let answer = match server.handle(body) {
-        Ok(answer) => answer,
-        Err(ServerFault::AlreadyEnded) => return ENDED,
-        Err(ServerFault::NoMemory) => return OUT_OF_MEMORY,
-    };
-    *out = answer_of(&answer);
-    *frame = reply_of(alloc, answer);
-    OK
-}
-
-/// Handles a body by a client.
-#[tactic(auto, using(crate::proofs::Bodies::delivered, crate::proofs::Bodies::delivery_refused))]
-fn hear(
-    alloc: Global,
-    client: &mut Client,
-    body: &[u8],
-    frame: &mut Vec<u8>,
-    out: &mut Answer,
-) -> u32
-    ensures answer { IsAnswerOrNoMemory (handling_of (ClientOf client.old) body.now) result
-        (IsHandledBy (ClientOf client.new) frame.new.items result out.new) }
-    ensures unchanged { result ≢ OK
-        → (client.new ≡ client.old) × (frame.new ≡ frame.old) × (out.new ≡ out.old) }
-{
-    let delivered = match client.deliver(body) {
-        Ok(delivered) => delivered,
-        Err(fault) => return call_code_of(fault),
-    };
-    *out = delivered_answer(&delivered);
-    *frame = frame_of(alloc, delivered);
-    OK
-}
-
 /// Handles a body by an end.
+#[tactic(auto, using(crate::proofs::Bodies::delivered, crate::proofs::Bodies::delivery_refused))]
 fn handled(
     alloc: Global,
     party: &mut Party,
@@ -153,8 +120,23 @@ fn handled(
         → (party.new ≡ party.old) × (frame.new ≡ frame.old) × (out.new ≡ out.old) }
 {
     match party {
-        Party::Server(server) => serve(alloc, server, body, frame, out),
-        Party::Client(client) => hear(alloc, client, body, frame, out),
+        Party::Server(server) => match server.handle(body) {
+            Ok(answer) => {
+                *out = answer_of(&answer);
+                *frame = reply_of(alloc, answer);
+                OK
+            }
+            Err(ServerFault::AlreadyEnded) => ENDED,
+            Err(ServerFault::NoMemory) => OUT_OF_MEMORY,
+        },
+        Party::Client(client) => match client.deliver(body) {
+            Ok(delivered) => {
+                *out = delivered_answer(&delivered);
+                *frame = frame_of(alloc, delivered);
+                OK
+            }
+            Err(fault) => call_code_of(fault),
+        },
     }
 }
 
@@ -173,12 +155,12 @@ fn object_deliver(alloc: Global, object: &mut Object, body: &[u8], out: &mut Ans
 }
 
 /// Handles the body of a message of the other end (LSP 3.17, Base Protocol). The answer is that of
-/// [`Server::handle`], or of [`Client::deliver`], and the end keeps the frame that is to be sent
+/// `Server::handle`, or of `Client::deliver`, and the end keeps the frame that is to be sent
 /// until the next message or call.
 ///
 /// Codes, in this order: EMPTY, OTHER_KIND; ENDED of a server, WRONG_PHASE of a client;
-/// OUT_OF_MEMORY, after which the body may be passed again. Costs [`Server::handle`], or
-/// [`Client::deliver`].
+/// OUT_OF_MEMORY, after which the body may be passed again. Costs `Server::handle`, or
+/// `Client::deliver`.
 #[unsafe(no_mangle)]
 pub extern "C" fn laspidru_deliver(
     alloc: Global,
@@ -186,18 +168,15 @@ pub extern "C" fn laspidru_deliver(
     body: &[u8],
     out: &mut Answer,
 ) -> u32
-    ensures answer { IsRefusedOr (stored_end handle.old.value) result (λ held.
+    ensures answer { IsRefusedOr (in_handle as_end handle.old.value) result (λ held.
         IsAnswerOrNoMemory (handling_of held.party body.now) result
         (IsHandled held result handle.new.value out.new)) }
     ensures unchanged { result ≢ OK
         → (handle.new.value ≡ handle.old.value) × (out.new ≡ out.old) }
 {
-    let Some(mut object) = handle.take(alloc) else {
-        return EMPTY;
-    };
-    let code = object_deliver(alloc, &mut object, body, out);
-    handle.put(object);
-    code
+    with_object!(handle, alloc, |object| {
+        object_deliver(alloc, &mut object, body, out)
+    })
 }
 
 /// Takes bytes of a piece, and handles the message that is whole then.
@@ -261,18 +240,15 @@ pub extern "C" fn laspidru_take(
     taken: &mut Taken,
     out: &mut Answer,
 ) -> u32
-    ensures answer { IsRefusedOr (listening (stored_end handle.old.value)) result (λ held.
-        IsOkAnd (stored_end handle.new.value) (λ new.
+    ensures answer { IsRefusedOr (listening (in_handle as_end handle.old.value)) result (λ held.
+        IsOkAnd (in_handle as_end handle.new.value) (λ new.
         IsTaken held piece.now result new taken.new out.old out.new)) }
-    ensures unchanged { OnRefused (listening (stored_end handle.old.value))
+    ensures unchanged { OnRefused (listening (in_handle as_end handle.old.value))
         ((handle.new.value ≡ handle.old.value) × (taken.new ≡ taken.old) × (out.new ≡ out.old)) }
 {
-    let Some(mut object) = handle.take(alloc) else {
-        return EMPTY;
-    };
-    let code = object_take(alloc, &mut object, piece, taken, out);
-    handle.put(object);
-    code
+    with_object!(handle, alloc, |object| {
+        object_take(alloc, &mut object, piece, taken, out)
+    })
 }
 
 /// Copies the body that an end has buffered.
@@ -281,19 +257,6 @@ fn end_body(held: &End, start: usize, out: &mut [u8], copied: &mut usize) -> u32
     ensures unchanged { result ≢ OK → (out.new ≡ out.old) × (copied.new ≡ copied.old) }
 {
     held.stream.copy_body(start, out, copied)
-}
-
-/// Copies the body that an object's framer or end has buffered.
-fn object_body(object: &Object, start: usize, out: &mut [u8], copied: &mut usize) -> u32
-    ensures answer { IsRefusedOr (as_framing object.now) result
-        (λ framing. IsBodyAnswer framing start result out.old out.new copied.new) }
-    ensures unchanged { result ≢ OK → (out.new ≡ out.old) × (copied.new ≡ copied.old) }
-{
-    match object {
-        Object::Framer(framer) => copy_body(framer, start, out, copied),
-        Object::End(held) => end_body(held, start, out, copied),
-        _ => OTHER_KIND,
-    }
 }
 
 /// Copies the bytes of the body of the message that an end took last, or that a framer has
@@ -308,29 +271,16 @@ pub extern "C" fn laspidru_body(
     out: &mut [u8],
     copied: &mut usize,
 ) -> u32
-    ensures answer { IsRefusedOr (stored_framing handle.old.value) result
+    ensures answer { IsRefusedOr (in_handle as_framing handle.old.value) result
         (λ framing. IsBodyAnswer framing start result out.old out.new copied.new) }
     ensures handle { handle.new.value ≡ handle.old.value }
     ensures unchanged { result ≢ OK → (out.new ≡ out.old) × (copied.new ≡ copied.old) }
 {
-    let Some(object) = handle.take(alloc) else {
-        return EMPTY;
-    };
-    let code = object_body(&object, start, out, copied);
-    handle.put(object);
-    code
-}
-
-/// Copies the frame of an object's end.
-fn object_frame(object: &Object, start: usize, out: &mut [u8], copied: &mut usize) -> u32
-    ensures answer { IsAnswer (rest_asked start (frame_asked (as_end object.now))) result
-        (IsCopy out.old out.new copied.new) }
-    ensures unchanged { result ≢ OK → (out.new ≡ out.old) × (copied.new ≡ copied.old) }
-{
-    let Object::End(held) = object else {
-        return OTHER_KIND;
-    };
-    copy_from(&held.frame, start, out, copied)
+    with_object!(handle, alloc, |object| match &*object {
+        Object::Framer(framer) => copy_body(framer, start, out, copied),
+        Object::End(held) => end_body(held, start, out, copied),
+        _ => OTHER_KIND,
+    })
 }
 
 /// Copies the bytes of the frame to send from `start` on, as many as `out` has room for, and
@@ -344,17 +294,14 @@ pub extern "C" fn laspidru_frame(
     out: &mut [u8],
     copied: &mut usize,
 ) -> u32
-    ensures answer { IsAnswer (rest_asked start (frame_asked (stored_end handle.old.value))) result
-        (IsCopy out.old out.new copied.new) }
+    ensures answer { let frame = frame_asked (in_handle as_end handle.old.value) in
+        IsAnswer (rest_asked start frame) result (IsCopy out.old out.new copied.new) }
     ensures handle { handle.new.value ≡ handle.old.value }
     ensures unchanged { result ≢ OK → (out.new ≡ out.old) × (copied.new ≡ copied.old) }
 {
-    let Some(object) = handle.take(alloc) else {
-        return EMPTY;
-    };
-    let code = object_frame(&object, start, out, copied);
-    handle.put(object);
-    code
+    with_object!(handle, alloc, Object::End(held) => {
+        copy_from(&held.frame, start, out, copied)
+    })
 }
 
 /// Returns the state of an end's session.
@@ -370,31 +317,17 @@ fn state_of(party: &Party) -> State
     }
 }
 
-/// Returns the state of an object's end.
-fn object_state(object: &Object, out: &mut State) -> u32
-    ensures answer { IsAnswer (as_end object.now) result (λ held. IsState out.new held.party) }
-    ensures unchanged { result ≢ OK → out.new ≡ out.old }
-{
-    let Object::End(held) = object else {
-        return OTHER_KIND;
-    };
-    *out = state_of(&held.party);
-    OK
-}
-
 /// Returns the phase of the session, the encoding that was agreed on (LSP 3.17,
 /// PositionEncodingKind), and how many documents are open. Codes, in this order: EMPTY, OTHER_KIND.
 #[unsafe(no_mangle)]
 pub extern "C" fn laspidru_session_state(alloc: Global, handle: &mut Handle, out: &mut State) -> u32
-    ensures answer { IsAnswer (stored_end handle.old.value) result
+    ensures answer { IsAnswer (in_handle as_end handle.old.value) result
         (λ held. IsState out.new held.party) }
     ensures handle { handle.new.value ≡ handle.old.value }
     ensures unchanged { result ≢ OK → out.new ≡ out.old }
 {
-    let Some(object) = handle.take(alloc) else {
-        return EMPTY;
-    };
-    let code = object_state(&object, out);
-    handle.put(object);
-    code
+    with_object!(handle, alloc, Object::End(held) => {
+        *out = state_of(&held.party);
+        OK
+    })
 }

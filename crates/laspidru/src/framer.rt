@@ -4,14 +4,14 @@ ghost use Rattle.std.specs.Prelude.{◌≡◌, ◌≢◌, ◌↔◌, IsTrue, IsO
 ghost use Rattle.laspidru.specs.declared.object.Object.TheVariants.{Framer as FramerOf};
 ghost use Rattle.laspidru.specs.Codes.{IsAnswer, IsAnswerOrNoMemory, IsRefusedOr, unless};
 ghost use Rattle.laspidru.specs.Framers.{IsBodyAnswer, IsPieceFed, IsReleased, as_framer};
-ghost use Rattle.laspidru.specs.Framers.{framer_limits, stored_framer};
-ghost use Rattle.laspidru.specs.Objects.{in_use};
+ghost use Rattle.laspidru.specs.Framers.{framer_limits};
+ghost use Rattle.laspidru.specs.Objects.{in_handle, in_use};
 ghost use Rattle.laspidru.specs.Streams.{framing_of};
 
 use crate::answers::limits_of;
 use crate::bytes::copy_from;
-use crate::codes::{BAD_FRAME, EMPTY, IN_USE, NO_MESSAGE, OK, OTHER_KIND, OUT_OF_MEMORY};
-use crate::handle::Handle;
+use crate::codes::{BAD_FRAME, IN_USE, NO_MESSAGE, OK, OTHER_KIND, or_return};
+use crate::handle::{Handle, with_object};
 use crate::object::Object;
 use crate::taken::{Taken, feed};
 use lsp_frame::{Framer, Limits};
@@ -29,21 +29,14 @@ pub extern "C" fn laspidru_framer_new(alloc: Global, handle: &mut Handle, max_bo
     if handle.is_full(alloc) {
         return IN_USE;
     }
-    let limits = match limits_of(
+    let limits = or_return!(limits_of(
         max_body,
         Limits::DEFAULT_TEXT,
         Limits::DEFAULT_DOCS,
         Limits::DEFAULT_CHANGES,
         false,
-    ) {
-        Ok(limits) => limits,
-        Err(code) => return code,
-    };
-    let Ok(object) = Box::new(alloc, Object::Framer(Framer::new(alloc, limits))) else {
-        return OUT_OF_MEMORY;
-    };
-    handle.put(object);
-    OK
+    ));
+    handle.fill(alloc, Object::Framer(Framer::new(alloc, limits)))
 }
 
 /// Feeds a piece of a stream to an object's framer.
@@ -72,18 +65,15 @@ pub extern "C" fn laspidru_framer_feed(
     piece: &[u8],
     out: &mut Taken,
 ) -> u32
-    ensures answer { IsRefusedOr (stored_framer handle.old.value) result
-        (λ framing. IsOkAnd (stored_framer handle.new.value)
+    ensures answer { IsRefusedOr (in_handle as_framer handle.old.value) result
+        (λ framing. IsOkAnd (in_handle as_framer handle.new.value)
         (λ new. IsPieceFed framing piece.now result new out.new)) }
     ensures unchanged { result ≢ OK → result ≢ BAD_FRAME
         → (handle.new.value ≡ handle.old.value) × (out.new ≡ out.old) }
 {
-    let Some(mut object) = handle.take(alloc) else {
-        return EMPTY;
-    };
-    let code = object_feed(&mut object, piece, out);
-    handle.put(object);
-    code
+    with_object!(handle, alloc, |object| {
+        object_feed(&mut object, piece, out)
+    })
 }
 
 /// Copies the body that a framer has buffered.
@@ -114,44 +104,24 @@ fn object_next(object: &mut Object) -> u32
 /// is buffered. Codes, in this order: EMPTY, OTHER_KIND. Takes no memory.
 #[unsafe(no_mangle)]
 pub extern "C" fn laspidru_framer_next(alloc: Global, handle: &mut Handle) -> u32
-    ensures answer { IsAnswer (stored_framer handle.old.value) result
-        (λ framing. IsOkAnd (stored_framer handle.new.value) (λ new. IsReleased framing new)) }
+    ensures answer { IsAnswer (in_handle as_framer handle.old.value) result
+        (λ framing. IsOkAnd (in_handle as_framer handle.new.value) (IsReleased framing)) }
     ensures unchanged { result ≢ OK → handle.new.value ≡ handle.old.value }
 {
-    let Some(mut object) = handle.take(alloc) else {
-        return EMPTY;
-    };
-    let code = object_next(&mut object);
-    handle.put(object);
-    code
-}
-
-/// Returns whether an object's framer has no byte buffered and found no fault.
-fn object_at_rest(object: &Object, out: &mut bool) -> u32
-    ensures answer { IsAnswer (as_framer object.now) result
-        (λ framing. IsTrue out.new ↔ ((framing.buffered ≡ []) × (framing.failed ≡ false))) }
-    ensures unchanged { result ≢ OK → out.new ≡ out.old }
-{
-    let Object::Framer(framer) = object else {
-        return OTHER_KIND;
-    };
-    *out = framer.at_rest();
-    OK
+    with_object!(handle, alloc, |object| object_next(&mut object))
 }
 
 /// Returns whether no byte of a message is buffered and no fault was found, so that the stream may
 /// end here. Codes, in this order: EMPTY, OTHER_KIND.
 #[unsafe(no_mangle)]
 pub extern "C" fn laspidru_framer_at_rest(alloc: Global, handle: &mut Handle, out: &mut bool) -> u32
-    ensures answer { IsAnswer (stored_framer handle.old.value) result
+    ensures answer { IsAnswer (in_handle as_framer handle.old.value) result
         (λ framing. IsTrue out.new ↔ ((framing.buffered ≡ []) × (framing.failed ≡ false))) }
     ensures handle { handle.new.value ≡ handle.old.value }
     ensures unchanged { result ≢ OK → out.new ≡ out.old }
 {
-    let Some(object) = handle.take(alloc) else {
-        return EMPTY;
-    };
-    let code = object_at_rest(&object, out);
-    handle.put(object);
-    code
+    with_object!(handle, alloc, Object::Framer(framer) => {
+        *out = framer.at_rest();
+        OK
+    })
 }

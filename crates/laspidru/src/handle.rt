@@ -1,16 +1,39 @@
 //! A handle: room for an object that C holds.
 
-ghost use Rattle.std.specs.Prelude.{◌≡◌, Option, Some, None, IsSome, option_map};
+ghost use Rattle.std.specs.Prelude.{◌≡◌, ◌≢◌, ◌⊎◌, Option, Some, None, IsSome, option_map};
 ghost use Rattle.std.specs.Option.{is_some};
 ghost use Rattle.laspidru.specs.declared.object.Object.{Object as StoredObject};
 ghost use Rattle.laspidru.specs.inside.Stored.{object_if};
 
+use crate::codes::{OK, OUT_OF_MEMORY};
 use crate::object::Object;
 use crate::raw_box::RawBox;
 use std::alloc::Global;
 use std::marker::{Model, Send};
 use std::mem::replace;
 use std::ptr::null_mut;
+
+/// Takes the object out of a handle, computes a code with it, and puts it back. The code of an empty
+/// handle is EMPTY, and that of an object that the pattern doesn't match is OTHER_KIND. It is no
+/// closure, since a proof doesn't know what a closure that isn't called leaves of `out`.
+macro_rules! with_object {
+    ($handle:ident, $alloc:ident, |$object:ident| $code:expr) => {{
+        let Some(mut $object) = $handle.take($alloc) else {
+            return $crate::codes::EMPTY;
+        };
+        let code = $code;
+        $handle.put($object);
+        code
+    }};
+    ($handle:ident, $alloc:ident, $kind:pat => $code:expr) => {
+        $crate::handle::with_object!($handle, $alloc, |object| match &*object {
+            $kind => $code,
+            _ => $crate::codes::OTHER_KIND,
+        })
+    };
+}
+
+pub(crate) use with_object;
 
 /// A handle: room for an object that C holds. In C an empty handle is all zeros.
 #[repr(C)]
@@ -109,6 +132,20 @@ impl Handle {
         };
         self.put(object);
         true
+    }
+
+    /// Puts an object into an empty handle, unless out of memory.
+    pub(crate) fn fill(&mut self, alloc: Global, object: Object) -> u32
+        requires { self.old.value ≡ None }
+        ensures answer { (result ≡ OUT_OF_MEMORY)
+            ⊎ ((result ≡ OK) × (self.new.value ≡ Some object)) }
+        ensures unchanged { result ≢ OK → self.new.value ≡ None }
+    {
+        let Ok(object) = Box::new(alloc, object) else {
+            return OUT_OF_MEMORY;
+        };
+        self.put(object);
+        OK
     }
 
     /// Puts an object into an empty handle.

@@ -13,11 +13,11 @@
 //!   those on framers; `log`: those on logs; `texts`: the version, what codes mean, and the
 //!   document of a message.
 //! - `server`, `client`: the functions on one end alone, of a client with its lifecycle
-//!   (`lifecycle`) and its calls on documents (`editing`).
+//!   (`lifecycle`), its calls on documents (`editing`), and what both are over (`call`).
 //! - `ends`: the functions on either end; `documents`: those on its open documents, with those on
 //!   positions and lines (`positions`), text edits (`edits`) and canonical messages (`message`).
-//! - `handle`: a handle that C holds, over the pointer of a box (`raw_box`); `object`: the object in
-//!   it; `end`: an end in it, with its last frame and its `stream`; `party`: which end it is.
+//! - `handle`: a handle that C holds, over the pointer of a box (`raw_box`); `object`: the object
+//!   in it; `end`: an end in it, with its last frame and its `stream`; `party`: which end it is.
 //! - `codes`: the codes that the functions return, and `laws` their numbers; `structs`: the plain
 //!   structs that C passes and gets.
 //! - `changes`: a batch as C passes it, and the report of its fault; `bytes`: bytes that C passes
@@ -57,6 +57,7 @@ mod taken;
 mod texts;
 
 pub use answers::{Answer, Opened, Settings, State};
+pub use client::Call;
 pub use codes::{
     ALREADY_OPEN, BAD_ENCODING, BAD_FRAME, BAD_LENGTH, BAD_LOG, BAD_MAX_BODY, BAD_MAX_CHANGES,
     BAD_MAX_DOCS, BAD_MAX_TEXT, BAD_SERVER, BODY_TOO_LONG, CHANGED, CUT, DROPPED, EMPTY, ENDED,
@@ -72,7 +73,7 @@ pub use handle::Handle;
 pub use laws::number_laws;
 pub use object::Object;
 pub use party::Party;
-pub use reports::{Call, ClientSettings};
+pub use reports::ClientSettings;
 pub use structs::{CPosition, Edit, EditsFault, FaultAt, Line, Size};
 pub use taken::Taken;
 pub use texts::VERSION;

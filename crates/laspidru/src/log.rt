@@ -3,14 +3,14 @@
 ghost use Rattle.std.specs.Prelude.{◌≡◌, ◌≢◌, ◌⊎◌, None};
 ghost use Rattle.laspidru.specs.Codes.{IsAnswer, IsAnswerOrNoMemory, unless};
 ghost use Rattle.laspidru.specs.Logs.{IsCommandRun, IsEnded, IsUnlessEnded, RunAsked, as_output};
-ghost use Rattle.laspidru.specs.Logs.{run_asked, stored_output};
-ghost use Rattle.laspidru.specs.Objects.{IsCopy, in_use, rest_asked};
+ghost use Rattle.laspidru.specs.Logs.{run_asked};
+ghost use Rattle.laspidru.specs.Objects.{IsCopy, in_handle, in_use, rest_asked};
 
-use crate::bytes::{copy_from, utf8_text};
-use crate::codes::{EMPTY, IN_USE, NOT_UTF8, OK, OTHER_KIND, OUT_OF_MEMORY, OUT_OF_RANGE};
+use crate::bytes::{checked_text, copy_from};
+use crate::codes::{IN_USE, OK, OUT_OF_MEMORY, OUT_OF_RANGE, or_return};
 use crate::command::{CommandName, CommandRun, command_named, command_of, run_command};
 use crate::endings::{Ending, LogSettings, ending_of, log_settings_of};
-use crate::handle::Handle;
+use crate::handle::{Handle, with_object};
 use crate::object::Object;
 use lsp_replay::Settings;
 use std::alloc::Global;
@@ -25,14 +25,10 @@ fn keep(alloc: Global, handle: &mut Handle, run: CommandRun, out: &mut Ending) -
         ((handle.new.value ≡ handle.old.value) × (out.new ≡ out.old)) }
 {
     let CommandRun { answer, output } = run;
-    let (code, ending) = match ending_of(output.len(), answer) {
-        Ok(ended) => ended,
-        Err(code) => return code,
-    };
-    let Ok(object) = Box::new(alloc, Object::Output(output)) else {
+    let (code, ending) = or_return!(ending_of(output.len(), answer));
+    if handle.fill(alloc, Object::Output(output)) != OK {
         return OUT_OF_MEMORY;
-    };
-    handle.put(object);
+    }
     *out = ending;
     code
 }
@@ -96,26 +92,9 @@ pub extern "C" fn laspidru_log_run(
     let Some(name) = command_named(command) else {
         return OUT_OF_RANGE;
     };
-    let Some(uri) = utf8_text(uri) else {
-        return NOT_UTF8;
-    };
-    let taken = match log_settings_of(settings) {
-        Ok(taken) => taken,
-        Err(code) => return code,
-    };
+    let uri = or_return!(checked_text(uri));
+    let taken = or_return!(log_settings_of(settings));
     run_into(alloc, handle, name, taken, settings, uri, log, out)
-}
-
-/// Copies an object's output.
-fn object_output(object: &Object, start: usize, out: &mut [u8], copied: &mut usize) -> u32
-    ensures answer { IsAnswer (rest_asked start (as_output object.now)) result
-        (IsCopy out.old out.new copied.new) }
-    ensures unchanged { result ≢ OK → (out.new ≡ out.old) × (copied.new ≡ copied.old) }
-{
-    let Object::Output(output) = object else {
-        return OTHER_KIND;
-    };
-    copy_from(output, start, out, copied)
 }
 
 /// Copies the bytes of a command's output, or of a canonical message's frame, from `start` on, as
@@ -129,15 +108,10 @@ pub extern "C" fn laspidru_output_copy(
     out: &mut [u8],
     copied: &mut usize,
 ) -> u32
-    ensures answer { IsAnswer (rest_asked start (stored_output handle.old.value)) result
+    ensures answer { IsAnswer (rest_asked start (in_handle as_output handle.old.value)) result
         (IsCopy out.old out.new copied.new) }
     ensures handle { handle.new.value ≡ handle.old.value }
     ensures unchanged { result ≢ OK → (out.new ≡ out.old) × (copied.new ≡ copied.old) }
 {
-    let Some(object) = handle.take(alloc) else {
-        return EMPTY;
-    };
-    let code = object_output(&object, start, out, copied);
-    handle.put(object);
-    code
+    with_object!(handle, alloc, Object::Output(output) => copy_from(output, start, out, copied))
 }

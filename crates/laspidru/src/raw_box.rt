@@ -1,5 +1,5 @@
-//! A box as its raw pointer, which still owns the value: a handle of C holds such a pointer. The value
-//! is the same before and after, and of a `RawBox` at most one box can be made.
+//! A box as its raw pointer, which still owns the value: a handle of C holds such a pointer. The
+//! value is the same before and after, and of a `RawBox` at most one box can be made.
 
 ghost use Rattle.std.specs.Prelude.{◌≡◌};
 ghost use Rattle.std_alloc.specs.Box.Ownership.{box_owns};

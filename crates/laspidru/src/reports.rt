@@ -3,8 +3,8 @@
 ghost use Rattle.std.specs.Prelude.{◌≡◌, ◌≢◌, Err, IfErr, IfOk, Ok, OnErr, length};
 ghost use Rattle.lsp_client.specs.Seen.{delivered_view};
 ghost use Rattle.laspidru.specs.Servers.{store_code};
-ghost use Rattle.laspidru.specs.Clients.{IsStoreReport, delivered_out, phase_number};
-ghost use Rattle.laspidru.specs.Clients.{phase_reason, reason_number, sent_frame};
+ghost use Rattle.laspidru.specs.Clients.{IsStoreReport, delivered_out, phase_number, phase_reason};
+ghost use Rattle.laspidru.specs.Clients.{reason_number, sent_frame};
 ghost use Rattle.laspidru.specs.Ends.{encoding_number, server_phase};
 ghost use Rattle.laspidru.specs.inside.Clients.{IsCallReport, call_code};
 
@@ -33,14 +33,6 @@ pub struct ClientSettings {
     pub utf8: bool,
     pub utf32: bool,
     pub lenient: bool,
-}
-
-/// A call of the session's lifecycle.
-#[derive(Clone, Copy, Debug, PartialEq, Eq)]
-pub enum Call {
-    Start,
-    Shutdown,
-    Exit,
 }
 
 /// Returns the code of a refused call.

@@ -7,7 +7,7 @@ ghost use Rattle.laspidru.specs.Objects.{in_use};
 ghost use Rattle.laspidru.specs.Servers.{config_asked, server_end};
 
 use crate::answers::{Settings, config_of};
-use crate::codes::{IN_USE, OK, OUT_OF_MEMORY};
+use crate::codes::{IN_USE, OK, or_return};
 use crate::end::End;
 use crate::handle::Handle;
 use crate::object::Object;
@@ -32,19 +32,12 @@ pub extern "C" fn laspidru_server_new(
     if handle.is_full(alloc) {
         return IN_USE;
     }
-    let config = match config_of(settings) {
-        Ok(config) => config,
-        Err(code) => return code,
-    };
+    let config = or_return!(config_of(settings));
     let limits = config.limits;
     let held = End {
         party: Party::Server(Server::new(alloc, config)),
         frame: Vec::new(alloc),
         stream: Stream::new(alloc, limits),
     };
-    let Ok(object) = Box::new(alloc, Object::End(held)) else {
-        return OUT_OF_MEMORY;
-    };
-    handle.put(object);
-    OK
+    handle.fill(alloc, Object::End(held))
 }

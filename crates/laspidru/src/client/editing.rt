@@ -1,97 +1,25 @@
 //! The calls that open, change and close a client's documents.
 
-ghost use Rattle.std.specs.Prelude.{◌≡◌, ◌≢◌, IfErr, IfOk, None, OnErr, Some, Err, Ok};
-ghost use Rattle.std.specs.Prelude.{string_bytes};
+ghost use Rattle.std.specs.Prelude.{◌≡◌, ◌≢◌, IfErr, IfOk, None, OnErr, Some};
 ghost use Rattle.lsp_client.specs.Seen.{IsFaultOf, IsSent};
 ghost use Rattle.lsp_client.specs.Step.{call_result, closes, orders};
 ghost use Rattle.laspidru.specs.Batches.{refused_edit};
-ghost use Rattle.laspidru.specs.Clients.{IsCalled, IsWritten, as_client, edit_asked, open_asked};
-ghost use Rattle.laspidru.specs.Clients.{opening_asked, stored_client};
+ghost use Rattle.laspidru.specs.Clients.{IsCallOn, IsWritten, as_client, edit_asked, open_asked};
+ghost use Rattle.laspidru.specs.Clients.{opening_asked};
 ghost use Rattle.laspidru.specs.Codes.{IsRefusedOr, both, unless};
-ghost use Rattle.laspidru.specs.Objects.{uri_asked};
+ghost use Rattle.laspidru.specs.Objects.{in_handle, uri_asked};
 
-use crate::bytes::utf8_text;
+use crate::bytes::checked_text;
 use crate::changes::{changes_of, refusal_of};
-use crate::codes::{EMPTY, INSIDE_CHARACTER, NOT_UTF8, OK, OTHER_KIND, REVERSED_RANGE};
-use crate::handle::Handle;
+use crate::client::call::{Call, make_call};
+use crate::codes::{INSIDE_CHARACTER, OK, OTHER_KIND, REVERSED_RANGE, or_return};
+use crate::handle::{Handle, with_object};
 use crate::object::Object;
 use crate::party::Party;
-use crate::reports::{keep_frame, report_call};
+use crate::reports::report_call;
 use crate::structs::{Edit, FaultAt};
 use lsp_client::{Client, ClientFault, Phase};
-use std::alloc::{AllocError, Global};
-
-/// The three texts of a document, each in a string of its own.
-#[derive(Drop)]
-struct Texts {
-    uri: String,
-    language: String,
-    text: String,
-}
-
-/// Copies the texts of a document that is to be opened.
-fn texts_of(alloc: Global, uri: &str, language: &str, text: &str) -> Result<Texts, AllocError>
-    ensures { IfOk result (λ texts. (string_bytes texts.uri ≡ uri.now)
-        × (string_bytes texts.language ≡ language.now) × (string_bytes texts.text ≡ text.now)) }
-{
-    Ok(Texts {
-        uri: uri.to_string(alloc)?,
-        language: language.to_string(alloc)?,
-        text: text.to_string(alloc)?,
-    })
-}
-
-/// Opens a document of a client in phase Ready.
-fn opened(
-    alloc: Global,
-    client: &mut Client,
-    uri: &str,
-    language: &str,
-    version: i32,
-    text: &str,
-) -> Result<Vec<u8>, ClientFault>
-    ensures ok { IfOk result (λ frame.
-        IsSent (call_result client.old
-        (orders (open_asked uri.now language.now version text.now))) frame.items client.new) }
-    ensures unchanged { OnErr result (client.new ≡ client.old) }
-    ensures error { IfErr result (IsFaultOf (call_result client.old
-        (orders (open_asked uri.now language.now version text.now)))) }
-{
-    match client.phase() {
-        Phase::Ready => {
-            let texts = texts_of(alloc, uri, language, text)?;
-            client.open(texts.uri, texts.language, version, texts.text)
-        }
-        phase => Err(ClientFault::WrongPhase { phase }),
-    }
-}
-
-/// Opens a document by an object's client.
-#[tactic(auto, using(crate::proofs::Calls::accepted, crate::proofs::Calls::call_refused))]
-fn object_open(
-    alloc: Global,
-    object: &mut Object,
-    uri: &str,
-    language: &str,
-    version: i32,
-    text: &str,
-    len: &mut usize,
-) -> u32
-    ensures answer { IsRefusedOr (as_client object.old) result (λ asked.
-        IsCalled asked.stream (call_result asked.client
-        (orders (open_asked uri.now language.now version text.now))) result (Some object.new)
-        len.new) }
-    ensures unchanged { result ≢ OK → (object.new ≡ object.old) × (len.new ≡ len.old) }
-{
-    let Object::End(held) = object else {
-        return OTHER_KIND;
-    };
-    let Party::Client(client) = &mut held.party else {
-        return OTHER_KIND;
-    };
-    let answer = opened(alloc, client, uri, language, version, text);
-    keep_frame(&mut held.frame, answer, len)
-}
+use std::alloc::Global;
 
 /// Opens a document: the frame of `textDocument/didOpen` is to be sent (LSP 3.17,
 /// DidOpenTextDocument). Codes, in this order: NOT_UTF8, EMPTY, OTHER_KIND, WRONG_PHASE; then
@@ -107,27 +35,17 @@ pub extern "C" fn laspidru_client_open(
     text: &[u8],
     len: &mut usize,
 ) -> u32
-    ensures answer { IsRefusedOr
-        (both (opening_asked uri.now language.now text.now) (stored_client handle.old.value)) result
-        (λ asked. IsCalled asked.1.stream (call_result asked.1.client
-        (orders (open_asked asked.0.uri asked.0.language version asked.0.text))) result
+    ensures answer { IsRefusedOr (opening_asked uri.now language.now text.now) result (λ asked.
+        IsCallOn (in_handle as_client handle.old.value)
+        (orders (open_asked asked.uri asked.language version asked.text)) result
         handle.new.value len.new) }
     ensures unchanged { result ≢ OK
         → (handle.new.value ≡ handle.old.value) × (len.new ≡ len.old) }
 {
-    let (Some(uri), Some(language), Some(text)) = (
-        utf8_text(uri),
-        utf8_text(language),
-        utf8_text(text),
-    ) else {
-        return NOT_UTF8;
-    };
-    let Some(mut object) = handle.take(alloc) else {
-        return EMPTY;
-    };
-    let code = object_open(alloc, &mut object, uri, language, version, text, len);
-    handle.put(object);
-    code
+    let uri = or_return!(checked_text(uri));
+    let language = or_return!(checked_text(language));
+    let text = or_return!(checked_text(text));
+    make_call(alloc, handle, Call::Open(uri, language, version, text), len)
 }
 
 /// Changes a document of a client.
@@ -169,10 +87,8 @@ fn object_client_edit(
     len: &mut usize,
 ) -> u32
     requires { refused_edit edits.now texts.now ≡ None }
-    ensures answer { IsRefusedOr (as_client object.old) result (λ asked.
-        IsCalled asked.stream (call_result asked.client
-        (orders (edit_asked uri.now version edits.now texts.now))) result (Some object.new)
-        len.new) }
+    ensures answer { let order = edit_asked uri.now version edits.now texts.now in
+        IsCallOn (as_client object.old) (orders order) result (Some object.new) len.new }
     ensures report { IsRefusedOr (as_client object.old) result (λ asked.
         IsWritten (call_result asked.client
         (orders (edit_asked uri.now version edits.now texts.now))) result fault.new) }
@@ -217,13 +133,12 @@ pub extern "C" fn laspidru_client_edit(
     len: &mut usize,
 ) -> u32
     ensures answer { let client = unless (refused_edit edits.now texts.now)
-        (stored_client handle.old.value) in
-        IsRefusedOr (both (uri_asked uri.now) client) result
-        (λ asked. IsCalled asked.1.stream (call_result asked.1.client
-        (orders (edit_asked asked.0 version edits.now texts.now))) result handle.new.value
-        len.new) }
+        (in_handle as_client handle.old.value) in
+        IsRefusedOr (uri_asked uri.now) result (λ named.
+        IsCallOn client (orders (edit_asked named version edits.now texts.now)) result
+        handle.new.value len.new) }
     ensures report { let client = unless (refused_edit edits.now texts.now)
-        (stored_client handle.old.value) in
+        (in_handle as_client handle.old.value) in
         IsRefusedOr (both (uri_asked uri.now) client) result
         (λ asked. IsWritten (call_result asked.1.client
         (orders (edit_asked asked.0 version edits.now texts.now))) result fault.new) }
@@ -231,36 +146,13 @@ pub extern "C" fn laspidru_client_edit(
         → (handle.new.value ≡ handle.old.value) × (len.new ≡ len.old) }
     ensures fault { result ≢ INSIDE_CHARACTER → result ≢ REVERSED_RANGE → fault.new ≡ fault.old }
 {
-    let Some(uri) = utf8_text(uri) else {
-        return NOT_UTF8;
-    };
+    let uri = or_return!(checked_text(uri));
     if let Some(code) = refusal_of(edits, texts) {
         return code;
     }
-    let Some(mut object) = handle.take(alloc) else {
-        return EMPTY;
-    };
-    let code = object_client_edit(alloc, &mut object, uri, version, edits, texts, fault, len);
-    handle.put(object);
-    code
-}
-
-/// Closes a document by an object's client.
-#[tactic(auto, using(crate::proofs::Calls::accepted, crate::proofs::Calls::call_refused))]
-fn object_client_close(object: &mut Object, uri: &str, len: &mut usize) -> u32
-    ensures answer { IsRefusedOr (as_client object.old) result (λ asked.
-        IsCalled asked.stream (call_result asked.client (orders (closes uri.now))) result
-        (Some object.new) len.new) }
-    ensures unchanged { result ≢ OK → (object.new ≡ object.old) × (len.new ≡ len.old) }
-{
-    let Object::End(held) = object else {
-        return OTHER_KIND;
-    };
-    let Party::Client(client) = &mut held.party else {
-        return OTHER_KIND;
-    };
-    let answer = client.close(uri);
-    keep_frame(&mut held.frame, answer, len)
+    with_object!(handle, alloc, |object| {
+        object_client_edit(alloc, &mut object, uri, version, edits, texts, fault, len)
+    })
 }
 
 /// Closes a document: the frame of `textDocument/didClose` is to be sent (LSP 3.17,
@@ -274,19 +166,12 @@ pub extern "C" fn laspidru_client_close(
     uri: &[u8],
     len: &mut usize,
 ) -> u32
-    ensures answer { IsRefusedOr (both (uri_asked uri.now) (stored_client handle.old.value)) result
-        (λ asked. IsCalled asked.1.stream (call_result asked.1.client (orders (closes asked.0)))
-        result handle.new.value len.new) }
+    ensures answer { IsRefusedOr (uri_asked uri.now) result (λ named.
+        IsCallOn (in_handle as_client handle.old.value) (orders (closes named)) result
+        handle.new.value len.new) }
     ensures unchanged { result ≢ OK
         → (handle.new.value ≡ handle.old.value) × (len.new ≡ len.old) }
 {
-    let Some(uri) = utf8_text(uri) else {
-        return NOT_UTF8;
-    };
-    let Some(mut object) = handle.take(alloc) else {
-        return EMPTY;
-    };
-    let code = object_client_close(&mut object, uri, len);
-    handle.put(object);
-    code
+    let uri = or_return!(checked_text(uri));
+    make_call(alloc, handle, Call::Close(uri), len)
 }

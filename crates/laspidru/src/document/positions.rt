@@ -1,30 +1,17 @@
 //! The functions on positions and lines of a document.
 
-ghost use Rattle.std.specs.Prelude.{◌≡◌, ◌≢◌, Ok};
+ghost use Rattle.std.specs.Prelude.{◌≡◌, ◌≢◌};
 ghost use Rattle.laspidru.specs.Codes.{IsAnswer, IsRefusedOr, both};
 ghost use Rattle.laspidru.specs.Objects.{IsLineExtent, IsPositionAt, as_document, encoding_at};
-ghost use Rattle.laspidru.specs.Objects.{line_asked, offset_asked, position_at, stored_document};
+ghost use Rattle.laspidru.specs.Objects.{in_handle, line_asked, offset_asked, position_at};
 
 use crate::changes::encoding_of;
-use crate::codes::{BAD_ENCODING, EMPTY, OK, OTHER_KIND};
-use crate::handle::Handle;
+use crate::codes::{OK, or_return};
+use crate::handle::{Handle, with_object};
 use crate::object::Object;
 use crate::positions::{text_line, text_offset, text_position};
 use crate::structs::{CPosition, Line};
-use lsp_text::Encoding;
 use std::alloc::Global;
-
-/// Returns where a line of an object's text starts and ends.
-fn object_line(object: &Object, line: u32, out: &mut Line) -> u32
-    ensures answer { IsAnswer (line_asked line (as_document object.now)) result
-        (IsLineExtent line out.new) }
-    ensures unchanged { result ≢ OK → out.new ≡ out.old }
-{
-    let Object::Document(document) = object else {
-        return OTHER_KIND;
-    };
-    text_line(document.text(), line, out)
-}
 
 /// Returns the byte offsets at which a line starts, and at which it ends without its line end.
 /// Codes, in this order: EMPTY, OTHER_KIND, OUT_OF_RANGE. Costs two binary searches.
@@ -35,30 +22,14 @@ pub extern "C" fn laspidru_document_line(
     line: u32,
     out: &mut Line,
 ) -> u32
-    ensures answer { IsAnswer (line_asked line (stored_document handle.old.value)) result
+    ensures answer { IsAnswer (line_asked line (in_handle as_document handle.old.value)) result
         (IsLineExtent line out.new) }
     ensures handle { handle.new.value ≡ handle.old.value }
     ensures unchanged { result ≢ OK → out.new ≡ out.old }
 {
-    let Some(object) = handle.take(alloc) else {
-        return EMPTY;
-    };
-    let code = object_line(&object, line, out);
-    handle.put(object);
-    code
-}
-
-/// Returns the byte offset that a position denotes in an object's text.
-fn object_offset(object: &Object, encoding: Encoding, position: CPosition, out: &mut usize) -> u32
-    ensures answer { IsAnswer
-        (offset_asked (position_at position) (Ok encoding) (as_document object.now)) result
-        (λ offset. out.new ≡ offset) }
-    ensures unchanged { result ≢ OK → out.new ≡ out.old }
-{
-    let Object::Document(document) = object else {
-        return OTHER_KIND;
-    };
-    text_offset(document.text(), encoding, position, out)
+    with_object!(handle, alloc, Object::Document(document) => {
+        text_line(document.text(), line, out)
+    })
 }
 
 /// Returns the byte offset that a position denotes (LSP 3.17, Position). After the last line that
@@ -73,33 +44,16 @@ pub extern "C" fn laspidru_document_offset(
     position: CPosition,
     out: &mut usize,
 ) -> u32
-    ensures answer { let document = stored_document handle.old.value in IsAnswer
+    ensures answer { let document = in_handle as_document handle.old.value in IsAnswer
         (offset_asked (position_at position) (encoding_at encoding) document) result
         (λ offset. out.new ≡ offset) }
     ensures handle { handle.new.value ≡ handle.old.value }
     ensures unchanged { result ≢ OK → out.new ≡ out.old }
 {
-    let Some(encoding) = encoding_of(encoding) else {
-        return BAD_ENCODING;
-    };
-    let Some(object) = handle.take(alloc) else {
-        return EMPTY;
-    };
-    let code = object_offset(&object, encoding, position, out);
-    handle.put(object);
-    code
-}
-
-/// Returns the exact position of a byte offset in an object's text.
-fn object_position(object: &Object, encoding: Encoding, offset: usize, out: &mut CPosition) -> u32
-    ensures answer { IsRefusedOr (as_document object.now) result
-        (λ text. IsPositionAt offset encoding text result out.new) }
-    ensures unchanged { result ≢ OK → out.new ≡ out.old }
-{
-    let Object::Document(document) = object else {
-        return OTHER_KIND;
-    };
-    text_position(document.text(), encoding, offset, out)
+    let encoding = or_return!(encoding_of(encoding));
+    with_object!(handle, alloc, Object::Document(document) => {
+        text_offset(document.text(), encoding, position, out)
+    })
 }
 
 /// Returns the exact position of a byte offset. Codes, in this order: BAD_ENCODING, EMPTY,
@@ -115,18 +69,13 @@ pub extern "C" fn laspidru_document_position(
     out: &mut CPosition,
 ) -> u32
     ensures answer { IsRefusedOr
-        (both (encoding_at encoding) (stored_document handle.old.value)) result
+        (both (encoding_at encoding) (in_handle as_document handle.old.value)) result
         (λ asked. IsPositionAt offset asked.0 asked.1 result out.new) }
     ensures handle { handle.new.value ≡ handle.old.value }
     ensures unchanged { result ≢ OK → out.new ≡ out.old }
 {
-    let Some(encoding) = encoding_of(encoding) else {
-        return BAD_ENCODING;
-    };
-    let Some(object) = handle.take(alloc) else {
-        return EMPTY;
-    };
-    let code = object_position(&object, encoding, offset, out);
-    handle.put(object);
-    code
+    let encoding = or_return!(encoding_of(encoding));
+    with_object!(handle, alloc, Object::Document(document) => {
+        text_position(document.text(), encoding, offset, out)
+    })
 }

@@ -1,31 +1,30 @@
 //! The function on canonical messages of an end's open documents.
 
-ghost use Rattle.std.specs.Prelude.{◌≡◌, ◌≢◌, None};
+ghost use Rattle.std.specs.Prelude.{◌≡◌, ◌≢◌, ◌⊎◌, None};
 ghost use Rattle.laspidru.specs.Batches.{edits_of, refused_edit};
 ghost use Rattle.laspidru.specs.Codes.{IsAnswerOrNoMemory, unless};
-ghost use Rattle.laspidru.specs.Ends.{as_end, store_in, stored_end};
-ghost use Rattle.laspidru.specs.Messages.{IsMessageLeft, canonical_message_of, message_asked};
-ghost use Rattle.laspidru.specs.Objects.{in_use};
+ghost use Rattle.laspidru.specs.Ends.{as_end};
+ghost use Rattle.laspidru.specs.Messages.{IsMessageLeft, MessageAsked, canonical_message_of};
+ghost use Rattle.laspidru.specs.Messages.{message_asked};
+ghost use Rattle.laspidru.specs.Objects.{in_handle, in_use};
 
-use crate::bytes::utf8_text;
-use crate::changes::{changes_of, encoding_of, refusal_of};
-use crate::codes::{
-    BAD_ENCODING, EMPTY, IN_USE, INSIDE_CHARACTER, NOT_UTF8, OK, OTHER_KIND, OUT_OF_MEMORY,
-    REVERSED_RANGE,
-};
+use crate::bytes::checked_text;
+use crate::changes::{changes_of, edits_encoding_of};
+use crate::codes::{IN_USE, INSIDE_CHARACTER, OK, OUT_OF_MEMORY, REVERSED_RANGE, or_return};
 use crate::ends::store_of;
-use crate::handle::Handle;
+use crate::handle::{Handle, with_object};
 use crate::object::Object;
 use crate::reports::report_store;
 use crate::structs::{Edit, FaultAt};
+use lsp_store::Store;
 use lsp_text::Encoding;
 use std::alloc::Global;
 
-/// Puts the canonical message of a batch on a document of an object's end into an empty handle.
+/// Puts the canonical message of a batch on an open document into an empty handle.
 #[tactic(auto, using(crate::proofs::Written::message_refused))]
-fn object_message(
+fn put_message(
     alloc: Global,
-    object: &Object,
+    store: &Store,
     uri: &str,
     version: i32,
     encoding: Encoding,
@@ -37,35 +36,30 @@ fn object_message(
 ) -> u32
     requires checked { refused_edit edits.now texts.now ≡ None }
     requires empty { output.old.value ≡ None }
-    ensures answer { IsAnswerOrNoMemory (as_end object.now) result (λ held.
-        IsMessageLeft (canonical_message_of (record {
-          store = store_in held.party;
-          uri = uri.now;
-          version = version;
-          encoding = encoding;
-          edits = edits_of edits.now texts.now;
-        })) result output.new.value len.new fault.new) }
+    ensures answer { let asked : MessageAsked = record {
+      store = store.now;
+      uri = uri.now;
+      version = version;
+      encoding = encoding;
+      edits = edits_of edits.now texts.now;
+    } in (result ≡ OUT_OF_MEMORY)
+        ⊎ IsMessageLeft (canonical_message_of asked) result output.new.value len.new fault.new }
     ensures unchanged { result ≢ OK → (output.new.value ≡ None) × (len.new ≡ len.old) }
     ensures fault { result ≢ INSIDE_CHARACTER → result ≢ REVERSED_RANGE → fault.new ≡ fault.old }
 {
-    let Object::End(held) = object else {
-        return OTHER_KIND;
-    };
     let Ok(changes) = changes_of(alloc, edits, texts) else {
         return OUT_OF_MEMORY;
     };
-    let store = store_of(&held.party);
     let frame = match store.canonical_message(uri, version, encoding, &changes) {
         Ok(frame) => frame,
         Err(error) => return report_store(error, fault),
     };
     let count = frame.len();
-    let Ok(object) = Box::new(alloc, Object::Output(frame)) else {
-        return OUT_OF_MEMORY;
-    };
-    output.put(object);
-    *len = count;
-    OK
+    let code = output.fill(alloc, Object::Output(frame));
+    if code == OK {
+        *len = count;
+    }
+    code
 }
 
 /// Puts the frame of the canonical message of a batch on an open document into an empty handle (LSP
@@ -91,7 +85,7 @@ pub extern "C" fn laspidru_open_canonical_message(
     len: &mut usize,
 ) -> u32
     ensures answer { let held =
-        unless (in_use output.old.value) (stored_end handle.old.value) in
+        unless (in_use output.old.value) (in_handle as_end handle.old.value) in
         IsAnswerOrNoMemory (message_asked uri.now version encoding edits.now texts.now held)
         result
         (λ asked. IsMessageLeft (canonical_message_of asked) result
@@ -101,24 +95,13 @@ pub extern "C" fn laspidru_open_canonical_message(
         → (output.new.value ≡ output.old.value) × (len.new ≡ len.old) }
     ensures fault { result ≢ INSIDE_CHARACTER → result ≢ REVERSED_RANGE → fault.new ≡ fault.old }
 {
-    let Some(uri) = utf8_text(uri) else {
-        return NOT_UTF8;
-    };
-    let Some(encoding) = encoding_of(encoding) else {
-        return BAD_ENCODING;
-    };
-    if let Some(code) = refusal_of(edits, texts) {
-        return code;
-    }
+    let uri = or_return!(checked_text(uri));
+    let encoding = or_return!(edits_encoding_of(encoding, edits, texts));
     if output.is_full(alloc) {
         return IN_USE;
     }
-    let Some(object) = handle.take(alloc) else {
-        return EMPTY;
-    };
-    let code = object_message(
-        alloc, &object, uri, version, encoding, edits, texts, output, fault, len,
-    );
-    handle.put(object);
-    code
+    with_object!(handle, alloc, Object::End(held) => {
+        let store = store_of(&held.party);
+        put_message(alloc, store, uri, version, encoding, edits, texts, output, fault, len)
+    })
 }

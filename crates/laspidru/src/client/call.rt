@@ -1,0 +1,118 @@
+//! A call of a client.
+
+ghost use Rattle.std.specs.Prelude.{◌≡◌, ◌≢◌, IfErr, IfOk, OnErr, Some, string_bytes};
+ghost use Rattle.lsp_client.specs.Seen.{IsFaultOf, IsSent};
+ghost use Rattle.lsp_client.specs.Step.{call_result, orders};
+ghost use Rattle.laspidru.specs.Clients.{IsCallOn, as_client, open_asked};
+ghost use Rattle.laspidru.specs.inside.Calls.{call_made};
+ghost use Rattle.laspidru.specs.Objects.{in_handle};
+
+use crate::codes::{OK, OTHER_KIND};
+use crate::handle::{Handle, with_object};
+use crate::object::Object;
+use crate::party::Party;
+use crate::reports::keep_frame;
+use lsp_client::{Client, ClientFault, Phase};
+use std::alloc::{AllocError, Global};
+
+/// A call of a client, other than a change of a document.
+#[derive(Clone, Copy)]
+pub enum Call<'a> {
+    Start,
+    Shutdown,
+    Exit,
+    Open(&'a str, &'a str, i32, &'a str),
+    Close(&'a str),
+}
+
+/// The three texts of a document, each in a string of its own.
+#[derive(Drop)]
+struct Texts {
+    uri: String,
+    language: String,
+    text: String,
+}
+
+/// Copies the texts of a document that is to be opened.
+fn texts_of(alloc: Global, uri: &str, language: &str, text: &str) -> Result<Texts, AllocError>
+    ensures { IfOk result (λ texts. (string_bytes texts.uri ≡ uri.now)
+        × (string_bytes texts.language ≡ language.now) × (string_bytes texts.text ≡ text.now)) }
+{
+    Ok(Texts {
+        uri: uri.to_string(alloc)?,
+        language: language.to_string(alloc)?,
+        text: text.to_string(alloc)?,
+    })
+}
+
+/// Opens a document of a client in phase Ready.
+fn opened(
+    alloc: Global,
+    client: &mut Client,
+    uri: &str,
+    language: &str,
+    version: i32,
+    text: &str,
+) -> Result<Vec<u8>, ClientFault>
+    ensures ok { IfOk result (λ frame.
+        IsSent (call_result client.old
+        (orders (open_asked uri.now language.now version text.now))) frame.items client.new) }
+    ensures unchanged { OnErr result (client.new ≡ client.old) }
+    ensures error { IfErr result (IsFaultOf (call_result client.old
+        (orders (open_asked uri.now language.now version text.now)))) }
+{
+    match client.phase() {
+        Phase::Ready => {
+            let texts = texts_of(alloc, uri, language, text)?;
+            client.open(texts.uri, texts.language, version, texts.text)
+        }
+        phase => Err(ClientFault::WrongPhase { phase }),
+    }
+}
+
+/// Makes a call.
+fn called(alloc: Global, client: &mut Client, call: Call<'_>) -> Result<Vec<u8>, ClientFault>
+    ensures ok { IfOk result (λ frame.
+        IsSent (call_result client.old (call_made call.entry)) frame.items client.new) }
+    ensures unchanged { OnErr result (client.new ≡ client.old) }
+    ensures error { IfErr result (IsFaultOf (call_result client.old (call_made call.entry))) }
+{
+    match call {
+        Call::Start => client.start(),
+        Call::Shutdown => client.shutdown(),
+        Call::Exit => client.exit(),
+        Call::Open(uri, language, version, text) => {
+            opened(alloc, client, uri, language, version, text)
+        }
+        Call::Close(uri) => client.close(uri),
+    }
+}
+
+/// Makes a call by an object's client.
+#[tactic(auto, using(crate::proofs::Calls::accepted, crate::proofs::Calls::call_refused))]
+fn object_call(alloc: Global, object: &mut Object, call: Call<'_>, len: &mut usize) -> u32
+    ensures answer { IsCallOn (as_client object.old) (call_made call.entry) result (Some object.new)
+        len.new }
+    ensures unchanged { result ≢ OK → (object.new ≡ object.old) × (len.new ≡ len.old) }
+{
+    let Object::End(held) = object else {
+        return OTHER_KIND;
+    };
+    let Party::Client(client) = &mut held.party else {
+        return OTHER_KIND;
+    };
+    let answer = called(alloc, client, call);
+    keep_frame(&mut held.frame, answer, len)
+}
+
+/// Makes a call by the client of a handle.
+pub(crate) fn make_call(alloc: Global, handle: &mut Handle, call: Call<'_>, len: &mut usize) -> u32
+    ensures answer { IsCallOn (in_handle as_client handle.old.value) (call_made call.entry) result
+        handle.new.value len.new }
+    ensures unchanged { result ≢ OK
+        → (handle.new.value ≡ handle.old.value) × (len.new ≡ len.old) }
+{
+    with_object!(handle, alloc, |object| {
+        object_call(alloc, &mut object, call, len)
+    })
+}
