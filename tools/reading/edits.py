@@ -4,7 +4,7 @@ import re
 import shutil
 
 FUNCTION = re.compile(r'( *)((?:[\w()"]+ )*)fn (\w+)')
-NAMED = re.compile(r"\b(?:fn (\w+)|(?:const|static) (\w+):)")
+NAMED = re.compile(r"\b(?:fn (\w+)|macro_rules! (\w+)|(?:const|static) (\w+):)")
 
 # What calls a method of a trait beside its name.
 OPERATORS = {"from": r"\?|\binto\b", "fmt": r"!\(", "eq": "[=!]=", "next": r"\bfor\b", "cmp": "[<>]", "partial_cmp": "[<>]"}
@@ -185,9 +185,9 @@ def edits_of(folder):
 
 
 def named_in(folder):
-    """Returns the names of the functions and constants of a crate, by one of which an edit's name begins."""
+    """Returns the names of the functions, macros and constants of a crate, by one of which an edit's name begins."""
     sources = [text for path, text in files_of(folder).items() if path.startswith("src/") and path.endswith(".rt")]
-    return {one or two for text in sources for one, two in NAMED.findall(text)}
+    return {name for text in sources for names in NAMED.findall(text) for name in names if name}
 
 
 def copied(kept, other):

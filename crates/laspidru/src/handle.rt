@@ -26,7 +26,7 @@ macro_rules! with_object {
         code
     }};
     ($handle:ident, $alloc:ident, $kind:pat => $code:expr) => {
-        with_object!($handle, $alloc, |object| match &*object {
+        $crate::handle::with_object!($handle, $alloc, |object| match &*object {
             $kind => $code,
             _ => $crate::codes::OTHER_KIND,
         })

@@ -73,9 +73,9 @@ fn opened(
 /// Makes a call.
 fn called(alloc: Global, client: &mut Client, call: Call<'_>) -> Result<Vec<u8>, ClientFault>
     ensures ok { IfOk result (λ frame.
-        IsSent (call_result client.old (call_made call)) frame.items client.new) }
+        IsSent (call_result client.old (call_made call.entry)) frame.items client.new) }
     ensures unchanged { OnErr result (client.new ≡ client.old) }
-    ensures error { IfErr result (IsFaultOf (call_result client.old (call_made call))) }
+    ensures error { IfErr result (IsFaultOf (call_result client.old (call_made call.entry))) }
 {
     match call {
         Call::Start => client.start(),
@@ -91,7 +91,7 @@ fn called(alloc: Global, client: &mut Client, call: Call<'_>) -> Result<Vec<u8>,
 /// Makes a call by an object's client.
 #[tactic(auto, using(crate::proofs::Calls::accepted, crate::proofs::Calls::call_refused))]
 fn object_call(alloc: Global, object: &mut Object, call: Call<'_>, len: &mut usize) -> u32
-    ensures answer { IsCallOn (as_client object.old) (call_made call) result (Some object.new)
+    ensures answer { IsCallOn (as_client object.old) (call_made call.entry) result (Some object.new)
         len.new }
     ensures unchanged { result ≢ OK → (object.new ≡ object.old) × (len.new ≡ len.old) }
 {
@@ -106,8 +106,8 @@ fn object_call(alloc: Global, object: &mut Object, call: Call<'_>, len: &mut usi
 }
 
 /// Makes a call by the client of a handle.
-pub(crate) fn call(alloc: Global, handle: &mut Handle, call: Call<'_>, len: &mut usize) -> u32
-    ensures answer { IsCallOn (in_handle as_client handle.old.value) (call_made call) result
+pub(crate) fn make_call(alloc: Global, handle: &mut Handle, call: Call<'_>, len: &mut usize) -> u32
+    ensures answer { IsCallOn (in_handle as_client handle.old.value) (call_made call.entry) result
         handle.new.value len.new }
     ensures unchanged { result ≢ OK
         → (handle.new.value ≡ handle.old.value) × (len.new ≡ len.old) }

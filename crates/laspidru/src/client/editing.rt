@@ -11,7 +11,7 @@ ghost use Rattle.laspidru.specs.Objects.{in_handle, uri_asked};
 
 use crate::bytes::checked_text;
 use crate::changes::{changes_of, refusal_of};
-use crate::client::call::{Call, call};
+use crate::client::call::{Call, make_call};
 use crate::codes::{INSIDE_CHARACTER, OK, OTHER_KIND, REVERSED_RANGE, or_return};
 use crate::handle::{Handle, with_object};
 use crate::object::Object;
@@ -45,7 +45,7 @@ pub extern "C" fn laspidru_client_open(
     let uri = or_return!(checked_text(uri));
     let language = or_return!(checked_text(language));
     let text = or_return!(checked_text(text));
-    call(alloc, handle, Call::Open(uri, language, version, text), len)
+    make_call(alloc, handle, Call::Open(uri, language, version, text), len)
 }
 
 /// Changes a document of a client.
@@ -173,5 +173,5 @@ pub extern "C" fn laspidru_client_close(
         → (handle.new.value ≡ handle.old.value) × (len.new ≡ len.old) }
 {
     let uri = or_return!(checked_text(uri));
-    call(alloc, handle, Call::Close(uri), len)
+    make_call(alloc, handle, Call::Close(uri), len)
 }

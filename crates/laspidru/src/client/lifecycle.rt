@@ -5,7 +5,7 @@ ghost use Rattle.lsp_client.specs.Step.{exits, shuts_down, starts};
 ghost use Rattle.laspidru.specs.Clients.{IsCallOn, as_client};
 ghost use Rattle.laspidru.specs.Objects.{in_handle};
 
-use crate::client::call::{Call, call};
+use crate::client::call::{Call, make_call};
 use crate::codes::OK;
 use crate::handle::Handle;
 use std::alloc::Global;
@@ -21,7 +21,7 @@ pub extern "C" fn laspidru_client_start(alloc: Global, handle: &mut Handle, len:
     ensures unchanged { result ≢ OK
         → (handle.new.value ≡ handle.old.value) × (len.new ≡ len.old) }
 {
-    call(alloc, handle, Call::Start, len)
+    make_call(alloc, handle, Call::Start, len)
 }
 
 /// Asks the server to shut down: the frame of `shutdown` is to be sent (LSP 3.17, Shutdown
@@ -38,7 +38,7 @@ pub extern "C" fn laspidru_client_shutdown(
     ensures unchanged { result ≢ OK
         → (handle.new.value ≡ handle.old.value) × (len.new ≡ len.old) }
 {
-    call(alloc, handle, Call::Shutdown, len)
+    make_call(alloc, handle, Call::Shutdown, len)
 }
 
 /// Ends the session: the frame of `exit` is to be sent (LSP 3.17, Exit Notification). Codes, in
@@ -50,5 +50,5 @@ pub extern "C" fn laspidru_client_exit(alloc: Global, handle: &mut Handle, len: 
     ensures unchanged { result ≢ OK
         → (handle.new.value ≡ handle.old.value) × (len.new ≡ len.old) }
 {
-    call(alloc, handle, Call::Exit, len)
+    make_call(alloc, handle, Call::Exit, len)
 }

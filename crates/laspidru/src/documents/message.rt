@@ -3,7 +3,7 @@
 ghost use Rattle.std.specs.Prelude.{◌≡◌, ◌≢◌, ◌⊎◌, None};
 ghost use Rattle.laspidru.specs.Batches.{edits_of, refused_edit};
 ghost use Rattle.laspidru.specs.Codes.{IsAnswerOrNoMemory, unless};
-ghost use Rattle.laspidru.specs.Ends.{as_end, store_in};
+ghost use Rattle.laspidru.specs.Ends.{as_end};
 ghost use Rattle.laspidru.specs.Messages.{IsMessageLeft, MessageAsked, canonical_message_of};
 ghost use Rattle.laspidru.specs.Messages.{message_asked};
 ghost use Rattle.laspidru.specs.Objects.{in_handle, in_use};
@@ -11,20 +11,20 @@ ghost use Rattle.laspidru.specs.Objects.{in_handle, in_use};
 use crate::bytes::checked_text;
 use crate::changes::{changes_of, edits_encoding_of};
 use crate::codes::{IN_USE, INSIDE_CHARACTER, OK, OUT_OF_MEMORY, REVERSED_RANGE, or_return};
-use crate::end::End;
 use crate::ends::store_of;
 use crate::handle::{Handle, with_object};
 use crate::object::Object;
 use crate::reports::report_store;
 use crate::structs::{Edit, FaultAt};
+use lsp_store::Store;
 use lsp_text::Encoding;
 use std::alloc::Global;
 
-/// Puts the canonical message of a batch on a document of an end into an empty handle.
+/// Puts the canonical message of a batch on an open document into an empty handle.
 #[tactic(auto, using(crate::proofs::Written::message_refused))]
 fn put_message(
     alloc: Global,
-    held: &End,
+    store: &Store,
     uri: &str,
     version: i32,
     encoding: Encoding,
@@ -37,7 +37,7 @@ fn put_message(
     requires checked { refused_edit edits.now texts.now ≡ None }
     requires empty { output.old.value ≡ None }
     ensures answer { let asked : MessageAsked = record {
-      store = store_in held.now.party;
+      store = store.now;
       uri = uri.now;
       version = version;
       encoding = encoding;
@@ -50,7 +50,6 @@ fn put_message(
     let Ok(changes) = changes_of(alloc, edits, texts) else {
         return OUT_OF_MEMORY;
     };
-    let store = store_of(&held.party);
     let frame = match store.canonical_message(uri, version, encoding, &changes) {
         Ok(frame) => frame,
         Err(error) => return report_store(error, fault),
@@ -101,7 +100,8 @@ pub extern "C" fn laspidru_open_canonical_message(
     if output.is_full(alloc) {
         return IN_USE;
     }
-    with_object!(handle, alloc, Object::End(held) => put_message(
-        alloc, held, uri, version, encoding, edits, texts, output, fault, len,
-    ))
+    with_object!(handle, alloc, Object::End(held) => {
+        let store = store_of(&held.party);
+        put_message(alloc, store, uri, version, encoding, edits, texts, output, fault, len)
+    })
 }
