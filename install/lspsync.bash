@@ -1,7 +1,7 @@
 # Completion of lspsync for bash. Made by install/made.
 _lspsync() {
     local word=${COMP_WORDS[COMP_CWORD]} before=${COMP_WORDS[COMP_CWORD - 1]} command=${COMP_WORDS[1]}
-    local commands="serve check trace replay normalise convert help" words
+    local commands="serve check trace replay compare normalise convert help" words
     # bash cuts `--name=value` at the `=`
     if [ "$word" = = ]; then
         word=
@@ -19,16 +19,17 @@ _lspsync() {
             words="--encoding --max-body --max-text --max-docs --max-changes --lenient --help"
             case $command in
                 serve) words="$words --sync --stdio" ;;
-                check) words="$words --explain" ;;
-                trace) words="$words --texts --bodies" ;;
+                check) words="$words --explain --brief --all --live" ;;
+                trace) words="$words --texts --bodies --live" ;;
                 replay) words="$words --at --uri" ;;
+                compare) words="$words --uri" ;;
                 normalise) words="$words --documents --squash" ;;
                 help) words=$commands ;;
                 convert) ;;
                 *) words="$commands --help --version" ;;
             esac
             # without words bash completes the names of files
-            [[ $word == -* ]] || case $command in check | trace | replay | normalise | convert) words= ;; esac
+            [[ $word == -* ]] || case $command in check | trace | replay | compare | normalise | convert) words= ;; esac
             [ "$COMP_CWORD" -gt 1 ] || words="$commands --help --version"
             ;;
     esac

@@ -1,11 +1,12 @@
 # Completion of lspsync for fish. Made by install/made.
-set -l commands serve check trace replay normalise convert
+set -l commands serve check trace replay compare normalise convert
 set -l none "not __fish_seen_subcommand_from $commands help"
 set -l some "__fish_seen_subcommand_from $commands"
 complete -c lspsync -n $none -f -a serve -d 'Be a language server that keeps the editor\'s documents'
 complete -c lspsync -n $none -f -a check -d 'Print what a server answers to each message of a log'
 complete -c lspsync -n $none -f -a trace -d 'Print each message of a log as JSON, with the answer and the reason'
 complete -c lspsync -n $none -f -a replay -d 'Print the documents that are open at the end of a log'
+complete -c lspsync -n $none -f -a compare -d 'Say whether a document\'s text is a saved one'
 complete -c lspsync -n $none -f -a normalise -d 'Write a log with each accepted change as its canonical message'
 complete -c lspsync -n $none -f -a convert -d 'Write a log in the format of version 2, with the server\'s replies'
 complete -c lspsync -n $none -f -a help -d 'Print help'
@@ -21,9 +22,14 @@ complete -c lspsync -n $some -l lenient -d 'Take each change whatever its versio
 complete -c lspsync -n '__fish_seen_subcommand_from serve' -l sync -x -a 'full incremental' -d 'How the editor is asked to send changes'
 complete -c lspsync -n '__fish_seen_subcommand_from serve' -l stdio -d 'Changes nothing'
 complete -c lspsync -n '__fish_seen_subcommand_from check' -l explain -d 'Print why a message was refused or what is suspicious too'
+complete -c lspsync -n '__fish_seen_subcommand_from check' -l brief -d 'Print reasons and notes'
+complete -c lspsync -n '__fish_seen_subcommand_from check' -l all -d 'Print reasons and notes'
+complete -c lspsync -n '__fish_seen_subcommand_from check' -l live -d 'Flush what is printed before more is read'
 complete -c lspsync -n '__fish_seen_subcommand_from trace' -l texts -d 'Print the document\'s text too, where a message opened or changed it'
 complete -c lspsync -n '__fish_seen_subcommand_from trace' -l bodies -d 'Print each message too, where it is JSON'
+complete -c lspsync -n '__fish_seen_subcommand_from trace' -l live -d 'Flush what is printed before more is read'
 complete -c lspsync -n '__fish_seen_subcommand_from replay' -l at -x -d 'Replay up to the Nth record alone'
 complete -c lspsync -n '__fish_seen_subcommand_from replay' -l uri -x -d 'Print this document\'s last text alone'
+complete -c lspsync -n '__fish_seen_subcommand_from compare' -l uri -x -d 'Compare the document whose URI ends so'
 complete -c lspsync -n '__fish_seen_subcommand_from normalise' -l documents -d 'Leave out each message that is neither about the session nor about a document\'s text'
 complete -c lspsync -n '__fish_seen_subcommand_from normalise' -l squash -d 'Write changes of one document that follow each other as one message'
