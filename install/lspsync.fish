@@ -6,7 +6,7 @@ complete -c lspsync -n $none -f -a serve -d 'Be a language server that keeps the
 complete -c lspsync -n $none -f -a check -d 'Print what a server answers to each message of a log'
 complete -c lspsync -n $none -f -a trace -d 'Print each message of a log as JSON, with the answer and the reason'
 complete -c lspsync -n $none -f -a replay -d 'Print the documents that are open at the end of a log'
-complete -c lspsync -n $none -f -a compare -d 'Say whether a document\'s text is a saved one'
+complete -c lspsync -n $none -f -a compare -d 'Say which message made a document\'s text other than a saved one'
 complete -c lspsync -n $none -f -a normalise -d 'Write a log with each accepted change as its canonical message'
 complete -c lspsync -n $none -f -a convert -d 'Write a log in the format of version 2, with the server\'s replies'
 complete -c lspsync -n $none -f -a help -d 'Print help'
