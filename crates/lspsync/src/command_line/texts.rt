@@ -71,8 +71,7 @@ Example, and a document's text alone, then and after the third record:
   lspsync replay --uri file:///home/ada/hello.py examples/typing.log
   lspsync replay --uri file:///home/ada/hello.py --at 3 examples/typing.log";
 
-pub static COMPARE: &str =
-    "Say whether a document's text is a saved one, and which message made it so";
+pub static COMPARE: &str = "Say which message made a document's text other than a saved one";
 
 pub static COMPARE_EXAMPLE: &str =
     "SAVED is the editor's own text, as it saved it. It is compared with the last
@@ -164,11 +163,11 @@ too, and at the end what to do next";
 pub static BRIEF: &str = "Print reasons and notes, and only the lines that have
 them";
 
-pub static ALL: &str = "Print reasons and notes, and each note on its line, also
-where its kind comes often";
+pub static ALL: &str = "Print reasons and notes, and each note on its line,
+also where its kind comes often";
 
-pub static LIVE: &str = "Flush what is printed before more is read: for a session
-that goes on";
+pub static LIVE: &str = "Flush what is printed before more is read: for a
+session that goes on";
 
 pub static TEXTS: &str = "Print the document's text too, where a message opened
 or changed it";

@@ -216,7 +216,11 @@ static DEFAULTS: [&str; 3] = ["[default: 16777216]", "[default: 1024]", "[defaul
 /// Returns whether the help of a command has its options with their defaults, and an example of its
 /// call.
 fn has_options(alloc: Global, command: &str, words: &[&str]) -> Result<bool, Fail> {
-    let before = if command == "serve" { "< " } else { "" };
+    let before = match command {
+        "serve" => "< ",
+        "compare" => "hello.py ",
+        _ => "",
+    };
     let example = format!(in alloc; "  lspsync {command} {before}examples/")?;
     let output = help(alloc, words)?;
     let text = str::from_utf8(&output)?;
