@@ -163,11 +163,11 @@ too, and at the end what to do next";
 pub static BRIEF: &str = "Print reasons and notes, and only the lines that have
 them";
 
-pub static ALL: &str = "Print reasons and notes, and each note on its line, also
-where its kind comes often";
+pub static ALL: &str = "Print reasons and notes, and each note on its line,
+also where its kind comes often";
 
-pub static LIVE: &str = "Flush what is printed before more is read: for a session
-that goes on";
+pub static LIVE: &str = "Flush what is printed before more is read: for a
+session that goes on";
 
 pub static TEXTS: &str = "Print the document's text too, where a message opened
 or changed it";
