@@ -2,6 +2,9 @@
 
 /// Returns what is said of a faulty log that begins with these bytes, if they show a known form.
 pub fn hint(first: &[u8]) -> Option<&'static str> {
+    if first.starts_with(b"lsp-session-log 2\n") {
+        return None;
+    }
     if has_bare_lines(first) {
         return Some("its lines end in LF alone, where those of a header end in CR LF");
     }

@@ -29,6 +29,9 @@ const NVIM: &str =
 const BARE: &str =
     "lspsync: bare.log: frame fault F1 at 17: no header can have this byte here (docs/PROTOCOL.md#codes)\nlspsync: bare.log: its lines end in LF alone, where those of a header end in CR LF\n";
 
+const TWO_CUT: &str =
+    "lspsync: two.log: truncated at 38: the log ends inside a message (docs/PROTOCOL.md#codes)\n";
+
 const BROKEN: &str = "lspsync: broken.log: a call that was to fail\n";
 
 const NO_URI: &str = "lspsync: good.log: the document was never open\n";
@@ -43,7 +46,7 @@ const BYTES: &str = "lspsync: nvim.bin: stream did not contain valid UTF-8\n";
 const NO_SAVED: &str = "lspsync: gone.txt: entity not found\n";
 
 /// Words, the status, the output, and what is printed on standard error.
-static ROWS: [(&str, u8, &str, &str); 16] = [
+static ROWS: [(&str, u8, &str, &str); 17] = [
     ("lspsync compare a good.log", 0, SAME, ""),
     ("lspsync compare --uri=a saved.txt -", 1, OTHER, ""),
     ("lspsync compare nvim.bin good.log", 3, "", BYTES),
@@ -58,6 +61,7 @@ static ROWS: [(&str, u8, &str, &str); 16] = [
     ("lspsync check cut.log", 5, TWO, CUT),
     ("lspsync normalise nvim.log", 5, "", NVIM),
     ("lspsync trace bare.log", 5, "", BARE),
+    ("lspsync trace two.log", 5, "", TWO_CUT),
     ("lspsync replay --uri=file:///b good.log", 1, "", NO_URI),
     (
         "lspsync check good.log --lenient gone.log -",
@@ -73,11 +77,12 @@ fn is_answered(alloc: Global, row: &(&str, u8, &str, &str)) -> Result<bool, Allo
     let words: Vec<&str> = words.split(' ').collect(alloc)?;
     let good = log(alloc, &[INITIALIZE, OPEN, WHOLE])?;
     let cut = Vec::from_slice(alloc, good.get(..400).unwrap_or(&[]))?;
-    let files: [Held<'_>; 8] = [
+    let files: [Held<'_>; 9] = [
         ("a", b"aXc", &[Take(1)]),
         ("saved.txt", b"abc\n", &[]),
         ("nvim.bin", b"a\xff", &[]),
         ("bare.log", b"Content-Length: 2\n\n{}", &[]),
+        ("two.log", b"lsp-session-log 2\n>Content-Length: 2\r\n", &[]),
         ("good.log", &good, &[Take(1), Take(30)]),
         ("cut.log", &cut, &[]),
         ("broken.log", &good, &[Take(350), Fails]),
