@@ -8,6 +8,7 @@ pub mod WithinLemmas
 pub mod PlainLemmas
 pub mod ValueLemmas
 pub mod ReasonPlainLemmas
+pub mod AskedJsonLemmas
 pub mod FitLemmas
 pub mod LineLemmas
 pub mod JsonLawLemmas

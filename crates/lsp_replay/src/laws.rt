@@ -5,7 +5,7 @@
 
 ghost use Rattle.lsp_log.specs.laws.Logs.{UniqueLaw};
 ghost use Rattle.lsp_replay.specs.laws.Documents.{DocumentsLaw, DocumentsStopAlike};
-ghost use Rattle.lsp_replay.specs.laws.JsonLines.{TraceJsonLaw, ReplayJsonLaw};
+ghost use Rattle.lsp_replay.specs.laws.JsonLines.{TraceJsonLaw, ReplayJsonLaw, DocumentJsonLaw};
 ghost use Rattle.lsp_replay.specs.laws.Traced.{TraceLaw};
 ghost use Rattle.lsp_replay.specs.laws.Written.{ReportLaw, CanonicalLogLaw, SquashedLaw, StopsAlike, ConvertedLaw};
 
@@ -50,8 +50,10 @@ pub fn documents_laws()
 /// States that what is written as JSON is JSON. It does nothing; its contract says:
 ///
 /// - `trace` writes lines, each of them JSON. The value of each is stated.
-/// - So is the line of `replay` for a document.
+/// - So does `replay`.
+/// - The line of any document, also of one that is open after a part of a log, is JSON.
 pub fn json_laws()
     ensures trace { TraceJsonLaw }
     ensures replay { ReplayJsonLaw }
+    ensures document { DocumentJsonLaw }
 {}

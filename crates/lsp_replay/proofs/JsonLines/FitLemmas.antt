@@ -1,26 +1,15 @@
--- The numbers of a session fit their types: counts 64 bits, versions 32 bits. A canonical message is JSON.
+-- A session holds what fits its types: counts of 64 bits, documents with texts in UTF-8 and versions of 32 bits. A
+-- canonical message is JSON.
 use Rattle.std.proofs.Common.{◌≡◌, ℕ, ℤ, zero, suc, ◌^◌, ◌<◌, ◌≤◌, ⊎_elim, Bool, true, false, List, [], ◌∷◌, ◌++◌, length, map, Option, Some, None, refl, sym, ap, ◌∙◌, subst, arith, take, bytes_eq, FitsSigned, IsUtf8}
-use Rattle.std.specs.Prelude.{⊤, codes, if◌then◌else◌, nat_lt, option_and_then, option_map}
+use Rattle.std.specs.Prelude.{⊤, if◌then◌else◌, nat_lt, option_and_then}
 use Rattle.std.specs.Int.{w32}
-use Rattle.std.specs.Option.{option_map_or}
-use Rattle.std.specs.Str.{is_utf8}
 use Rattle.std.proofs.lemmas.Bool.{cases_Bool, ltb-false}
-use Rattle.std.proofs.lemmas.Str.{IsUtf8-from_is_utf8}
-use Rattle.json.specs.Json.{Json}
-use Rattle.json.proofs.Printed.Utf8.{IsUtf8-are_ascii, are_ascii}
-use Rattle.serde_json.specs.Data.{Data, null, boolean, number, string, array, object, Members}
-use Rattle.serde_json.specs.Find.{get, get_member}
-use Rattle.serde_json.specs.Read.{read}
 use Rattle.lsp_frame.specs.Limits.{LimitsData, AreInRange}
 use Rattle.lsp_text.specs.Units.{units_in}
 use Rattle.lsp_edit.specs.Batch.{ContentChange}
-use Rattle.lsp_message.specs.Message as msg
-use Rattle.lsp_message.specs.Message.{IdData, MessageData, OutcomeData, Reading, id_in, json_of, message_of, reading}
-use Rattle.lsp_message.specs.Agreement.{offers_of}
-use Rattle.lsp_message.specs.Params.{ChangeData, CloseData, close_by, close_of, DocumentItem, change_by, change_of, document_and_changes, document_in, open_by, open_of, version_in, content_change_in}
-use Rattle.lsp_message.specs.Values.{each_of, text_in}
+use Rattle.lsp_message.specs.Message.{reading}
+use Rattle.lsp_message.specs.Params.{ChangeData, DocumentItem}
 use Rattle.lsp_message.specs.Written.{value_of}
-use Rattle.lsp_message.specs.laws.Sent.{IsProperId}
 use Rattle.lsp_message.proofs.BodyLemmas.{body_is}
 use Rattle.lsp_store.specs.Message.{change_body, change_message}
 use Rattle.lsp_store.specs.laws.Tables.{AllWithin}
@@ -28,7 +17,7 @@ use Rattle.lsp_store.specs.Table.{Refusal, after_change, after_close, after_open
 use Rattle.lsp_server.specs.Answer.{AnswerData, changed, refused}
 use Rattle.lsp_server.specs.declared.phase.Phase.{Phase}
 use Rattle.lsp_server.specs.declared.phase.Phase.TheVariants.{New, Running, Down, Ended}
-use Rattle.lsp_server.specs.Incoming.{IncomingData, not_json, not_a_message, response, initialize, shutdown, other_request, exit, did_open, did_change, did_close, other_notification, incoming_by, incoming_of}
+use Rattle.lsp_server.specs.Incoming.{IncomingData, not_json, not_a_message, response, initialize, shutdown, other_request, exit, did_open, did_change, did_close, other_notification, incoming_of}
 use Rattle.lsp_server.specs.Step.{ServerData, content_change_from_data, result_step, session_encoding, step_in}
 use Rattle.lsp_stream.specs.Ports.{one_more}
 use Rattle.lsp_log.specs.declared.record.Sender.{Sender}
@@ -36,190 +25,116 @@ use Rattle.lsp_log.specs.declared.record.Sender.TheVariants.{Client, Server}
 use Rattle.lsp_log.specs.declared.record.Version.{Version}
 use Rattle.lsp_log.specs.Log.{Record}
 use Rattle.lsp_replay.specs.Commands.{canonical_change_body, canonical_if, canonical_of_record, change_in}
-use Rattle.lsp_replay.specs.Lines.{Known, is_stale_refusal, known_after, last_in, uri_of}
+use Rattle.lsp_replay.specs.Lines.{Known, known_after, uri_of, is_stale_refusal, last_in}
 use Rattle.lsp_replay.specs.Mentions.{Mention, is_mention, last_for, last_record, mentioned, most_mentions, without}
-use Rattle.lsp_replay.specs.Session.{Session, Verdict, answered, recorded, bad, encoding_for, has_changed, is_change, judge, judge_from}
-use Rattle.lsp_replay.specs.Trace.{id_of, is_json, method_of, within}
+use Rattle.lsp_replay.specs.Session.{Session, Verdict, answered, recorded, bad, encoding_for, is_change, judge, judge_from, has_changed}
+use Rattle.lsp_replay.specs.Trace.{is_json, within}
 use Rattle.lsp_replay.proofs.JsonLines.PlainLemmas.{visible_compact}
 use Rattle.lsp_replay.proofs.JsonLines.StringLemmas.{are_visible}
-use Rattle.lsp_replay.proofs.JsonLines.ValueLemmas.{IsJson, read_is}
-use Rattle.lsp_replay.proofs.Records.AskedLemmas.{IsProperAsked, changed_held, document_held, held_get, held_member, held_text, id_held, value_held, version_fits}
 use Rattle.lsp_replay.proofs.Records.JudgeLemmas.{asks_change, judged_again, judged_held, of_incoming, of_server}
-use Rattle.lsp_replay.proofs.Records.ReadLemmas.{IsHeld, MembersAreHeld, OnSome, on_map, on_then}
+use Rattle.lsp_replay.proofs.Records.ReadLemmas.{OnSome}
 use Rattle.lsp_replay.proofs.Records.StateLemmas.{IsHeldState}
+use Rattle.lsp_replay.proofs.JsonLines.AskedJsonLemmas.{AreNamed, IsBody, IsNamed, asked, body_json}
 
-any : {A : Type 0} (o : Option A) → OnSome (λ (a : A). ⊤) o
-any None = tt
-any (Some a) = tt
+-- ---- the documents of a table
 
--- ---- versions
+abbrev pub AllNamed : List DocumentItem → Type 0
+AllNamed [] = ⊤
+AllNamed (entry ∷ table) = IsNamed entry × AllNamed table
 
-abbrev VersionFits : ℤ → Type 0
-VersionFits z = FitsSigned w32 z
-
-abbrev pub AreVersions : List DocumentItem → Type 0
-AreVersions [] = ⊤
-AreVersions (entry ∷ table) = VersionFits entry.version × AreVersions table
-
-abbrev IsOpenVersion : DocumentItem → Type 0
-IsOpenVersion p = VersionFits p.version
-
-abbrev IsChangeVersion : ChangeData → Type 0
-IsChangeVersion p = VersionFits p.version
-
-open_version : (ms : Members) → OnSome IsOpenVersion (open_by ms)
-open_version ms =
-    on_then (λ uri. ⊤) IsOpenVersion _
-    (λ uri h. on_then (λ language. ⊤) IsOpenVersion _
-    (λ language i. on_then VersionFits IsOpenVersion _
-    (λ version fits. on_then (λ t. ⊤) IsOpenVersion _ (λ t u. fits) (text_in (get_member (codes "text") ms))
-    (any (text_in (get_member (codes "text") ms))))
-    (version_in (get_member (codes "version") ms)) (version_fits (get_member (codes "version") ms)))
-    (text_in (get_member (codes "languageId") ms)) (any (text_in (get_member (codes "languageId") ms))))
-    (text_in (get_member (codes "uri") ms)) (any (text_in (get_member (codes "uri") ms)))
-
-opened_version : (params : Option Data) → OnSome IsOpenVersion (open_of params)
-opened_version params =
-    on_then (λ ms. ⊤) IsOpenVersion open_by (λ ms h. open_version ms) (document_in params) (any (document_in params))
-
-changed_version : (params : Option Data) → OnSome IsChangeVersion (change_of params)
-changed_version params =
-    on_then (λ p. ⊤) IsChangeVersion (λ p. change_by p.0 p.1)
-    (λ p h. on_then (λ uri. ⊤) IsChangeVersion _
-    (λ uri i. on_then VersionFits IsChangeVersion _
-    (λ version fits. on_then (λ es. ⊤) IsChangeVersion _ (λ es u. fits) (each_of content_change_in p.1)
-    (any (each_of content_change_in p.1)))
-    (version_in (get_member (codes "version") p.0)) (version_fits (get_member (codes "version") p.0)))
-    (text_in (get_member (codes "uri") p.0)) (any (text_in (get_member (codes "uri") p.0))))
-    (document_and_changes params) (any (document_and_changes params))
-
-abbrev HasVersion : IncomingData → Type 0
-HasVersion not_json = ⊤
-HasVersion (not_a_message id) = ⊤
-HasVersion (response id) = ⊤
-HasVersion (initialize id offers) = ⊤
-HasVersion (shutdown id) = ⊤
-HasVersion (other_request id method) = ⊤
-HasVersion exit = ⊤
-HasVersion (did_open params) = OnSome IsOpenVersion params
-HasVersion (did_change params) = OnSome IsChangeVersion params
-HasVersion (did_close params) = ⊤
-HasVersion (other_notification method) = ⊤
-
-either_version : (b : Bool) (x y : IncomingData) → HasVersion x → HasVersion y → HasVersion (if b then x else y)
-either_version true x y p q = p
-either_version false x y p q = q
-
-message_version : (m : MessageData) → HasVersion (incoming_by m)
-message_version (msg.request id method params) =
-    either_version (bytes_eq method (codes "initialize")) _ _ tt
-    (either_version (bytes_eq method (codes "shutdown")) (shutdown id) (other_request id method) tt tt)
-message_version (msg.notification method params) =
-    either_version (bytes_eq method (codes "exit")) exit _ tt
-    (either_version (bytes_eq method (codes "textDocument/didOpen")) (did_open (open_of params)) _
-    (opened_version params)
-    (either_version (bytes_eq method (codes "textDocument/didChange")) (did_change (change_of params)) _
-    (changed_version params)
-    (either_version (bytes_eq method (codes "textDocument/didClose")) (did_close _) (other_notification method) tt tt)))
-message_version (msg.response id outcome) = tt
-
-reading_version : (r : Reading) → HasVersion (incoming_of r)
-reading_version msg.not_json = tt
-reading_version (msg.not_a_message id) = tt
-reading_version (msg.message m) = message_version m
-
--- ---- the versions of a table
-
-versions_at : (table : List DocumentItem) (uri : List ℕ) → AreVersions table
-    → OnSome IsOpenVersion (entry_at table uri)
-versions_at [] uri kept = tt
-versions_at (first ∷ table) uri kept =
+named_at : (table : List DocumentItem) (uri : List ℕ) → AllNamed table
+    → OnSome IsNamed (entry_at table uri)
+named_at [] uri kept = tt
+named_at (first ∷ table) uri kept =
     ⊎_elim (λ (is : bytes_eq uri first.uri ≡ true). rw is kept.0) (λ (not : bytes_eq uri first.uri ≡ false). rw not
-    (versions_at table uri kept.1)) (cases_Bool (bytes_eq uri first.uri))
+    (named_at table uri kept.1)) (cases_Bool (bytes_eq uri first.uri))
 
-versions_close : (table : List DocumentItem) (uri : List ℕ) → AreVersions table → AreVersions (after_close table uri)
-versions_close [] uri kept = tt
-versions_close (first ∷ table) uri kept =
+named_close : (table : List DocumentItem) (uri : List ℕ) → AllNamed table → AllNamed (after_close table uri)
+named_close [] uri kept = tt
+named_close (first ∷ table) uri kept =
     ⊎_elim (λ (is : bytes_eq uri first.uri ≡ true). rw is kept.1) (λ (not : bytes_eq uri first.uri ≡ false). rw not (
       kept.0,
-      versions_close table uri kept.1,
+      named_close table uri kept.1,
     )) (cases_Bool (bytes_eq uri first.uri))
 
-versions_last : (table : List DocumentItem) (entry : DocumentItem) → AreVersions table → VersionFits entry.version
-    → AreVersions (table ++ entry ∷ [])
-versions_last [] entry kept is = (is, tt)
-versions_last (first ∷ table) entry kept is = (kept.0, versions_last table entry kept.1 is)
+named_last : (table : List DocumentItem) (entry : DocumentItem) → AllNamed table → IsNamed entry
+    → AllNamed (table ++ entry ∷ [])
+named_last [] entry kept is = (is, tt)
+named_last (first ∷ table) entry kept is = (kept.0, named_last table entry kept.1 is)
 
-versions_open : (table : List DocumentItem) (entry : DocumentItem) → AreVersions table → VersionFits entry.version
-    → AreVersions (after_open table entry)
-versions_open table entry kept is =
-    versions_last (after_close table entry.uri) entry (versions_close table entry.uri kept) is
+named_open : (table : List DocumentItem) (entry : DocumentItem) → AllNamed table → IsNamed entry
+    → AllNamed (after_open table entry)
+named_open table entry kept is =
+    named_last (after_close table entry.uri) entry (named_close table entry.uri kept) is
 
-versions_change : (units : ℕ → ℕ) (table : List DocumentItem) (uri : List ℕ) (version : ℤ)
-    (batch : List ContentChange) → AreVersions table → VersionFits version
-    → AreVersions (after_change units table uri version batch)
-versions_change units [] uri version batch kept fits = tt
-versions_change units (first ∷ table) uri version batch kept fits =
-    ⊎_elim (λ (is : bytes_eq uri first.uri ≡ true). rw is (fits, kept.1))
+named_change : (units : ℕ → ℕ) (table : List DocumentItem) (uri : List ℕ) (version : ℤ)
+    (batch : List ContentChange) → AllNamed table → FitsSigned w32 version
+    → AllNamed (after_change units table uri version batch)
+named_change units [] uri version batch kept fits = tt
+named_change units (first ∷ table) uri version batch kept fits =
+    ⊎_elim (λ (is : bytes_eq uri first.uri ≡ true). rw is (
+      record { uri = kept.0.uri; language = kept.0.language; version = fits },
+      kept.1,
+    ))
     (λ (not : bytes_eq uri first.uri ≡ false). rw not (
       kept.0,
-      versions_change units table uri version batch kept.1 fits,
+      named_change units table uri version batch kept.1 fits,
     ))
     (cases_Bool (bytes_eq uri first.uri))
 
-obeyed_versions : (s : ServerData) (refusal : Option Refusal) (next : List DocumentItem) → AreVersions s.table
-    → AreVersions next → AreVersions (result_step s (unless_refused refusal next)).state.table
-obeyed_versions s None next kept is = is
-obeyed_versions s (Some refusal) next kept is = kept
+obeyed_named : (s : ServerData) (refusal : Option Refusal) (next : List DocumentItem) → AllNamed s.table
+    → AllNamed next → AllNamed (result_step s (unless_refused refusal next)).state.table
+obeyed_named s None next kept is = is
+obeyed_named s (Some refusal) next kept is = kept
 
-step_versions : (phase : Phase) (s : ServerData) (m : IncomingData) → HasVersion m → AreVersions s.table
-    → AreVersions (step_in phase s m).state.table
-step_versions Ended s m has kept = kept
-step_versions New s not_json has kept = kept
-step_versions New s (not_a_message id) has kept = kept
-step_versions New s (response id) has kept = kept
-step_versions New s exit has kept = kept
-step_versions New s (initialize id None) has kept = kept
-step_versions New s (initialize id (Some offers)) has kept = kept
-step_versions New s (shutdown id) has kept = kept
-step_versions New s (other_request id method) has kept = kept
-step_versions New s (did_open params) has kept = kept
-step_versions New s (did_change params) has kept = kept
-step_versions New s (did_close params) has kept = kept
-step_versions New s (other_notification method) has kept = kept
-step_versions Running s not_json has kept = kept
-step_versions Running s (not_a_message id) has kept = kept
-step_versions Running s (response id) has kept = kept
-step_versions Running s exit has kept = kept
-step_versions Running s (initialize id offers) has kept = kept
-step_versions Running s (shutdown id) has kept = kept
-step_versions Running s (other_request id method) has kept = kept
-step_versions Running s (did_open None) has kept = kept
-step_versions Running s (did_open (Some p)) has kept =
-    obeyed_versions s (open_refusal s.config.limits s.table p) (after_open s.table p) kept
-    (versions_open s.table p kept has)
-step_versions Running s (did_change None) has kept = kept
-step_versions Running s (did_change (Some p)) has kept =
+step_named : (phase : Phase) (s : ServerData) (m : IncomingData) → AreNamed m → AllNamed s.table
+    → AllNamed (step_in phase s m).state.table
+step_named Ended s m has kept = kept
+step_named New s not_json has kept = kept
+step_named New s (not_a_message id) has kept = kept
+step_named New s (response id) has kept = kept
+step_named New s exit has kept = kept
+step_named New s (initialize id None) has kept = kept
+step_named New s (initialize id (Some offers)) has kept = kept
+step_named New s (shutdown id) has kept = kept
+step_named New s (other_request id method) has kept = kept
+step_named New s (did_open params) has kept = kept
+step_named New s (did_change params) has kept = kept
+step_named New s (did_close params) has kept = kept
+step_named New s (other_notification method) has kept = kept
+step_named Running s not_json has kept = kept
+step_named Running s (not_a_message id) has kept = kept
+step_named Running s (response id) has kept = kept
+step_named Running s exit has kept = kept
+step_named Running s (initialize id offers) has kept = kept
+step_named Running s (shutdown id) has kept = kept
+step_named Running s (other_request id method) has kept = kept
+step_named Running s (did_open None) has kept = kept
+step_named Running s (did_open (Some p)) has kept =
+    obeyed_named s (open_refusal s.config.limits s.table p) (after_open s.table p) kept
+    (named_open s.table p kept has)
+step_named Running s (did_change None) has kept = kept
+step_named Running s (did_change (Some p)) has kept =
     let units = units_in (session_encoding s) in
     let batch = map content_change_from_data p.changes in
-    obeyed_versions s (change_refusal s.config.limits units s.table p.uri p.version batch)
+    obeyed_named s (change_refusal s.config.limits units s.table p.uri p.version batch)
     (after_change units s.table p.uri p.version batch) kept
-    (versions_change units s.table p.uri p.version batch kept has)
-step_versions Running s (did_close None) has kept = kept
-step_versions Running s (did_close (Some p)) has kept =
-    obeyed_versions s (close_refusal s.table p.uri) (after_close s.table p.uri) kept (versions_close s.table p.uri kept)
-step_versions Running s (other_notification method) has kept = kept
-step_versions Down s not_json has kept = kept
-step_versions Down s (not_a_message id) has kept = kept
-step_versions Down s (response id) has kept = kept
-step_versions Down s exit has kept = kept
-step_versions Down s (initialize id offers) has kept = kept
-step_versions Down s (shutdown id) has kept = kept
-step_versions Down s (other_request id method) has kept = kept
-step_versions Down s (did_open params) has kept = kept
-step_versions Down s (did_change params) has kept = kept
-step_versions Down s (did_close params) has kept = kept
-step_versions Down s (other_notification method) has kept = kept
+    (named_change units s.table p.uri p.version batch kept has.version)
+step_named Running s (did_close None) has kept = kept
+step_named Running s (did_close (Some p)) has kept =
+    obeyed_named s (close_refusal s.table p.uri) (after_close s.table p.uri) kept (named_close s.table p.uri kept)
+step_named Running s (other_notification method) has kept = kept
+step_named Down s not_json has kept = kept
+step_named Down s (not_a_message id) has kept = kept
+step_named Down s (response id) has kept = kept
+step_named Down s exit has kept = kept
+step_named Down s (initialize id offers) has kept = kept
+step_named Down s (shutdown id) has kept = kept
+step_named Down s (other_request id method) has kept = kept
+step_named Down s (did_open params) has kept = kept
+step_named Down s (did_change params) has kept = kept
+step_named Down s (did_close params) has kept = kept
+step_named Down s (other_notification method) has kept = kept
 
 -- ---- the documents that are known
 
@@ -289,22 +204,22 @@ last_fits known uri verdict made mentions =
 
 pub record IsFit (limits : LimitsData) (known : Known) (s : Session) : Type 0 where
   pub held : IsHeldState limits s.server
-  pub versions : AreVersions s.server.table
+  pub named : AllNamed s.server.table
   pub records : IsCount s.records
-  pub made : AreNumbered known.made
   pub mentions : AreNumbered known.mentions
+  pub made : AreNumbered known.made
 
-client_versions : (s : Session) (version : Version) (body : List ℕ) → AreVersions s.server.table
-    → AreVersions (judge_from s version Client body).session.server.table
-client_versions s version body kept =
-    of_incoming (λ j. AreVersions j.session.server.table) s version (incoming_of (reading body)) kept
-    (step_versions s.server.phase s.server (incoming_of (reading body)) (reading_version (reading body)) kept)
+client_named : (s : Session) (version : Version) (body : List ℕ) → AllNamed s.server.table
+    → AllNamed (judge_from s version Client body).session.server.table
+client_named s version body kept =
+    of_incoming (λ j. AllNamed j.session.server.table) s version (incoming_of (reading body)) kept
+    (let is = asked body in step_named s.server.phase s.server (incoming_of (reading body)) is.named kept)
 
-from_versions : (s : Session) (version : Version) (side : Sender) (body : List ℕ) → AreVersions s.server.table
-    → AreVersions (judge_from s version side body).session.server.table
-from_versions s version Client body kept = client_versions s version body kept
-from_versions s version Server body kept =
-    of_server (λ j. AreVersions j.session.server.table) s kept kept (λ encoding. kept)
+from_named : (s : Session) (version : Version) (side : Sender) (body : List ℕ) → AllNamed s.server.table
+    → AllNamed (judge_from s version side body).session.server.table
+from_named s version Client body kept = client_named s version body kept
+from_named s version Server body kept =
+    of_server (λ j. AllNamed j.session.server.table) s kept kept (λ encoding. kept)
     (encoding_for s.expected (reading body))
 
 from_records : (s : Session) (version : Version) (side : Sender) (body : List ℕ) → IsCount s.records
@@ -325,169 +240,19 @@ judged_fits limits known s r fit =
     (from_records s r.head.version r.head.side r.body fit.records) in
     record {
       held = judged_held limits s r fit.held;
-      versions = from_versions s r.head.version r.head.side r.body fit.versions;
+      named = from_named s r.head.version r.head.side r.body fit.named;
       records = records;
-      made = numbered_more (has_changed (judge s r).verdict)
-          (uri_of r.head.side (incoming_of (reading r.body))) (judge s r).session.records known.made records
-          fit.made;
       mentions = numbered_more (is_mention (is_change (incoming_of (reading r.body))) (judge s r).verdict)
           (uri_of r.head.side (incoming_of (reading r.body))) (judge s r).session.records known.mentions records
           fit.mentions;
+      made = numbered_more (has_changed (judge s r).verdict) (uri_of r.head.side (incoming_of (reading r.body)))
+          (judge s r).session.records known.made records fit.made;
     }
 
-pub document_fits : (table : List DocumentItem) (uri : Option (List ℕ)) → AreVersions table
-    → OnSome IsOpenVersion (option_and_then (entry_at table) uri)
+pub document_fits : (table : List DocumentItem) (uri : Option (List ℕ)) → AllNamed table
+    → OnSome IsNamed (option_and_then (entry_at table) uri)
 document_fits table None kept = tt
-document_fits table (Some uri) kept = versions_at table uri kept
-
--- ---- ids and texts
-
--- an id fits, and the texts are UTF-8
-record IsAsked (m : IncomingData) : Type 0 where
-  id : OnSome IsProperId (id_of m)
-  method : OnSome IsUtf8 (method_of m)
-  uri : OnSome IsUtf8 (uri_of Client m)
-
-abbrev IdRead : Reading → Type 0
-IdRead msg.not_json = ⊤
-IdRead (msg.not_a_message id) = OnSome IsProperId id
-IdRead (msg.message (msg.request id method params)) = IsProperId id × IsUtf8 method
-IdRead (msg.message (msg.notification method params)) = IsUtf8 method × OnSome IsHeld params
-IdRead (msg.message (msg.response id outcome)) = OnSome IsProperId id
-
-either_asked : (b : Bool) (x y : IncomingData) → IsAsked x → IsAsked y → IsAsked (if b then x else y)
-either_asked true x y p q = p
-either_asked false x y p q = q
-
-abbrev HasUri : DocumentItem → Type 0
-HasUri p = IsUtf8 p.uri
-
-open_uri : (ms : Members) → MembersAreHeld ms → OnSome HasUri (open_by ms)
-open_uri ms held =
-    on_then IsUtf8 HasUri _
-    (λ uri u. on_then (λ language. ⊤) HasUri _
-    (λ language i. on_then (λ version. ⊤) HasUri _
-    (λ version j. on_then (λ t. ⊤) HasUri _ (λ t k. u) (text_in (get_member (codes "text") ms))
-    (any (text_in (get_member (codes "text") ms))))
-    (version_in (get_member (codes "version") ms)) (any (version_in (get_member (codes "version") ms))))
-    (text_in (get_member (codes "languageId") ms)) (any (text_in (get_member (codes "languageId") ms))))
-    (text_in (get_member (codes "uri") ms))
-    (held_text (get_member (codes "uri") ms) (held_member (codes "uri") ms held))
-
-abbrev HasCloseUri : CloseData → Type 0
-HasCloseUri p = IsUtf8 p.uri
-
-close_uri : (ms : Members) → MembersAreHeld ms → OnSome HasCloseUri (close_by ms)
-close_uri ms held =
-    on_map IsUtf8 HasCloseUri (λ uri. record { uri = uri }) (λ uri u. u) (text_in (get_member (codes "uri") ms))
-    (held_text (get_member (codes "uri") ms) (held_member (codes "uri") ms held))
-
-plain_method : (method : List ℕ) → are_ascii method ≡ true → OnSome IsUtf8 (Some method)
-plain_method method h = IsUtf8-are_ascii method h
-
-asked_open : (params : Option DocumentItem) → OnSome HasUri params → IsAsked (did_open params)
-asked_open None is = record { id = tt; method = plain_method (codes "textDocument/didOpen") refl; uri = tt }
-asked_open (Some p) is = record { id = tt; method = plain_method (codes "textDocument/didOpen") refl; uri = is }
-
-asked_change : (params : Option ChangeData) → OnSome IsProperAsked params → IsAsked (did_change params)
-asked_change None is = record { id = tt; method = plain_method (codes "textDocument/didChange") refl; uri = tt }
-asked_change (Some p) is = record {
-  id = tt;
-  method = plain_method (codes "textDocument/didChange") refl;
-  uri = is.uri;
-}
-
-asked_close : (params : Option CloseData) → OnSome HasCloseUri params → IsAsked (did_close params)
-asked_close None is = record { id = tt; method = plain_method (codes "textDocument/didClose") refl; uri = tt }
-asked_close (Some p) is = record { id = tt; method = plain_method (codes "textDocument/didClose") refl; uri = is }
-
-asked_by : (r : Reading) → IdRead r → IsAsked (incoming_of r)
-asked_by msg.not_json is = record { id = tt; method = tt; uri = tt }
-asked_by (msg.not_a_message id) is = record { id = is; method = tt; uri = tt }
-asked_by (msg.message (msg.request id method params)) is =
-    either_asked (bytes_eq method (codes "initialize")) (initialize id (offers_of params)) _
-    (record { id = is.0; method = plain_method (codes "initialize") refl; uri = tt })
-    (either_asked (bytes_eq method (codes "shutdown")) (shutdown id) (other_request id method)
-    (record { id = is.0; method = plain_method (codes "shutdown") refl; uri = tt })
-    (record { id = is.0; method = is.1; uri = tt }))
-asked_by (msg.message (msg.notification method params)) is =
-    either_asked (bytes_eq method (codes "exit")) exit _
-    (record { id = tt; method = plain_method (codes "exit") refl; uri = tt })
-    (either_asked (bytes_eq method (codes "textDocument/didOpen")) (did_open (open_of params)) _
-    (asked_open (open_of params) (on_then MembersAreHeld HasUri open_by open_uri (document_in params)
-    (document_held params is.1)))
-    (either_asked (bytes_eq method (codes "textDocument/didChange")) (did_change (change_of params)) _
-    (asked_change (change_of params) (changed_held params is.1))
-    (either_asked (bytes_eq method (codes "textDocument/didClose")) (did_close (close_of params))
-    (other_notification method)
-    (asked_close (close_of params) (on_then MembersAreHeld HasCloseUri close_by close_uri (document_in params)
-    (document_held params is.1)))
-    (record { id = tt; method = is.0; uri = tt }))))
-asked_by (msg.message (msg.response id outcome)) is = record { id = is; method = tt; uri = tt }
-
-abbrev MessageId : MessageData → Type 0
-MessageId m = IdRead (msg.message m)
-
-response_id : (id : Option IdData) (outcome : Option OutcomeData) → OnSome IsProperId id
-    → OnSome MessageId (option_map (msg.response id) outcome)
-response_id id None is = tt
-response_id id (Some outcome) is = is
-
-named_id : (id : Data) (outcome : Option OutcomeData) → IsHeld id
-    → OnSome MessageId (option_and_then (λ i. option_map (msg.response (Some i)) outcome) (id_in id))
-named_id id outcome is =
-    on_then IsProperId MessageId _ (λ i h. response_id (Some i) outcome h) (id_in id) (id_held id is)
-
-row_id : (method id : Option Data) (value : Data) → OnSome IsHeld method → OnSome IsHeld id
-    → OnSome IsHeld (get (codes "params") value) → OnSome MessageId (msg.message_by method id value)
-row_id (Some (string s)) None value text is params = (text, params)
-row_id (Some (string s)) (Some id) value text is params =
-    on_then IsProperId MessageId _ (λ i p. (p, text)) (id_in id) (id_held id is)
-row_id None None value text is params = tt
-row_id None (Some null) value text is params = response_id None (msg.outcome_in value) tt
-row_id None (Some (boolean b)) value text is params = named_id (boolean b) (msg.outcome_in value) is
-row_id None (Some (number n)) value text is params = named_id (number n) (msg.outcome_in value) is
-row_id None (Some (string s)) value text is params = named_id (string s) (msg.outcome_in value) is
-row_id None (Some (array ds)) value text is params = named_id (array ds) (msg.outcome_in value) is
-row_id None (Some (object ms)) value text is params = named_id (object ms) (msg.outcome_in value) is
-row_id (Some null) id value text is params = tt
-row_id (Some (boolean b)) id value text is params = tt
-row_id (Some (number n)) id value text is params = tt
-row_id (Some (array ds)) id value text is params = tt
-row_id (Some (object ms)) id value text is params = tt
-
-version_id : (two : Bool) (found : Option MessageData) → OnSome MessageId found
-    → OnSome MessageId (if two then found else None)
-version_id true found is = is
-version_id false found is = tt
-
-read_or : {A : Type 0} (P : A → Type 0) (f : A → Reading) (o : Option A) (d : Reading)
-    → ((a : A) → P a → IdRead (f a)) → OnSome P o → IdRead d → IdRead (option_map_or f o d)
-read_or P f None d all is rest = rest
-read_or P f (Some a) d all is rest = all a is
-
-value_id : (d : Data) → IsHeld d → IdRead (message_of d)
-value_id d held =
-    read_or MessageId msg.message (msg.message_in d) (msg.not_a_message (msg.id_found (get (codes "id") d)))
-    (λ m h. h)
-    (version_id (msg.is_version_two (get (codes "jsonrpc") d)) _
-    (row_id (get (codes "method") d) (get (codes "id") d) d (held_get (codes "method") d held)
-    (held_get (codes "id") d held) (held_get (codes "params") d held)))
-    (on_then IsHeld IsProperId id_in id_held (get (codes "id") d) (held_get (codes "id") d held))
-
-asked : (body : List ℕ) → IsAsked (incoming_of (reading body))
-asked body =
-    asked_by (reading body) (read_or IsHeld message_of (json_of body) msg.not_json value_id (value_held body) tt)
-
-pub id_fits : (body : List ℕ) → OnSome IsProperId (id_of (incoming_of (reading body)))
-id_fits body = let is = asked body in is.id
-
-pub method_utf8 : (body : List ℕ) → OnSome IsUtf8 (method_of (incoming_of (reading body)))
-method_utf8 body = let is = asked body in is.method
-
-pub uri_utf8 : (side : Sender) (body : List ℕ) → OnSome IsUtf8 (uri_of side (incoming_of (reading body)))
-uri_utf8 Client body = let is = asked body in is.uri
-uri_utf8 Server body = tt
+document_fits table (Some uri) kept = named_at table uri kept
 
 -- ---- texts
 
@@ -504,31 +269,7 @@ pub text_utf8 : (limits : LimitsData) (table : List DocumentItem) (uri : Option 
 text_utf8 limits table None kept = tt
 text_utf8 limits table (Some uri) kept = texts_at limits table uri kept
 
--- ---- bodies
-
-read_if : (body : List ℕ) (b : Bool) (d : Data) → (if b then read body else None) ≡ Some d
-    → (b ≡ true) × (read body ≡ Some d)
-read_if body true d e = (refl, e)
-read_if body false d e = absurd (let no : None ≡ Some d = e in cc)
-
--- bytes that are JSON in UTF-8
-pub record IsBody (body : List ℕ) : Type 0 where
-  pub value : Json
-  pub json : IsJson body value
-  pub utf8 : IsUtf8 body
-
--- a body that counts as JSON is JSON
-pub body_json : (body : List ℕ) → is_json (incoming_of (reading body)) ≡ true → IsBody body
-body_json body h = by (json_of body) refl
-  where
-    by : (o : Option Data) → json_of body ≡ o → IsBody body
-    by None e =
-        let none : reading body ≡ msg.not_json = ap (λ o. option_map_or message_of o msg.not_json) e in
-        absurd (let no : false ≡ true = ap (λ r. is_json (incoming_of r)) (sym none) ∙ h in cc)
-    by (Some d) e =
-        let both = read_if body (is_utf8 body) d e in
-        let found = read_is body d both.1 in
-        record { value = found.0; json = found.1; utf8 = IsUtf8-from_is_utf8 body both.0 }
+-- ---- canonical messages
 
 change_there : (server : ServerData) (change : Option ChangeData) (verdict : Verdict) (body : List ℕ)
     → canonical_if server change verdict ≡ Some body → (p : ChangeData) × (change ≡ Some p)

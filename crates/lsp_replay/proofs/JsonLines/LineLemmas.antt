@@ -31,8 +31,8 @@ use Rattle.lsp_replay.specs.Reasons.{reason_words, renamed_words}
 use Rattle.lsp_replay.specs.Session.{Session, Judged, Verdict, answered, recorded, bad, has_changed, is_refused, judge}
 use Rattle.lsp_replay.specs.Trace.{body_json, document_after, id_json, id_of, is_json, json_string, last_members, member, method_of, notes_json, reason_json, side_word, text_json, trace_line, version_json, within}
 use Rattle.lsp_replay.specs.laws.JsonLines.{IsJsonLine, body_value, document_value, id_value, integer, members_with, natural, notes_value, reason_value, text_value, trace_value}
-use Rattle.lsp_replay.proofs.JsonLines.FitLemmas as fit
-use Rattle.lsp_replay.proofs.JsonLines.FitLemmas.{IsBody, IsFit, canonical_json, document_fits, id_fits, judged_fits, last_fits, method_utf8, text_utf8, uri_utf8}
+use Rattle.lsp_replay.proofs.JsonLines.AskedJsonLemmas.{IsBody, IsNamed, body_json as body_json_is, id_fits, method_utf8, uri_utf8}
+use Rattle.lsp_replay.proofs.JsonLines.FitLemmas.{IsFit, canonical_json, document_fits, judged_fits, last_fits, text_utf8}
 use Rattle.lsp_replay.proofs.JsonLines.PlainLemmas.{escape_plain, utf8_plain}
 use Rattle.lsp_replay.proofs.JsonLines.ReasonPlainLemmas.{plain_note, plain_reason_with, plain_side, plain_verdict}
 use Rattle.lsp_replay.proofs.JsonLines.StringLemmas.{are_visible}
@@ -59,10 +59,10 @@ naturals_if (Some n) is = a_natural n is
 wider : (z : ℤ) → FitsSigned w32 z → FitsSigned w64 z
 wider z h = let small = h.sfits in record { sfits = omega arith }
 
-version_if : (entry : Option DocumentItem) → OnSome (λ (e : DocumentItem). FitsSigned w32 e.version) entry
+version_if : (entry : Option DocumentItem) → OnSome IsNamed entry
     → IsValueIf (version_json entry) (option_map (λ (e : DocumentItem). integer e.version) entry)
 version_if None is = tt
-version_if (Some entry) is = an_integer entry.version (wider entry.version is)
+version_if (Some entry) is = an_integer entry.version (wider entry.version is.version)
 
 text_if : (is_asked : Bool) (entry : Option DocumentItem) → OnSome (λ (e : DocumentItem). IsUtf8 e.text) entry
     → IsValueIf (text_json is_asked entry) (text_value is_asked entry)
@@ -244,7 +244,7 @@ module _ (limits : LimitsData) (ranges : AreInRange limits) (details : Details) 
         (
           (refl, refl),
           version_if (document_after j.session.server.table uri)
-              (document_fits j.session.server.table uri after.versions),
+              (document_fits j.session.server.table uri after.named),
           (
             (refl, refl),
             canonical_if (within s.server.config.limits.max_body (canonical_of_record s r.body j.verdict))
@@ -256,7 +256,7 @@ module _ (limits : LimitsData) (ranges : AreInRange limits) (details : Details) 
               (
                 (refl, refl),
                 body_if (details.bodies && is_json m) r.body
-                    (λ e. fit.body_json r.body (and_parts details.bodies (is_json m) e).1),
+                    (λ e. body_json_is r.body (and_parts details.bodies (is_json m) e).1),
                 tt,
               ),
             ),

@@ -15,7 +15,7 @@ use Rattle.lsp_log.specs.Log.{Record}
 use Rattle.lsp_replay.specs.declared.commands.Settings.{Settings}
 use Rattle.lsp_replay.specs.declared.commands.traced.Details.{Details}
 use Rattle.lsp_replay.specs.declared.notes.Note.{Note}
-use Rattle.lsp_replay.specs.Commands.{canonical_of_record, change_in, document_line, log_config, verdict_word}
+use Rattle.lsp_replay.specs.Commands.{canonical_of_record, change_in, document_line, log_config, report, verdict_word}
 use Rattle.lsp_replay.specs.Lines.{Known, is_renamed, known_after, last_in, nothing_known, uri_of}
 use Rattle.lsp_replay.specs.Notes.{note_words, notes_of}
 use Rattle.lsp_replay.specs.Reasons.{reason_words, renamed_words}
@@ -155,7 +155,25 @@ document_value entry =
     (member (codes "text") (string entry.text) (member (codes "uri") (string entry.uri)
     (member (codes "version") (integer entry.version) no_members))))
 
--- A line of `replay` is this value, for a document as its type holds it.
-abbrev pub ReplayJsonLaw : Type 0
-ReplayJsonLaw = (entry : DocumentItem) → IsProperDocument entry
+-- The line of a document as its type holds it.
+abbrev pub DocumentJsonLaw : Type 0
+DocumentJsonLaw = (entry : DocumentItem) → IsProperDocument entry
     → IsJsonLine (document_line entry) (document_value entry)
+
+-- Some values. After a record that can't be in a log there are none.
+abbrev pub none_if_bad : Verdict → List Json → List Json
+none_if_bad bad values = []
+none_if_bad verdict values = values
+
+-- The values of the lines of `replay` after records: those of the documents that are open then.
+abbrev pub report_values : Session → List Record → List Json
+report_values s [] = map document_value s.server.table
+report_values s (r ∷ rs) =
+    none_if_bad (judge s r).verdict (report_values (judge s r).session rs)
+
+-- `replay` writes these lines at the end of a log.
+abbrev pub ReplayJsonLaw : Type 0
+ReplayJsonLaw =
+    (settings : Settings) (records : List Record) (line_due : Bool) →
+    AreJsonLines ((report settings records).last line_due)
+    (report_values (opened (log_config settings)) records)
