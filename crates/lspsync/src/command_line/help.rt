@@ -276,7 +276,7 @@ the name and the cause too.
 `lspsync COMMAND --help` has the options of a command and an example to paste.
 The logs to try are in examples/, or in /usr/share/doc/laspidru/examples.
 
-lspsync 0.1.0, for rattle-kit-13f";
+lspsync 0.1.0, for rattle-kit-13b";
 
 const MAX_BODY: &str = "Greatest length of a message, in bytes,
 from 4096 to 1073741824";
