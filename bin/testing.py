@@ -40,7 +40,7 @@ def trace_in_json(found, head="[LSP   - 10:12:13 AM] "):
 
 
 class Case(unittest.TestCase):
-    def folder(self):
+    def new_folder(self):
         """Returns a new folder, which goes with the test."""
         made = tempfile.TemporaryDirectory()
         self.addCleanup(made.cleanup)
@@ -76,9 +76,9 @@ class Runner(unittest.TextTestRunner):
         return done
 
 
-def main():
+def main(words=sys.argv[1:]):
     """Runs the tests of the program that is run: those that its words name, or all (-k PART: whose names have this part)."""
-    if "--help" in sys.argv[1:]:
+    if "--help" in words:
         print(sys.modules["__main__"].__doc__)
         sys.exit()
-    sys.exit(not unittest.main(testRunner=Runner, verbosity=2, exit=False).result.wasSuccessful())
+    sys.exit(not unittest.main(argv=[sys.argv[0], *words], testRunner=Runner, verbosity=2, exit=False).result.wasSuccessful())
