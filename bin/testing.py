@@ -77,8 +77,9 @@ class Runner(unittest.TextTestRunner):
 
 
 def main(words=sys.argv[1:]):
-    """Runs the tests of the program that is run: those that its words name, or all (-k PART: whose names have this part)."""
+    """Runs the program's tests: all, those that its words name, or with -k those whose names have a part."""
     if "--help" in words:
         print(sys.modules["__main__"].__doc__)
         sys.exit()
-    sys.exit(not unittest.main(argv=[sys.argv[0], *words], testRunner=Runner, verbosity=2, exit=False).result.wasSuccessful())
+    sys.exit(not unittest.main(argv=[sys.argv[0], *words], testRunner=Runner, verbosity=2,
+                               exit=False).result.wasSuccessful())
