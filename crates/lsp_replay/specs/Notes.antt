@@ -222,8 +222,8 @@ terms_in s ranged body = record {
   ranged = ranged;
 }
 
--- What there is to note of a message on the documents before it, if it is accepted. `ranged`: did
--- the server ask for ranges?
+-- What there is to note of a message on the documents before it, unless it is refused. `ranged`:
+-- did the server ask for ranges?
 abbrev pub notes_on : ServerData → Bool → Reading → IncomingData → List Note
 notes_on s ranged body (did_open (Some p)) = opening_notes (entry_at s.table p.uri) p.text
 notes_on s ranged body (did_change (Some p))
