@@ -14,7 +14,7 @@ use Rattle.lsp_replay.specs.Commands.{change_in, log_config, output_in, verdict_
 use Rattle.lsp_replay.specs.Counts.{Counts, counts_words, rare_notes}
 use Rattle.lsp_replay.specs.Tallies.{has_repeated, has_tallies}
 use Rattle.lsp_replay.specs.Lines.{Known, LineView, has_notes, is_renamed, last_in, lines, nothing_known, uri_of}
-use Rattle.lsp_replay.specs.Notes.{notes_of, notes_words, params_of, saved_uri}
+use Rattle.lsp_replay.specs.Notes.{notes_of, notes_words, notification_params, saved_uri}
 use Rattle.lsp_replay.specs.Reasons.{reason_words, renamed_words}
 use Rattle.lsp_replay.specs.Run.{Engine, log_engine}
 use Rattle.lsp_replay.specs.Session.{Session, Judged, Verdict, answered, is_refused, opened, refuses}
@@ -51,7 +51,7 @@ explanation limits uri change seen verdict = []
 
 -- The document that notes are about: the record's, or that of the text that was saved.
 abbrev pub noted_uri : Option (List ℕ) → Reading → Option (List ℕ)
-noted_uri None body = saved_uri (params_of body)
+noted_uri None body = saved_uri (notification_params body)
 noted_uri (Some uri) body = Some uri
 
 -- What comes after the word of a record that has notes.

@@ -180,9 +180,9 @@ abbrev pub opening_notes : Option DocumentItem → List ℕ → List Note
 opening_notes entry text = open_notes entry ++ return_notes text
 
 -- The params of a notification.
-abbrev pub params_of : Reading → Option Data
-params_of (message (notification method params)) = params
-params_of body = None
+abbrev pub notification_params : Reading → Option Data
+notification_params (message (notification method params)) = params
+notification_params body = None
 
 -- The document and the text that params of a `didSave` name. The text is there only if the server
 -- asked for it.
@@ -211,8 +211,8 @@ saved_notes entry saved = []
 -- an open document with the text "abc" the text "abc" has none, "abX" has one.
 abbrev pub saving_notes : List DocumentItem → List ℕ → Reading → List Note
 saving_notes table method body = if bytes_eq method (codes "textDocument/didSave") then
-    saved_notes (option_and_then (entry_at table) (saved_uri (params_of body)))
-    (saved_text (params_of body)) else []
+    saved_notes (option_and_then (entry_at table) (saved_uri (notification_params body)))
+    (saved_text (notification_params body)) else []
 
 -- What the notes of the changes of a body go by, in the encoding of the session.
 abbrev pub terms_in : ServerData → Bool → Reading → Terms

@@ -16,7 +16,7 @@ use crate::facts::asked::{copied_text, is_change, uri_of};
 use crate::notes::Note;
 use crate::notes::changes::{Terms, push_batch_notes};
 use crate::notes::returns::{has_feed, has_lone_return};
-use crate::notes::saved::{params_of, push_saved_note};
+use crate::notes::saved::{notification_params, push_saved_note};
 use crate::session::{RecordBody, Verdict};
 use lsp_log::Sender;
 use lsp_message::{ChangeParams, OpenParams, range_lengths};
@@ -142,7 +142,7 @@ fn saving_notes(
 {
     let mut notes = Vec::new(alloc);
     if method == "textDocument/didSave" {
-        let params = params_of(alloc, body)?;
+        let params = notification_params(alloc, body)?;
         push_saved_note(alloc, &mut notes, server.store(), params.as_ref())?;
     }
     Ok(notes)

@@ -6,7 +6,7 @@ ghost use Rattle.serde_json.specs.View.{view};
 ghost use Rattle.line_diff.specs.Lines.{ends_line};
 ghost use Rattle.lsp_message.specs.Message.{reading};
 ghost use Rattle.lsp_store.specs.Table.{entry_at};
-ghost use Rattle.lsp_replay.specs.Notes.{differing_line, params_of, saved_notes, saved_text, saved_uri};
+ghost use Rattle.lsp_replay.specs.Notes.{differing_line, notification_params, saved_notes, saved_text, saved_uri};
 
 use crate::notes::Note;
 use lsp_message::{Message, ReadFault, read};
@@ -15,8 +15,8 @@ use serde_json::Value;
 use std::alloc::{AllocError, Global};
 
 /// Returns the params of a body, if it is a notification with some.
-pub fn params_of(alloc: Global, body: &[u8]) -> Result<Option<Value>, AllocError>
-    ensures { IfOk result (λ params. option_map view params ≡ params_of (reading body.now)) }
+pub fn notification_params(alloc: Global, body: &[u8]) -> Result<Option<Value>, AllocError>
+    ensures { IfOk result (λ params. option_map view params ≡ notification_params (reading body.now)) }
 {
     match read(alloc, body) {
         Ok(Message::Notification { params, .. }) => Ok(params),
@@ -102,7 +102,10 @@ fn ends_line(text: &[u8], index: usize) -> bool
 {
     match text[index] {
         b'\n' => true,
-        b'\r' => text.get(index + 1) != Some(&b'\n'),
+        b'\r' => match text.get(index + 1) {
+            Some(next) => *next != b'\n',
+            None => true,
+        },
         _ => false,
     }
 }

@@ -19,7 +19,7 @@ use crate::facts::{Facts, Known, has_notes};
 use crate::handler::{Given, Output};
 use crate::members::{push_json_string, push_number, push_words};
 use crate::notes::Note;
-use crate::notes::saved::{params_of, saved_uri};
+use crate::notes::saved::{notification_params, saved_uri};
 use crate::outcome::Outcome;
 use crate::printer::Printer;
 use crate::printer::checking::push_verdict;
@@ -220,7 +220,7 @@ fn push_noted_document(
     if uri.is_some() {
         return push_document(alloc, buffer, uri);
     }
-    let params = params_of(alloc, body)?;
+    let params = notification_params(alloc, body)?;
     push_document(alloc, buffer, saved_uri(params.as_ref()))
 }
 
