@@ -1,5 +1,5 @@
 -- The line in which two texts differ first.
-use Rattle.std.proofs.Common.{◌≡◌, ℕ, suc, ◌+◌, ◌<◌, ◌≤◌, List, [], ◌∷◌, length, drop, refl, sym, ap, ap₂, ◌∙◌, add-one}
+use Rattle.std.proofs.Common.{◌≡◌, ℕ, suc, Bool, ◌+◌, ◌<◌, ◌≤◌, List, [], ◌∷◌, length, drop, refl, ap, ap₂, ◌∙◌, add-one}
 use Rattle.std.specs.Prelude.{if◌then◌else◌, slice_index}
 use Rattle.std.proofs.Math.Seq.{drop-cons}
 use Rattle.std.proofs.lemmas.Bool.{eq-eqb}
@@ -11,23 +11,26 @@ no_more : (line : ℕ) (text : List ℕ) → differing_line line text [] ≡ lin
 no_more line [] = refl
 no_more line (byte ∷ bytes) = refl
 
--- the other text is over
-pub over : (line next : ℕ) (text other : List ℕ) → length other ≤ next
+-- The other text is over.
+pub is_over : (line next : ℕ) (text other : List ℕ) → length other ≤ next
     → differing_line line (drop next text) (drop next other) ≡ line
-over line next text other all =
-    ap (λ (rest : List ℕ). differing_line line (drop next text) rest) (drop_all next other all) ∙ no_more line (drop next text)
+is_over line next text other all =
+    ap (λ (rest : List ℕ). differing_line line (drop next text) rest) (drop_all next other all)
+    ∙ no_more line (drop next text)
 
-on : (line a b : ℕ) (text other : List ℕ) → a ≡ b → differing_line line (a ∷ text) (b ∷ other)
-    ≡ differing_line (if ends_line a text then suc line else line) text other
-on line a b text other same = rw (eq-eqb a b same) refl
+over_byte : (ends : Bool) (line byte other : ℕ) (text others : List ℕ) → byte ≡ other → ends_line byte text ≡ ends
+    → differing_line line (byte ∷ text) (other ∷ others) ≡ differing_line (if ends then suc line else line) text others
+over_byte ends line byte other text others same is = rw (eq-eqb byte other same, is) refl
 
--- both texts have the same byte at an index
-pub goes_on : (line next : ℕ) (text other : List ℕ) → next < length text → next < length other
+-- Both texts have the same byte at an index.
+pub goes_on : (ends : Bool) (line next : ℕ) (text other : List ℕ) → next < length text → next < length other
     → slice_index text next ≡ slice_index other next
+    → ends_line (slice_index text next) (drop (suc next) text) ≡ ends
     → differing_line line (drop next text) (drop next other)
-    ≡ differing_line (if ends_line (slice_index text next) (drop (suc next) text) then suc line else line)
-    (drop (suc next) text) (drop (suc next) other)
-goes_on line next text other within within_other same =
-    ap₂ (λ (xs ys : List ℕ). differing_line line xs ys) (drop-cons text next 0 within)
+    ≡ differing_line (if ends then line + 1 else line) (drop (next + 1) text) (drop (next + 1) other)
+goes_on ends line next text other within within_other same is =
+    rw (add-one next, add-one line)
+    (ap₂ (λ (xs ys : List ℕ). differing_line line xs ys) (drop-cons text next 0 within)
     (drop-cons other next 0 within_other)
-    ∙ on line (slice_index text next) (slice_index other next) (drop (suc next) text) (drop (suc next) other) same
+    ∙ over_byte ends line (slice_index text next) (slice_index other next) (drop (suc next) text)
+    (drop (suc next) other) same is)
