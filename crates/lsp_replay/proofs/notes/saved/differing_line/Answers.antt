@@ -1,4 +1,4 @@
-use Rattle.std.proofs.Common.{◌≡◌, suc, true, false, drop, sym, ◌∙◌, arith}
+use Rattle.std.proofs.Common.{◌≡◌, suc, true, false, sym, ◌∙◌, arith}
 use Rattle.std.specs.Prelude.{slice_index}
 use Rattle.line_diff.specs.Lines.{ends_line}
 use Rattle.lsp_replay.proofs.Reports.SavedLemmas.{goes_on, is_over}
