@@ -1,6 +1,4 @@
-use Rattle.std.proofs.Common.{◌≡◌, suc, true, false, sym, ◌∙◌, arith}
-use Rattle.std.specs.Prelude.{slice_index}
-use Rattle.line_diff.specs.Lines.{ends_line}
+use Rattle.std.proofs.Common.{true, false, sym, ◌∙◌, arith}
 use Rattle.lsp_replay.proofs.Reports.SavedLemmas.{goes_on, is_over}
 use Rattle.lsp_replay.proofs.notes.saved.differing_line.Goals as goal
 use Rattle.lsp_replay.proofs.notes.saved.differing_line.Goals.{then-ends_line, else-ends_line}
