@@ -16,7 +16,8 @@ use std::alloc::{AllocError, Global};
 
 /// Returns the params of a body, if it is a notification with some.
 pub fn notification_params(alloc: Global, body: &[u8]) -> Result<Option<Value>, AllocError>
-    ensures { IfOk result (λ params. option_map view params ≡ notification_params (reading body.now)) }
+    ensures { IfOk result
+        (λ params. option_map view params ≡ notification_params (reading body.now)) }
 {
     match read(alloc, body) {
         Ok(Message::Notification { params, .. }) => Ok(params),
