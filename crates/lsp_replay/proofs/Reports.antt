@@ -8,5 +8,6 @@ pub mod TraceLemmas
 pub mod TraceLawLemmas
 pub mod ExplainLemmas
 pub mod NoteLemmas
+pub mod SavedLemmas
 pub mod ReasonLemmas
 pub mod CompareLemmas

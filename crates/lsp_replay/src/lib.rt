@@ -13,7 +13,7 @@
 //! - `facts`: what `trace` and `check --explain` say of a record.
 //! - `members`: what a line of JSON is put together from.
 //! - `mentions`: which record opened, closed or refused a document last.
-//! - `notes`: what of an accepted message is suspicious.
+//! - `notes`: what is suspicious of a message that wasn't refused.
 //! - `outcome`: the status and the counts at the end of a run, and what a part of a log lacks.
 //! - `laws`: what holds of the logs that are written.
 #![tactic(auto)]

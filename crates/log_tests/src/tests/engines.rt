@@ -66,6 +66,10 @@ const BOTH: &str =
 const SAVE: &str =
     r#"{"jsonrpc":"2.0","method":"textDocument/didSave","params":{"textDocument":{"uri":"file:///a"}}}"#;
 
+/// The same with a text that isn't the document's.
+const SAVE_OTHER: &str =
+    r#"{"jsonrpc":"2.0","method":"textDocument/didSave","params":{"text":"b","textDocument":{"uri":"file:///a"}}}"#;
+
 /// A request that no server of documents knows.
 const HOVER: &str =
     r#"{"id":3,"jsonrpc":"2.0","method":"textDocument/hover","params":{"position":{"character":1,"line":0},"textDocument":{"uri":"file:///a"}}}"#;

@@ -99,7 +99,7 @@ impl Wanted {
     }
 }
 
-static RUNS: [Wanted; 15] = [
+static RUNS: [Wanted; 16] = [
     Wanted {
         command: Command::Serve,
         input: Bytes::Frames(&[SHORT]),
@@ -189,6 +189,19 @@ static RUNS: [Wanted; 15] = [
             "messages of the editor: 3, changed documents: 2\nnoted changes nothing: 1, first message 3\nnoted past the last line: 1, first message 3\nNothing was refused; see the notes. `lspsync replay --at N`: the texts after message N.\n",
         ],
         lengths: &[8, 18, 160, 383],
+        end: Ended(0, 3, 0),
+    },
+    // A text is saved that isn't the document's.
+    Wanted {
+        command: Command::Explain,
+        input: Bytes::Frames(&[SHORT, OPEN, SAVE_OTHER]),
+        parts: &[
+            "1 reply\n",
+            "2 changed\n",
+            "3 ignored of \"file:///a\": the saved text is not the document's: they differ in line 1 first\n",
+            "messages of the editor: 3, changed documents: 1\nnoted another text saved: 1, first message 3\nNothing was refused; see the notes. `lspsync replay --at N`: the texts after message N.\n",
+        ],
+        lengths: &[8, 18, 110, 291],
         end: Ended(0, 3, 0),
     },
     // The whole of an empty text is replaced by nothing, which is no change.
