@@ -39,7 +39,7 @@ const NO_URI: &str = "lspsync: good.log: the document was never open\n";
 const SAME: &str = "\"file:///a\" after message 3: the text is the file's\n";
 
 const OTHER: &str =
-    "\"file:///a\" after message 3: the text is not the file's:\nline 1 (made by message 3): \"aXc\"\n  the file has: \"abc\\n\"\nOf each line the message that is named is wrong, or after it one is missing.\n";
+    "\"file:///a\" after message 3: the text is not the file's:\nline 1 (made by message 3): \"aXc\"\n  the file has: \"abc\\n\"\nFor each line, a message named is wrong, or a later one that was to change what it made is missing or wrong.\n";
 
 const BYTES: &str = "lspsync: nvim.bin: stream did not contain valid UTF-8\n";
 

@@ -9,6 +9,8 @@ returns c =
       c.in_ok-push_alone-2.ensures,
       c.in_ok-push_alone.ensures,
       c.in_ok-push_ends.ensures,
+      c.makers_of.ensures,
+      c.have_same_marks.ensures,
       c.in_ok-push_words.ensures,
       c.have_same_ends.ensures,
       c.has_last_end.ensures,

@@ -253,7 +253,7 @@ static RUNS: [Wanted; 16] = [
         command: Command::Compare("aYc\n"),
         input: Bytes::Frames(&[SHORT, OPEN]),
         parts: &[
-            "\"file:///a\" after message 2: the text is not the file's:\nline 1 (made by message 2): \"abc\"\n  the file has: \"aYc\\n\"\nOf each line the message that is named is wrong, or after it one is missing.\n",
+            "\"file:///a\" after message 2: the text is not the file's:\nline 1 (made by message 2): \"abc\"\n  the file has: \"aYc\\n\"\nFor each line, a message named is wrong, or a later one that was to change what it made is missing or wrong.\n",
         ],
         lengths: &[192],
         end: Ended(1, 2, 0),

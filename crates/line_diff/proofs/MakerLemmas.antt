@@ -1,0 +1,14 @@
+-- Rows of numbers, as a loop makes them.
+use Rattle.std.proofs.Common.{◌≡◌, ℕ, ◌+◌, ◌<◌, List, [], ◌∷◌, Bor, length, map, drop, take, get_or, refl}
+use Rattle.std.proofs.lemmas.List.{drop_more, get_or-map, length-map}
+use Rattle.line_diff.specs.Makers.{rows_of}
+
+pub row_first : (lines : List (Bor (List ℕ))) (d : Bor (List ℕ)) (i : ℕ) (rest : List ℕ) → i < length lines
+    → rows_of rest (drop i (map (λ line. line.now) lines))
+    ≡ take (length (get_or lines i d).now) rest
+    ∷ rows_of (drop (length (get_or lines i d).now) rest) (drop (i + 1) (map (λ line. line.now) lines))
+row_first lines d i rest within =
+    let shown = map (λ (line : Bor (List ℕ)). line.now) lines in
+    let more = drop_more shown i [] (rw (length-map lines (λ line. line.now)) within) in
+    let line = get_or-map (λ (line : Bor (List ℕ)). line.now) lines i d [] within in
+    rw (more, line) refl
