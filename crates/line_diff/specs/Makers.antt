@@ -1,5 +1,5 @@
 -- By which of several numbered changes a line differs from another one.
-use Rattle.std.specs.Prelude.{ℕ, ◌+◌, ◌==◌, Bool, if◌then◌else◌, length, drop, take, slice_get, List, [], ◌∷◌}
+use Rattle.std.specs.Prelude.{ℕ, zero, suc, ◌+◌, ◌-◌, ◌==◌, max, if◌then◌else◌, length, drop, take, slice_get, List, [], ◌∷◌}
 use Rattle.std.specs.Option.{unwrap_or}
 use Rattle.line_diff.specs.declared.makers.Makers.{Makers}
 use Rattle.line_diff.specs.Common.{common_back, common_front}
@@ -8,22 +8,27 @@ use Rattle.line_diff.specs.Common.{common_back, common_front}
 abbrev pub number_at : List ℕ → ℕ → ℕ
 number_at numbers index = unwrap_or (slice_get numbers index) 0
 
--- Has a line nothing of its own? Then it is another one in which bytes are missing.
-abbrev pub is_lacking : List ℕ → List ℕ → Bool
-is_lacking line other =
-    common_front line other + common_back (common_front line other) line other == length line
+-- The greatest of `count` numbers from an index on, or 0.
+abbrev pub greatest : List ℕ → ℕ → ℕ → ℕ
+greatest numbers zero from = 0
+greatest numbers (suc count) from =
+    max (number_at numbers from) (greatest numbers count (suc from))
 
--- Where both part: the change that made the line's byte there, if it isn't lacking, and the last
--- change at that place.
-abbrev pub makers_of : List ℕ → List ℕ → List ℕ → List ℕ → Makers
-makers_of owners places line other = if is_lacking line other
+-- The changes by which the bytes of a line from `front` to `end` differ from what another line has
+-- in their place: which made the first byte, if there is one, and the last one at a place.
+abbrev pub makers_between : List ℕ → List ℕ → ℕ → ℕ → Makers
+makers_between owners places front end = if front == end
     then record {
-      first = number_at places (common_front line other);
-      last = number_at places (common_front line other);
-    } else record {
-      first = number_at owners (common_front line other);
-      last = number_at places (common_front line other);
+      first = greatest places (end + 1 - front) front;
+      last = greatest places (end + 1 - front) front;
     }
+    else record { first = number_at owners front; last = greatest places (end + 1 - front) front }
+
+-- The same of a line and another one, without what is equal at the front and at the back.
+abbrev pub makers_of : List ℕ → List ℕ → List ℕ → List ℕ → Makers
+makers_of owners places line other =
+    makers_between owners places (common_front line other)
+    (length line - common_back (common_front line other) line other)
 
 -- ---- in a text with several lines
 

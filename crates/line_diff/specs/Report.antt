@@ -4,6 +4,7 @@ use Rattle.std.specs.Option.{unwrap_or}
 use Rattle.std.specs.Str.{bytes_eq}
 use Rattle.line_diff.specs.declared.hunks.Hunk.{Hunk}
 use Rattle.line_diff.specs.Alike.{are_alike, has_last_end, has_mark, have_same_ends, have_same_marks}
+use Rattle.line_diff.specs.Common.{common_front}
 use Rattle.line_diff.specs.Hunks.{hunks_of}
 use Rattle.line_diff.specs.Lines.{lines_of}
 use Rattle.line_diff.specs.Makers.{NumberRows, makers_of, number_at, number_rows, row_at}
@@ -93,22 +94,23 @@ alone_words what true false = what ++ codes ", which the document alone has\n"
 alone_words what false true = what ++ codes ", which the file alone has\n"
 alone_words what text file = []
 
--- By which changes the first line end differs, where that is known.
-unfoldable pub first_end_words : Bool → Makers → List ℕ
-first_end_words known makers = if known
-    then codes ", the first of them" ++ maker_words makers ++ codes "\n" else codes "\n"
+-- By which change the first line end differs, where that is known.
+unfoldable pub first_end_words : Bool → ℕ → List ℕ
+first_end_words known last = if known
+    then codes ", the first of them made by message " ++ decimal last ++ codes "\n"
+    else codes "\n"
 
 -- Line ends, unless they are the same; and the first one, if nothing else differs before it.
-abbrev pub ends_words : Bool → Bool → Makers → List ℕ
-ends_words same known makers =
-    if same then [] else codes "  line ends" ++ first_end_words known makers
+abbrev pub ends_words : Bool → Bool → ℕ → List ℕ
+ends_words same known last =
+    if same then [] else codes "  line ends" ++ first_end_words known last
 
 -- In what a document's text and a file differ that are alike, a line for each.
-unfoldable pub alike_words : List ℕ → List ℕ → List ℕ → List ℕ → List ℕ
-alike_words text owners places file =
+unfoldable pub alike_words : List ℕ → List ℕ → List ℕ → List ℕ
+alike_words text places file =
     codes "the file's, but for\n"
     ++ ends_words (have_same_ends text file) (have_same_marks text file)
-    (makers_of owners places text file)
+    (number_at places (common_front text file))
     ++ alone_words (codes "  the last line end") (has_last_end text) (has_last_end file)
     ++ alone_words (codes "  a byte order mark") (has_mark text) (has_mark file)
 
@@ -118,7 +120,7 @@ alike_words text owners places file =
 unfoldable pub judgement : List ℕ → List ℕ → List ℕ → List ℕ → List ℕ
 judgement text owners places file =
     if bytes_eq text file then codes "the file's\n"
-    else if are_alike text file then alike_words text owners places file
+    else if are_alike text file then alike_words text places file
     else difference_words owners places (lines_of text) (lines_of file)
 
 abbrev pub report_of : List ℕ → ℕ → List ℕ → List ℕ → List ℕ → List ℕ

@@ -1,7 +1,7 @@
 //! By which changes a line differs from another one.
 
-ghost use Rattle.std.specs.Prelude.{◌≡◌, IfOk, drop, map, take};
-ghost use Rattle.line_diff.specs.Makers.{is_lacking, makers_of, number_at, number_rows, row_at, rows_of};
+ghost use Rattle.std.specs.Prelude.{◌≡◌, ◌-◌, IfOk, drop, map, take};
+ghost use Rattle.line_diff.specs.Makers.{greatest, makers_of, number_at, number_rows, row_at, rows_of};
 
 use crate::owners::{common_back, common_front};
 use std::alloc::{AllocError, Global};
@@ -33,7 +33,8 @@ impl<'a> Model for Rows<'a> {
     } };
 }
 
-/// The changes by which a line differs: one that made a byte, and the last one there.
+/// The changes by which a line differs: which made the first byte that does, and the last one in
+/// what does.
 #[derive(Clone, Copy, Debug, PartialEq, Eq)]
 pub struct Makers {
     pub first: u64,
@@ -116,26 +117,30 @@ pub fn number_at(numbers: &[u64], index: usize) -> u64
     }
 }
 
-/// Returns whether a line has nothing of its own: it is another one in which bytes are missing.
-fn is_lacking(line: &[u8], other: &[u8]) -> bool
-    ensures { result ≡ is_lacking line.now other.now }
+/// Returns the greatest of the numbers from one index to another, or 0.
+fn greatest(numbers: &[u64], start: usize, end: usize) -> u64
+    ensures { result ≡ greatest numbers.now (end - start) start }
 {
-    let front = common_front(line, other);
-    front + common_back(front, line, other) == line.len()
+    let mut most = 0;
+    for index in start..end {
+        most = number_at(numbers, index).max(most);
+    }
+    most
 }
 
 /// Returns the changes by which a line, whose bytes and places have these numbers, differs from
-/// another one: where they part.
+/// another one: which made the first byte that differs, and the last one in what differs.
 pub fn makers_of(owners: &[u64], places: &[u64], line: &[u8], other: &[u8]) -> Makers
     ensures { result ≡ makers_of owners.now places.now line.now other.now }
 {
-    let index = common_front(line, other);
-    let last = number_at(places, index);
-    if is_lacking(line, other) {
+    let front = common_front(line, other);
+    let end = line.len() - common_back(front, line, other);
+    let last = greatest(places, front, end + 1);
+    if front == end {
         Makers { first: last, last }
     } else {
         Makers {
-            first: number_at(owners, index),
+            first: number_at(owners, front),
             last,
         }
     }

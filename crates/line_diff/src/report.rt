@@ -11,6 +11,7 @@ use crate::alike::{are_alike, has_last_end, has_mark, have_same_ends, have_same_
 use crate::hunks::{Hunk, hunks_of};
 use crate::lines::{line_at, lines_of};
 use crate::makers::{Makers, Numbers, Rows, makers_of, number_at, row_at};
+use crate::owners::common_front;
 use crate::shown::push_shown;
 use itoa::Buffer;
 use std::alloc::{AllocError, Global};
@@ -270,34 +271,29 @@ fn push_alone(
     }
 }
 
-/// Writes by which changes the first line end differs, where that is known.
+/// Writes by which change the first line end differs, where that is known.
 #[tactic(auto, unfolding(crate::specs::Report::first_end_words))]
-fn push_first_end(buffer: &mut Vec<u8>, known: bool, makers: Makers) -> Result<(), AllocError>
-    ensures { OnOk result (buffer.new.items ≡ buffer.old.items ++ first_end_words known makers) }
+fn push_first_end(buffer: &mut Vec<u8>, known: bool, last: u64) -> Result<(), AllocError>
+    ensures { OnOk result (buffer.new.items ≡ buffer.old.items ++ first_end_words known last) }
 {
     if !known {
         return push_words(buffer, "\n");
     }
-    push_words(buffer, ", the first of them")?;
-    push_makers(buffer, makers)?;
+    push_words(buffer, ", the first of them made by message ")?;
+    push_number(buffer, last)?;
     push_words(buffer, "\n")
 }
 
-/// Writes that line ends differ, unless they are the same; and by which changes the first one does,
-/// if nothing else differs before it.
-fn push_ends(
-    buffer: &mut Vec<u8>,
-    same: bool,
-    known: bool,
-    makers: Makers,
-) -> Result<(), AllocError>
-    ensures { OnOk result (buffer.new.items ≡ buffer.old.items ++ ends_words same known makers) }
+/// Writes that line ends differ, unless they are the same; and by which change the first one does, if
+/// nothing else differs before it.
+fn push_ends(buffer: &mut Vec<u8>, same: bool, known: bool, last: u64) -> Result<(), AllocError>
+    ensures { OnOk result (buffer.new.items ≡ buffer.old.items ++ ends_words same known last) }
 {
     if same {
         return Ok(());
     }
     push_words(buffer, "  line ends")?;
-    push_first_end(buffer, known, makers)?;
+    push_first_end(buffer, known, last)?;
     Ok(())
 }
 
@@ -305,18 +301,18 @@ fn push_ends(
 fn push_alike(
     buffer: &mut Vec<u8>,
     text: &[u8],
-    numbers: Numbers<'_>,
+    places: &[u64],
     file: &[u8],
 ) -> Result<(), AllocError>
     ensures { OnOk result (buffer.new.items ≡ buffer.old.items
-        ++ alike_words text.now numbers.entry.owners.now numbers.entry.places.now file.now) }
+        ++ alike_words text.now places.now file.now) }
 {
     push_words(buffer, "the file's, but for\n")?;
     push_ends(
         buffer,
         have_same_ends(text, file),
         have_same_marks(text, file),
-        makers_of(numbers.owners, numbers.places, text, file),
+        number_at(places, common_front(text, file)),
     )?;
     push_alone(
         buffer,
@@ -349,7 +345,7 @@ fn push_judgement(
         return push_words(buffer, "the file's\n");
     }
     if are_alike(alloc, text.as_bytes(), file.as_bytes())? {
-        return push_alike(buffer, text.as_bytes(), numbers, file.as_bytes());
+        return push_alike(buffer, text.as_bytes(), numbers.places, file.as_bytes());
     }
     push_differences(alloc, buffer, text, numbers, file)
 }

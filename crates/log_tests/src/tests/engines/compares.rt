@@ -43,7 +43,7 @@ static ROWS: [(&[&str], &str, End, &str); 9] = [
         &[INITIALIZE, THREE_LINES],
         "one\r\ntwo\rthree\n",
         Ended(1, 2, 0),
-        "\"file:///a\" after message 2: the text is the file's, but for\n  line ends, the first of them (made by message 2)\n",
+        "\"file:///a\" after message 2: the text is the file's, but for\n  line ends, the first of them made by message 2\n",
     ),
     // A line differs, and one is missing at the end.
     (

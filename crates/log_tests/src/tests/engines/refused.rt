@@ -255,7 +255,7 @@ static RUNS: [Wanted; 16] = [
         parts: &[
             "\"file:///a\" after message 2: the text is not the file's:\nline 1 (made by message 2): \"abc\"\n  the file has: \"aYc\\n\"\nFor each line, a message named is wrong, or a later one that was to change what it made is missing or wrong.\n",
         ],
-        lengths: &[192],
+        lengths: &[224],
         end: Ended(1, 2, 0),
     },
     // Two frames, and two records of version 2.
