@@ -99,7 +99,7 @@ impl Wanted {
     }
 }
 
-static RUNS: [Wanted; 15] = [
+static RUNS: [Wanted; 16] = [
     Wanted {
         command: Command::Serve,
         input: Bytes::Frames(&[SHORT]),
@@ -152,6 +152,13 @@ static RUNS: [Wanted; 15] = [
         parts: &["abc"],
         lengths: &[3],
         end: Ended(0, 2, 0),
+    },
+    Wanted {
+        command: Command::Openings,
+        input: Bytes::Frames(&[SHORT, OPEN, CLOSE]),
+        parts: &["  message 2 opened \"file:///a\"\n"],
+        lengths: &[31],
+        end: Ended(0, 3, 0),
     },
     // The document is opened, and opened again.
     Wanted {
