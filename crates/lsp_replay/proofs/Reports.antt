@@ -1,8 +1,9 @@
 -- Lines that `check`, `trace` and `replay` write.
 pub mod ReportLemmas
 pub mod QuietLemmas
-pub mod PartLemmas
+pub mod OpeningLemmas
 pub mod KeptLemmas
+pub mod PartLemmas
 pub mod MemberLemmas
 pub mod TraceLemmas
 pub mod TraceLawLemmas

@@ -257,6 +257,7 @@ fn push_counts(buffer: &mut Vec<u8>, messages: u64, counts: &Counts) -> Result<(
     push_words(buffer, ", changed documents: ")?;
     push_number(buffer, counts.changed())?;
     push_words(buffer, "\n")?;
+    push_tallies(buffer, "", counts.dropped())?;
     push_tallies(buffer, "refused by ", counts.refused())?;
     push_tallies(buffer, "noted ", counts.noted())
 }

@@ -153,6 +153,13 @@ static RUNS: [Wanted; 16] = [
         lengths: &[3],
         end: Ended(0, 2, 0),
     },
+    Wanted {
+        command: Command::Openings,
+        input: Bytes::Frames(&[SHORT, OPEN, CLOSE]),
+        parts: &["  message 2 opened \"file:///a\"\n"],
+        lengths: &[31],
+        end: Ended(0, 3, 0),
+    },
     // The document is opened, and opened again.
     Wanted {
         command: Command::Trace,
