@@ -29,7 +29,7 @@ complete -c lspsync -n '__fish_seen_subcommand_from trace' -l texts -d 'Print th
 complete -c lspsync -n '__fish_seen_subcommand_from trace' -l bodies -d 'Print each message too, where it is JSON'
 complete -c lspsync -n '__fish_seen_subcommand_from trace' -l live -d 'Flush what is printed before more is read'
 complete -c lspsync -n '__fish_seen_subcommand_from replay' -l at -x -d 'Replay up to the Nth record alone'
-complete -c lspsync -n '__fish_seen_subcommand_from replay' -l uri -x -d 'Print this document\'s last text alone'
+complete -c lspsync -n '__fish_seen_subcommand_from replay' -l uri -x -d 'Print one document\'s last text alone'
 complete -c lspsync -n '__fish_seen_subcommand_from compare' -l uri -x -d 'Compare the document whose URI ends so'
 complete -c lspsync -n '__fish_seen_subcommand_from normalise' -l documents -d 'Leave out each message that is neither about the session nor about a document\'s text'
 complete -c lspsync -n '__fish_seen_subcommand_from normalise' -l squash -d 'Write changes of one document that follow each other as one message'

@@ -446,7 +446,7 @@ laspidru_u32 laspidru_open_canonical_message(laspidru_handle *end, const unsigne
 /* ---- Logs.
 
    Runs a command, LASPIDRU_CHECK to LASPIDRU_CONVERT, on the bytes of a log. Its output goes into the empty handle `output`.
-   `uri` is that of the one document that REPLAY is to write; without `has_uri` it may have no bytes. */
+   `uri` is that of the one document that REPLAY is to write, or how it ends; without `has_uri` it may have no bytes. */
 laspidru_u32 laspidru_log_run(laspidru_handle *output, laspidru_u32 command, const laspidru_log_settings *settings,
     const unsigned char *uri, laspidru_size uri_len, const unsigned char *log, laspidru_size log_len,
     laspidru_ending *ending);

@@ -1,6 +1,7 @@
 -- The first of several numbers with a property, as a loop finds it.
 use Rattle.std.proofs.Common.{◌≡◌, ℕ, suc, ◌+◌, ◌-◌, ◌<◌, Bool, true, false, List, Option, Some, None, length, refl, add-one, arith}
-use Rattle.std.specs.Prelude.{slice_get}
+use Rattle.std.specs.Prelude.{◌==◌, not, slice_get}
+use Rattle.std.proofs.lemmas.Bool.{eq-eqb}
 use Rattle.std.proofs.lemmas.Option.{slice_get_within}
 use Rattle.line_diff.specs.Common.{are_equal, first_with}
 
@@ -20,6 +21,9 @@ pub first_missing : (property : ℕ → Bool) (n i : ℕ) → i ≡ n → first_
 first_missing property n i end =
     let none : n - i ≡ 0 = omega arith in
     rw none end
+
+pub same_number : (a b : ℕ) → a ≡ b → not (a == b) ≡ false
+same_number a b same = rw (eq-eqb a b same) refl
 
 -- lines that are equal are there
 within_by : (lines others : List (List ℕ)) (k j : ℕ) (line other : Option (List ℕ)) → slice_get lines k ≡ line

@@ -2,5 +2,6 @@ mod FirstLemmas
 mod GapLemmas
 mod HunkLemmas
 mod LineLemmas
+mod MakerLemmas
 mod ReportLemmas
 mod ShownLemmas

@@ -1,5 +1,5 @@
 -- Texts that differ by line ends, the last line end and a byte order mark alone. Texts are bytes.
-use Rattle.std.specs.Prelude.{ℕ, ◌-◌, Bool, true, false, ◌&&◌, ◌||◌, ◌==◌, if◌then◌else◌, length, drop, take, List, [], ◌∷◌}
+use Rattle.std.specs.Prelude.{ℕ, ◌-◌, Bool, true, false, not, ◌&&◌, ◌||◌, ◌==◌, if◌then◌else◌, length, drop, take, List, [], ◌∷◌}
 use Rattle.std.specs.Str.{bytes_eq}
 
 -- A byte order mark.
@@ -9,6 +9,10 @@ mark = 239 ∷ 187 ∷ 191 ∷ []
 -- Does a text begin with one?
 abbrev pub has_mark : List ℕ → Bool
 has_mark text = bytes_eq (take 3 text) mark
+
+-- Have both texts one, or neither?
+abbrev pub have_same_marks : List ℕ → List ℕ → Bool
+have_same_marks text other = if has_mark text then has_mark other else not (has_mark other)
 
 -- The text after it.
 abbrev pub without_mark : List ℕ → List ℕ

@@ -1,5 +1,5 @@
--- Lines that are common to two texts.
-use Rattle.std.specs.Prelude.{ℕ, zero, suc, ◌-◌, min, Bool, false, not, if◌then◌else◌, length, slice_get, List, Option, Some}
+-- What is common to two texts: lines, and bytes at the front and at the back.
+use Rattle.std.specs.Prelude.{ℕ, zero, suc, ◌-◌, ◌==◌, min, Bool, false, not, if◌then◌else◌, length, slice_index, List, Option, Some}
 use Rattle.std.specs.Str.{bytes_eq}
 
 -- Are two lines there, and equal?
@@ -13,21 +13,20 @@ first_with property zero from = from
 first_with property (suc count) from =
     if property from then from else first_with property count (suc from)
 
--- Have two texts other lines at an index?
-abbrev pub differ_at : List (List ℕ) → List (List ℕ) → ℕ → Bool
-differ_at lines others k = not (are_equal (slice_get lines k) (slice_get others k))
+-- Have two texts other bytes at an index?
+abbrev pub differ_at : List ℕ → List ℕ → ℕ → Bool
+differ_at text other k = not (slice_index text k == slice_index other k)
 
--- The same, counted from the last line back.
-abbrev pub differ_back_at : List (List ℕ) → List (List ℕ) → ℕ → Bool
-differ_back_at lines others k = not (are_equal (slice_get lines (length lines - 1 - k))
-    (slice_get others (length others - 1 - k)))
+-- The same, counted from the last byte back.
+abbrev pub differ_back_at : List ℕ → List ℕ → ℕ → Bool
+differ_back_at text other k =
+    not (slice_index text (length text - 1 - k) == slice_index other (length other - 1 - k))
 
--- How many lines are equal from the first on.
-abbrev pub common_front : List (List ℕ) → List (List ℕ) → ℕ
-common_front lines others =
-    first_with (differ_at lines others) (min (length lines) (length others)) 0
+-- How many bytes are equal from the first on.
+abbrev pub common_front : List ℕ → List ℕ → ℕ
+common_front text other = first_with (differ_at text other) (min (length text) (length other)) 0
 
--- How many lines are equal from the last back, if so many from the first on don't count.
-abbrev pub common_back : ℕ → List (List ℕ) → List (List ℕ) → ℕ
-common_back front lines others =
-    first_with (differ_back_at lines others) (min (length lines) (length others) - front) 0
+-- How many bytes are equal from the last back, if so many from the first on don't count.
+abbrev pub common_back : ℕ → List ℕ → List ℕ → ℕ
+common_back front text other =
+    first_with (differ_back_at text other) (min (length text) (length other) - front) 0

@@ -3,6 +3,7 @@ pub mod Common
 pub mod Compared
 pub mod Hunks
 pub mod Lines
+pub mod Makers
 pub mod Owners
 pub mod Report
 pub mod Shown

@@ -2,7 +2,7 @@
 
 ghost use Rattle.std.specs.Prelude.{◌≡◌, IfOk, false};
 ghost use Rattle.line_diff.specs.Alike.{are_alike, ends_with_byte, has_last_end, has_mark};
-ghost use Rattle.line_diff.specs.Alike.{have_same_ends, without_last_end, with_feeds, without_last_byte, without_mark};
+ghost use Rattle.line_diff.specs.Alike.{have_same_ends, have_same_marks, without_last_end, with_feeds, without_last_byte, without_mark};
 
 use std::alloc::{AllocError, Global};
 
@@ -14,6 +14,17 @@ pub fn has_mark(text: &[u8]) -> bool
     ensures { result ≡ has_mark text.now }
 {
     text.starts_with(MARK)
+}
+
+/// Returns whether both texts have a byte order mark, or neither.
+pub fn have_same_marks(text: &[u8], other: &[u8]) -> bool
+    ensures { result ≡ have_same_marks text.now other.now }
+{
+    if has_mark(text) {
+        has_mark(other)
+    } else {
+        !has_mark(other)
+    }
 }
 
 /// Returns the text after its byte order mark, if it has one.

@@ -1,11 +1,11 @@
 //! Where two texts have other lines.
 
-ghost use Rattle.std.specs.Prelude.{◌≡◌, ◌<◌, ◌-◌, ◌++◌, IfOk, IfSome, OnOk, length, map, suc};
+ghost use Rattle.std.specs.Prelude.{◌≡◌, ◌<◌, ◌-◌, ◌++◌, IfOk, IfSome, OnOk, length, map, option_map, suc};
 ghost use Rattle.std.specs.Option.{unwrap_or};
+ghost use Rattle.line_diff.specs.Common.{are_equal};
 ghost use Rattle.line_diff.specs.Hunks.{hunks_of, next_gap, pair_in, unless_empty};
 
 use crate::lines::line_at;
-use crate::owners::are_equal;
 use std::alloc::{AllocError, Global};
 
 /// A place at which two texts have other lines: those from one index to another of the one text, and
@@ -23,6 +23,17 @@ pub struct Hunk {
 struct Gap {
     lines: usize,
     others: usize,
+}
+
+/// Returns whether two lines are there, and are equal.
+fn are_equal(line: Option<&str>, other: Option<&str>) -> bool
+    ensures { result ≡ are_equal (option_map (λ line. line.now) line.entry)
+        (option_map (λ line. line.now) other.entry) }
+{
+    match (line, other) {
+        (Some(line), Some(other)) => line == other,
+        _ => false,
+    }
 }
 
 /// Of the pairs of lines before which are so many lines of both texts together, less 1, returns the

@@ -1,8 +1,9 @@
-//! Which of several numbered changes made each line of a text so, and how it differs from a file's.
+//! Which of several numbered changes made each byte of a text so, and how it differs from a file's.
 //!
 //! - `compared`: `Comparison`, a file and the document of a session that is compared with it.
-//! - `tracked`: `TrackedText`, a text and which change made each of its lines; `owners` is how.
+//! - `tracked`: `TrackedText`, a text and which change made each of its bytes; `owners` is how.
 //! - `report`: how the text and a file differ, in words.
+//! - `makers`: by which changes a line differs.
 //! - `lines`: the lines of a text. `hunks`: where two texts have other lines.
 //! - `alike`: whether texts differ by line ends, the last line end and a byte order mark alone.
 //! - `shown`: a line in quotes, with what can't be seen in it.
@@ -12,6 +13,7 @@ mod alike;
 mod compared;
 mod hunks;
 mod lines;
+mod makers;
 mod owners;
 mod report;
 mod shown;

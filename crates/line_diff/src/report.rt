@@ -2,19 +2,27 @@
 
 ghost use Rattle.std.specs.Prelude.{◌≡◌, ◌++◌, ◌-◌, OnOk, decimal, flat_map, map};
 ghost use Rattle.line_diff.specs.Lines.{lines_of};
-ghost use Rattle.line_diff.specs.Report.{alike_words, alone_words, difference_words, ends_words, file_line, file_line_at};
-ghost use Rattle.line_diff.specs.Report.{hunk_head, hunk_words, judgement, last_near, missing_words, own_line, own_line_at};
-ghost use Rattle.line_diff.specs.Report.{owner_at, report_of, text_at, words_from};
+ghost use Rattle.line_diff.specs.Report.{alike_words, alone_words, difference_words, ends_words, file_line, file_line_at, first_end_words};
+ghost use Rattle.line_diff.specs.Report.{hunk_head, hunk_words, judgement, line_makers, maker_words, missing_words, other_for, own_line};
+ghost use Rattle.line_diff.specs.Report.{own_line_at};
+ghost use Rattle.line_diff.specs.Report.{report_of, text_at, words_from};
 
-use crate::alike::{are_alike, has_last_end, has_mark, have_same_ends};
+use crate::alike::{are_alike, has_last_end, has_mark, have_same_ends, have_same_marks};
 use crate::hunks::{Hunk, hunks_of};
 use crate::lines::{line_at, lines_of};
+use crate::makers::{Makers, Numbers, Rows, makers_of, number_at, row_at};
+use crate::owners::common_front;
 use crate::shown::push_shown;
 use itoa::Buffer;
 use std::alloc::{AllocError, Global};
 
 /// How far the next common line is sought: in so many lines of both texts together.
 const FARTHEST: usize = 2_000;
+
+/// What follows from a report.
+const ADVICE: &str =
+    "For each line, a message named is wrong, or a later one that was to change what \
+it made is missing or wrong.\n";
 
 /// Writes words as they are.
 pub(crate) fn push_words(buffer: &mut Vec<u8>, words: &str) -> Result<(), AllocError>
@@ -31,16 +39,6 @@ fn push_number(buffer: &mut Vec<u8>, number: u64) -> Result<(), AllocError>
     buffer.extend_from_slice(digits.format(number).as_bytes())
 }
 
-/// Returns the number of the change that made a line, or 0 where there is no such line.
-fn owner_at(owners: &[u64], index: usize) -> u64
-    ensures { result ≡ owner_at owners.now index }
-{
-    match owners.get(index) {
-        Some(owner) => *owner,
-        None => 0,
-    }
-}
-
 /// Returns a line, or nothing where there is no such line.
 fn text_at<'a>(lines: &[&'a str], index: usize) -> &'a str
     ensures { result.now ≡ text_at (map (λ line. line.now) lines.entry.now) index }
@@ -51,44 +49,88 @@ fn text_at<'a>(lines: &[&'a str], index: usize) -> &'a str
     }
 }
 
-/// Writes a line that the document has alone, with its number and the change that made it.
+/// Writes by which changes a line differs.
+#[tactic(auto, unfolding(crate::specs::Report::maker_words))]
+fn push_makers(buffer: &mut Vec<u8>, makers: Makers) -> Result<(), AllocError>
+    ensures { OnOk result (buffer.new.items ≡ buffer.old.items ++ maker_words makers) }
+{
+    if makers.first == makers.last {
+        push_words(buffer, " (made by message ")?;
+        push_number(buffer, makers.last)?;
+    } else {
+        push_words(buffer, " (made by messages ")?;
+        push_number(buffer, makers.first)?;
+        push_words(buffer, " and ")?;
+        push_number(buffer, makers.last)?;
+    }
+    push_words(buffer, ")")
+}
+
+/// Writes a line that the document has alone, with its number and the changes by which it differs.
 fn push_own_line(
     buffer: &mut Vec<u8>,
     number: usize,
-    owner: u64,
+    makers: Makers,
     line: &str,
 ) -> Result<(), AllocError>
     ensures { OnOk result
-        (buffer.new.items ≡ buffer.old.items ++ own_line number owner line.now) }
+        (buffer.new.items ≡ buffer.old.items ++ own_line number makers line.now) }
 {
     push_words(buffer, "line ")?;
     push_number(buffer, number as u64)?;
-    push_words(buffer, " (made by message ")?;
-    push_number(buffer, owner)?;
-    push_words(buffer, "): ")?;
+    push_makers(buffer, makers)?;
+    push_words(buffer, ": ")?;
     push_shown(buffer, line)?;
     push_words(buffer, "\n")
 }
 
-/// Writes lines that the document has alone.
+/// Returns the line of the file in the place of a line of a hunk, or nothing where it has fewer.
+fn other_for<'a>(others: &[&'a str], hunk: &Hunk, index: usize) -> &'a str
+    ensures { result.now ≡ other_for (map (λ line. line.now) others.entry.now) hunk.now index }
+{
+    let at = index.saturating_sub(hunk.start);
+    if at < hunk.other_end.saturating_sub(hunk.other_start) {
+        text_at(others, hunk.other_start + at)
+    } else {
+        ""
+    }
+}
+
+/// Returns the changes by which a line of a hunk differs from the file's in its place.
+fn line_makers(
+    rows: &Rows<'_>,
+    lines: &[&str],
+    others: &[&str],
+    hunk: &Hunk,
+    index: usize,
+) -> Makers
+    ensures { result ≡ line_makers rows.now (map (λ line. line.now) lines.entry.now)
+        (map (λ line. line.now) others.entry.now) hunk.now index }
+{
+    makers_of(
+        row_at(&rows.owners, index),
+        row_at(&rows.places, index),
+        text_at(lines, index).as_bytes(),
+        other_for(others, hunk, index).as_bytes(),
+    )
+}
+
+/// Writes the lines of a hunk that the document has alone.
 fn push_own_lines(
     buffer: &mut Vec<u8>,
-    owners: &[u64],
+    rows: &Rows<'_>,
     lines: &[&str],
-    start: usize,
-    end: usize,
+    others: &[&str],
+    hunk: &Hunk,
 ) -> Result<(), AllocError>
     ensures { OnOk result (buffer.new.items ≡ buffer.old.items
-        ++ words_from (own_line_at owners.now (map (λ line. line.now) lines.entry.now))
-        (end - start) start) }
+        ++ words_from (own_line_at rows.now (map (λ line. line.now) lines.entry.now)
+        (map (λ line. line.now) others.entry.now) hunk.now) (hunk.now.end - hunk.now.start)
+        hunk.now.start) }
 {
-    for index in start..end {
-        push_own_line(
-            buffer,
-            index + 1,
-            owner_at(owners, index),
-            text_at(lines, index),
-        )?;
+    for index in hunk.start..hunk.end {
+        let makers = line_makers(rows, lines, others, hunk, index);
+        push_own_line(buffer, index + 1, makers, text_at(lines, index))?;
     }
     Ok(())
 }
@@ -119,40 +161,35 @@ fn push_file_lines(
     Ok(())
 }
 
-/// Returns the number of the last change that made the line before so many lines, or the one after
-/// them.
-fn last_near(owners: &[u64], count: usize) -> u64
-    ensures { result ≡ last_near owners.now count }
-{
-    owner_at(owners, count.saturating_sub(1)).max(owner_at(owners, count))
-}
-
-/// Writes where lines of the file are missing: after so many lines, and after this change.
-fn push_missing(buffer: &mut Vec<u8>, count: usize, owner: u64) -> Result<(), AllocError>
-    ensures { OnOk result (buffer.new.items ≡ buffer.old.items ++ missing_words count owner) }
+/// Writes where lines of the file are missing: after so many lines, and by this change.
+fn push_missing(buffer: &mut Vec<u8>, count: usize, last: u64) -> Result<(), AllocError>
+    ensures { OnOk result (buffer.new.items ≡ buffer.old.items ++ missing_words count last) }
 {
     push_words(buffer, "after line ")?;
     push_number(buffer, count as u64)?;
-    push_words(buffer, ", after message ")?;
-    push_number(buffer, owner)?;
-    push_words(buffer, ":\n")?;
+    push_words(buffer, " (made by message ")?;
+    push_number(buffer, last)?;
+    push_words(buffer, "):\n")?;
     Ok(())
 }
 
 /// Writes the lines of a hunk that the document has alone, or where lines are missing.
 fn push_head(
     buffer: &mut Vec<u8>,
-    owners: &[u64],
+    rows: &Rows<'_>,
     lines: &[&str],
+    others: &[&str],
     hunk: &Hunk,
 ) -> Result<(), AllocError>
     ensures { OnOk result (buffer.new.items ≡ buffer.old.items
-        ++ hunk_head owners.now (map (λ line. line.now) lines.entry.now) hunk.now) }
+        ++ hunk_head rows.now (map (λ line. line.now) lines.entry.now)
+        (map (λ line. line.now) others.entry.now) hunk.now) }
 {
     if hunk.start == hunk.end {
-        push_missing(buffer, hunk.start, last_near(owners, hunk.start))
+        let last = number_at(row_at(&rows.places, hunk.start), 0);
+        push_missing(buffer, hunk.start, last)
     } else {
-        push_own_lines(buffer, owners, lines, hunk.start, hunk.end)
+        push_own_lines(buffer, rows, lines, others, hunk)
     }
 }
 
@@ -160,33 +197,33 @@ fn push_head(
 #[tactic(auto, unfolding(crate::specs::Report::hunk_words))]
 fn push_hunk(
     buffer: &mut Vec<u8>,
-    owners: &[u64],
+    rows: &Rows<'_>,
     lines: &[&str],
     others: &[&str],
     hunk: &Hunk,
 ) -> Result<(), AllocError>
     ensures { OnOk result (buffer.new.items ≡ buffer.old.items
-        ++ hunk_words owners.now (map (λ line. line.now) lines.entry.now)
+        ++ hunk_words rows.now (map (λ line. line.now) lines.entry.now)
         (map (λ line. line.now) others.entry.now) hunk.now) }
 {
-    push_head(buffer, owners, lines, hunk)?;
+    push_head(buffer, rows, lines, others, hunk)?;
     push_file_lines(buffer, others, hunk.other_start, hunk.other_end)
 }
 
 /// Writes each place at which two texts differ.
 fn push_hunks(
     buffer: &mut Vec<u8>,
-    owners: &[u64],
+    rows: &Rows<'_>,
     lines: &[&str],
     others: &[&str],
     found: &[Hunk],
 ) -> Result<(), AllocError>
     ensures { OnOk result (buffer.new.items ≡ buffer.old.items
-        ++ flat_map (hunk_words owners.now (map (λ line. line.now) lines.entry.now)
+        ++ flat_map (hunk_words rows.now (map (λ line. line.now) lines.entry.now)
         (map (λ line. line.now) others.entry.now)) found.now) }
 {
     for hunk in found {
-        push_hunk(buffer, owners, lines, others, hunk)?;
+        push_hunk(buffer, rows, lines, others, hunk)?;
     }
     Ok(())
 }
@@ -196,21 +233,20 @@ fn push_differences(
     alloc: Global,
     buffer: &mut Vec<u8>,
     text: &str,
-    owners: &[u64],
+    numbers: Numbers<'_>,
     file: &str,
 ) -> Result<(), AllocError>
     ensures { OnOk result (buffer.new.items ≡ buffer.old.items
-        ++ difference_words owners.now (lines_of text.now) (lines_of file.now)) }
+        ++ difference_words numbers.entry.owners.now numbers.entry.places.now (lines_of text.now)
+        (lines_of file.now)) }
 {
     let lines = lines_of(alloc, text)?;
     let others = lines_of(alloc, file)?;
+    let rows = numbers.rows(alloc, &lines)?;
     let found = hunks_of(alloc, FARTHEST, &lines, &others)?;
     push_words(buffer, "not the file's:\n")?;
-    push_hunks(buffer, owners, &lines, &others, &found)?;
-    push_words(
-        buffer,
-        "Of each line the message that is named is wrong, or after it one is missing.\n",
-    )?;
+    push_hunks(buffer, &rows, &lines, &others, &found)?;
+    push_words(buffer, ADVICE)?;
     Ok(())
 }
 
@@ -235,23 +271,49 @@ fn push_alone(
     }
 }
 
-/// Writes that line ends differ, unless they are the same.
-fn push_ends(buffer: &mut Vec<u8>, same: bool) -> Result<(), AllocError>
-    ensures { OnOk result (buffer.new.items ≡ buffer.old.items ++ ends_words same) }
+/// Writes by which change the first line end differs, where that is known.
+#[tactic(auto, unfolding(crate::specs::Report::first_end_words))]
+fn push_first_end(buffer: &mut Vec<u8>, known: bool, last: u64) -> Result<(), AllocError>
+    ensures { OnOk result (buffer.new.items ≡ buffer.old.items ++ first_end_words known last) }
+{
+    if !known {
+        return push_words(buffer, "\n");
+    }
+    push_words(buffer, ", the first of them made by message ")?;
+    push_number(buffer, last)?;
+    push_words(buffer, "\n")
+}
+
+/// Writes that line ends differ, unless they are the same; and by which change the first one does, if
+/// nothing else differs before it.
+fn push_ends(buffer: &mut Vec<u8>, same: bool, known: bool, last: u64) -> Result<(), AllocError>
+    ensures { OnOk result (buffer.new.items ≡ buffer.old.items ++ ends_words same known last) }
 {
     if same {
         return Ok(());
     }
-    push_words(buffer, "  line ends\n")
+    push_words(buffer, "  line ends")?;
+    push_first_end(buffer, known, last)?;
+    Ok(())
 }
 
 /// Writes in what a document's text and a file differ that are alike, a line for each.
-fn push_alike(buffer: &mut Vec<u8>, text: &[u8], file: &[u8]) -> Result<(), AllocError>
-    ensures { OnOk result
-        (buffer.new.items ≡ buffer.old.items ++ alike_words text.now file.now) }
+fn push_alike(
+    buffer: &mut Vec<u8>,
+    text: &[u8],
+    places: &[u64],
+    file: &[u8],
+) -> Result<(), AllocError>
+    ensures { OnOk result (buffer.new.items ≡ buffer.old.items
+        ++ alike_words text.now places.now file.now) }
 {
     push_words(buffer, "the file's, but for\n")?;
-    push_ends(buffer, have_same_ends(text, file))?;
+    push_ends(
+        buffer,
+        have_same_ends(text, file),
+        have_same_marks(text, file),
+        number_at(places, common_front(text, file)),
+    )?;
     push_alone(
         buffer,
         "  the last line end",
@@ -273,36 +335,36 @@ fn push_judgement(
     alloc: Global,
     buffer: &mut Vec<u8>,
     text: &str,
-    owners: &[u64],
+    numbers: Numbers<'_>,
     file: &str,
 ) -> Result<(), AllocError>
     ensures { OnOk result (buffer.new.items ≡ buffer.old.items
-        ++ judgement text.now owners.now file.now) }
+        ++ judgement text.now numbers.entry.owners.now numbers.entry.places.now file.now) }
 {
     if text == file {
         return push_words(buffer, "the file's\n");
     }
     if are_alike(alloc, text.as_bytes(), file.as_bytes())? {
-        return push_alike(buffer, text.as_bytes(), file.as_bytes());
+        return push_alike(buffer, text.as_bytes(), numbers.places, file.as_bytes());
     }
-    push_differences(alloc, buffer, text, owners, file)
+    push_differences(alloc, buffer, text, numbers, file)
 }
 
-/// Writes whether a text, whose lines have these numbers, is a file's after the change of this
-/// number, and else how they differ.
+/// Writes whether a text, whose bytes and places have these numbers, is a file's after the change of
+/// this number, and else how they differ.
 pub fn push_report(
     alloc: Global,
     buffer: &mut Vec<u8>,
     text: &str,
     made: u64,
-    owners: &[u64],
+    numbers: Numbers<'_>,
     file: &str,
 ) -> Result<(), AllocError>
     ensures { OnOk result (buffer.new.items ≡ buffer.old.items
-        ++ report_of text.now made owners.now file.now) }
+        ++ report_of text.now made numbers.entry.owners.now numbers.entry.places.now file.now) }
 {
     push_words(buffer, "after message ")?;
     push_number(buffer, made)?;
     push_words(buffer, ": the text is ")?;
-    push_judgement(alloc, buffer, text, owners, file)
+    push_judgement(alloc, buffer, text, numbers, file)
 }

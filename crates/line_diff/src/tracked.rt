@@ -1,27 +1,29 @@
-//! A text, and which change made each of its lines.
+//! A text, and which change made each of its bytes.
 
-ghost use Rattle.std.specs.Prelude.{◌≡◌, ◌++◌, IfOk, OnOk, string_bytes};
+ghost use Rattle.std.specs.Prelude.{◌≡◌, ◌++◌, IfOk, OnErr, OnOk, string_bytes};
 ghost use Rattle.line_diff.specs.Report.{report_words};
 ghost use Rattle.line_diff.specs.Tracked.{changed_by, opened_by};
 
-use crate::lines::lines_of;
-use crate::owners::owners_after;
+use crate::makers::Numbers;
+use crate::owners::{common_back, common_front, numbers_kept};
 use crate::report::push_report;
 use std::alloc::{AllocError, Global};
 use std::marker::Model;
 
-/// A text after several numbered changes, with the number of the change that made each line so.
+/// A text after several numbered changes, with the number of the change that made each byte, and of
+/// the last one at each place between two bytes. Both take 16 bytes for each of the text.
 #[derive(Drop)]
 pub struct TrackedText {
     text: String,
     // The number of the last change.
     made: u64,
     owners: Vec<u64>,
+    // Before each byte, and at the end.
+    places: Vec<u64>,
 }
 
 impl Model for TrackedText {
-    ghost use Rattle.std.specs.Prelude.{◌≡◌, length, string_bytes};
-    ghost use Rattle.line_diff.specs.Lines.{lines_of};
+    ghost use Rattle.std.specs.Prelude.{◌≡◌, ◌+◌, length, string_bytes};
     ghost use Rattle.line_diff.specs.Tracked.{Tracked};
 
     ghost Value = { Tracked };
@@ -30,9 +32,11 @@ impl Model for TrackedText {
       text = string_bytes t.text;
       made = t.made;
       owners = t.owners.items;
+      places = t.places.items;
     } };
 
-    ghost invariant = { λ t. length t.owners.items ≡ length (lines_of (string_bytes t.text)) };
+    ghost invariant = { λ t. (length t.owners.items ≡ length (string_bytes t.text))
+        × (length t.places.items ≡ length (string_bytes t.text) + 1) };
 }
 
 impl TrackedText {
@@ -41,24 +45,34 @@ impl TrackedText {
     pub fn new(alloc: Global, number: u64, text: String) -> Result<TrackedText, AllocError>
         ensures { IfOk result (λ t. t ≡ opened_by number (string_bytes text)) }
     {
-        let count = lines_of(alloc, &text)?.len();
         let mut owners = Vec::new(alloc);
-        owners.resize(count, number)?;
+        owners.resize(text.len(), number)?;
+        let mut places = Vec::new(alloc);
+        places.resize(text.len() + 1, number)?;
         Ok(TrackedText {
             text,
             made: number,
             owners,
+            places,
         })
     }
 
-    /// Takes the text that the change of this number has made of the one before. Lines that are
-    /// common at the front and at the back keep their numbers. Fails only where memory runs out.
-    /// Linear in both texts.
+    /// Takes the text that the change of this number has made of the one before. What is common at
+    /// the front and at the back keeps its numbers. Fails only where memory runs out, and then
+    /// nothing has changed. Linear in both texts.
     pub fn change(&mut self, alloc: Global, number: u64, text: String) -> Result<(), AllocError>
-        ensures { OnOk result (self.new ≡ changed_by number (string_bytes text) self.old) }
+        ensures changed { OnOk result
+            (self.new ≡ changed_by number (string_bytes text) self.old) }
+        ensures unchanged { OnErr result (self.new ≡ self.old) }
     {
-        let owners = owners_after(alloc, number, &self.owners, &self.text, &text)?;
+        let old = self.text.as_bytes();
+        let new = text.as_bytes();
+        let front = common_front(old, new);
+        let back = common_back(front, old, new);
+        let owners = numbers_kept(alloc, front, back, &self.owners, new.len(), number)?;
+        let places = numbers_kept(alloc, front, back, &self.places, new.len() + 1, number)?;
         self.owners = owners;
+        self.places = places;
         self.text = text;
         self.made = number;
         Ok(())
@@ -72,8 +86,8 @@ impl TrackedText {
     }
 
     /// Writes whether the text is a file's, and else how they differ: by line ends, the last line
-    /// end or a byte order mark alone, or by which lines, with the change that made each. Fails only
-    /// where memory runs out. Linear where the texts are near.
+    /// end or a byte order mark alone, or by which lines, with the changes by which each does. Fails
+    /// only where memory runs out. Linear where the texts are near.
     #[tactic(auto, unfolding(crate::specs::Report::report_words))]
     pub fn push_report(
         &self,
@@ -83,6 +97,10 @@ impl TrackedText {
     ) -> Result<(), AllocError>
         ensures { OnOk result (buffer.new.items ≡ buffer.old.items ++ report_words self.now file.now) }
     {
-        push_report(alloc, buffer, &self.text, self.made, &self.owners, file)
+        let numbers = Numbers {
+            owners: &self.owners,
+            places: &self.places,
+        };
+        push_report(alloc, buffer, &self.text, self.made, numbers, file)
     }
 }

@@ -1,6 +1,6 @@
 -- How often what came, for the last lines of `check --explain`.
-use Rattle.std.specs.Prelude.{ℕ, Bool, not, ◌&&◌, ◌==◌, ◌/◌, ◌++◌, if◌then◌else◌, nat_le, List, [], ◌∷◌, Option, Some, None, codes, decimal, flat_map}
-use Rattle.lsp_server.specs.Answer.{AnswerData, reply, refused, exits, Sent}
+use Rattle.std.specs.Prelude.{ℕ, Bool, true, false, not, ◌&&◌, ◌==◌, ◌/◌, ◌++◌, if◌then◌else◌, nat_le, List, [], ◌∷◌, Option, Some, None, codes, decimal, flat_map}
+use Rattle.lsp_server.specs.Answer.{AnswerData, reply, dropped, refused, exits, Sent}
 use Rattle.lsp_server.specs.Codes.{server_refusal_code}
 use Rattle.lsp_replay.specs.declared.notes.Note.{Note}
 use Rattle.lsp_replay.specs.Commands.{code_word}
@@ -14,6 +14,8 @@ use Rattle.lsp_replay.specs.Tallies.{Tally, count_of, tallied, tallied_if, tally
 pub record Counts : Type 0 where
   -- how many of them changed documents
   pub changes : ℕ
+  -- those that were dropped, as one tally if there are any
+  pub drops : List Tally
   -- those that count as refused, by their codes
   pub refusals : List Tally
   -- the notes of all of them, by their kinds
@@ -21,7 +23,16 @@ pub record Counts : Type 0 where
 
 -- Before the first record.
 abbrev pub nothing_counted : Counts
-nothing_counted = record { changes = 0; refusals = []; noted = [] }
+nothing_counted = record { changes = 0; drops = []; refusals = []; noted = [] }
+
+-- Was a record dropped?
+abbrev pub is_dropped : Verdict → Bool
+is_dropped (answered dropped) = true
+is_dropped verdict = false
+
+-- Its word then.
+abbrev pub dropped_word : Verdict → Option (List ℕ)
+dropped_word verdict = if is_dropped verdict then Some (codes "dropped") else None
 
 -- The code of an answer that counts as refused.
 abbrev pub answer_code : AnswerData Sent → List ℕ
@@ -45,6 +56,7 @@ tallied_notes (note ∷ notes) number ts =
 abbrev pub counts_after : Counts → ℕ → Verdict → List Note → Counts
 counts_after counts number verdict notes = record {
   changes = count_if (has_changed verdict) counts.changes;
+  drops = tallied_if (dropped_word verdict) number counts.drops;
   refusals = tallied_if (counted_code verdict) number counts.refusals;
   noted = tallied_notes notes number counts.noted;
 }
@@ -78,6 +90,6 @@ rare_notes counts notes = flat_map (rare_note counts) notes
 abbrev pub counts_words : ℕ → Counts → List ℕ
 counts_words messages counts =
     codes "messages of the editor: " ++ decimal messages ++ codes ", changed documents: "
-    ++ decimal counts.changes ++ codes "\n"
+    ++ decimal counts.changes ++ codes "\n" ++ flat_map (tally_words []) counts.drops
     ++ flat_map (tally_words (codes "refused by ")) counts.refusals
     ++ flat_map (tally_words (codes "noted ")) counts.noted

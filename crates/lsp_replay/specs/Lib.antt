@@ -4,6 +4,7 @@ pub mod Session
 pub mod Squashed
 pub mod AllRecords
 pub mod Run
+pub mod Openings
 pub mod Parts
 pub mod Documents
 pub mod Mentions

@@ -1,10 +1,11 @@
--- What of an accepted message is suspicious, though it has a meaning: its notes, and their words.
+-- What of a message that wasn't refused is suspicious: its notes, and their words.
 -- These are ASCII, with no quotation mark and no backslash.
 use Rattle.std.specs.Prelude.{ℕ, ℤ, suc, Bool, true, false, not, ◌&&◌, ◌||◌, ◌==◌, ◌++◌, if◌then◌else◌, nat_lt, int_le, length, map, slice_get, slice_range, sum_by, encode_utf8_all, List, [], ◌∷◌, Option, Some, None, option_and_then, option_map, Result, Ok, Err, codes, decimal, flat_map}
 use Rattle.std.specs.Fmt.{signed_decimal}
 use Rattle.std.specs.Result.{result_ok}
 use Rattle.std.specs.Str.{bytes_eq, chars}
 use Rattle.serde_json.specs.Data.{Data}
+use Rattle.line_diff.specs.Lines.{ends_line}
 use Rattle.lsp_text.specs.Positions.{denoted, exact_position}
 use Rattle.lsp_text.specs.Units.{units_in}
 use Rattle.lsp_text.specs.declared.encoding.Encoding.TheVariants.{Utf16, Utf32}
@@ -15,21 +16,22 @@ use Rattle.lsp_edit.specs.Indexed.{text_within}
 use Rattle.lsp_edit.specs.declared.fault.Side.{Side}
 use Rattle.lsp_edit.specs.declared.fault.Side.TheVariants.{Start, Stop}
 use Rattle.lsp_message.specs.Agreement.{announced_of}
-use Rattle.lsp_message.specs.Message.{IdData, Reading, reading}
+use Rattle.lsp_message.specs.Message.{IdData, Reading, message, notification, reading}
 use Rattle.lsp_message.specs.Params.{DocumentItem, ChangeData}
 use Rattle.lsp_message.specs.declared.agreement.Announced.{Announced}
 use Rattle.lsp_message.specs.declared.agreement.SyncKind.{SyncKind}
 use Rattle.lsp_message.specs.declared.agreement.SyncKind.TheVariants.{Incremental}
 use Rattle.lsp_message.specs.Lengths.{lengths_of}
+use Rattle.lsp_message.specs.Values.{member_at, text_in}
 use Rattle.lsp_store.specs.Table.{entry_at, greatest_batch}
-use Rattle.lsp_server.specs.Answer.{changed}
-use Rattle.lsp_server.specs.Incoming.{IncomingData, did_open, did_change, incoming_of}
+use Rattle.lsp_server.specs.Answer.{changed, ignored}
+use Rattle.lsp_server.specs.Incoming.{IncomingData, did_open, did_change, other_notification, incoming_of}
 use Rattle.lsp_server.specs.Step.{ServerData, content_change_from_data, session_encoding}
 use Rattle.lsp_stream.specs.Ports.{one_more}
 use Rattle.lsp_log.specs.declared.record.Sender.{Sender}
 use Rattle.lsp_log.specs.declared.record.Sender.TheVariants.{Client, Server}
 use Rattle.lsp_replay.specs.declared.notes.Note.{Note}
-use Rattle.lsp_replay.specs.declared.notes.Note.TheVariants.{OpenAlready, LoneReturn, OldVersion, NoChanges, WholeText, PastEnd, WrongLength, SameText}
+use Rattle.lsp_replay.specs.declared.notes.Note.TheVariants.{OpenAlready, LoneReturn, OldVersion, NoChanges, WholeText, PastEnd, WrongLength, SameText, OtherSaved}
 use Rattle.lsp_replay.specs.Reasons.{position_words}
 use Rattle.lsp_replay.specs.Session.{Session, Verdict, answered, result_for}
 
@@ -177,6 +179,41 @@ return_notes text = if has_lone_return false text && has_feed text then LoneRetu
 abbrev pub opening_notes : Option DocumentItem → List ℕ → List Note
 opening_notes entry text = open_notes entry ++ return_notes text
 
+-- The params of a notification.
+abbrev pub notification_params : Reading → Option Data
+notification_params (message (notification method params)) = params
+notification_params body = None
+
+-- The document and the text that params of a `didSave` name. The text is there only if the server
+-- asked for it.
+abbrev pub saved_uri : Option Data → Option (List ℕ)
+saved_uri params = text_in (member_at (codes "uri") (member_at (codes "textDocument") params))
+
+abbrev pub saved_text : Option Data → Option (List ℕ)
+saved_text params = text_in (member_at (codes "text") params)
+
+-- The line of a text in which another differs first, if the text begins with this line:
+-- `differing_line 1` of "a\nb\n" and "a\nc" is 2, of "a\n" and "a" 1, and of "a" and "a\n" too.
+abbrev pub differing_line : ℕ → List ℕ → List ℕ → ℕ
+differing_line line [] others = line
+differing_line line (byte ∷ bytes) [] = line
+differing_line line (byte ∷ bytes) (other ∷ others) = if byte == other
+    then differing_line (if ends_line byte bytes then suc line else line) bytes others
+    else line
+
+-- The note of a text that was saved, and isn't that of its document. Lines count from 1.
+abbrev pub saved_notes : Option DocumentItem → Option (List ℕ) → List Note
+saved_notes (Some entry) (Some saved) = if bytes_eq entry.text saved then [] else
+    OtherSaved (differing_line 1 entry.text saved) ∷ []
+saved_notes entry saved = []
+
+-- The notes of a notification with this method that isn't about the documents. Of a `didSave` of
+-- an open document with the text "abc" the text "abc" has none, "abX" has one.
+abbrev pub saving_notes : List DocumentItem → List ℕ → Reading → List Note
+saving_notes table method body = if bytes_eq method (codes "textDocument/didSave") then
+    saved_notes (option_and_then (entry_at table) (saved_uri (notification_params body)))
+    (saved_text (notification_params body)) else []
+
 -- What the notes of the changes of a body go by, in the encoding of the session.
 abbrev pub terms_in : ServerData → Bool → Reading → Terms
 terms_in s ranged body = record {
@@ -185,17 +222,19 @@ terms_in s ranged body = record {
   ranged = ranged;
 }
 
--- What there is to note of a message on the documents before it, if it is accepted. `ranged`: did
--- the server ask for ranges?
+-- What there is to note of a message on the documents before it, unless it is refused. `ranged`:
+-- did the server ask for ranges?
 abbrev pub notes_on : ServerData → Bool → Reading → IncomingData → List Note
 notes_on s ranged body (did_open (Some p)) = opening_notes (entry_at s.table p.uri) p.text
 notes_on s ranged body (did_change (Some p))
     = changing_notes (terms_in s ranged body) p (entry_at s.table p.uri)
+notes_on s ranged body (other_notification method) = saving_notes s.table method body
 notes_on s ranged body m = []
 
--- Notes, if a message is accepted. A refused one has its reason.
+-- Notes, if a message is accepted, or ignored by a running server. A refused one has its reason.
 abbrev pub notes_if : List Note → Verdict → List Note
 notes_if notes (answered changed) = notes
+notes_if notes (answered ignored) = notes
 notes_if notes verdict = []
 
 -- The notes of a record, by the session before it, its body and its judgement.
@@ -264,6 +303,8 @@ note_words (WrongLength index sent replaced characters) =
     change_words index ++ codes " has the rangeLength " ++ decimal sent ++ codes ", and replaces "
     ++ decimal replaced ++ codes " UTF-16 units"
 note_words (SameText index) = change_words index ++ codes " changes nothing"
+note_words (OtherSaved line) = codes "the saved text is not the document's: they differ in line "
+    ++ decimal line ++ codes " first"
 
 -- Some notes in words, with `between` between two of them.
 abbrev pub notes_words : List ℕ → List Note → List ℕ
@@ -293,3 +334,4 @@ note_kind (WholeText index) = codes "a whole text"
 note_kind (PastEnd index side sent taken) = past_kind sent taken
 note_kind (WrongLength index sent replaced characters) = length_kind (sent == characters)
 note_kind (SameText index) = codes "changes nothing"
+note_kind (OtherSaved line) = codes "another text saved"

@@ -1,6 +1,8 @@
 -- `replay` of a part of a log: the documents after a record, or the last text of one document.
-use Rattle.std.specs.Prelude.{ℕ, Bool, false, ◌==◌, if◌then◌else◌, List, [], Option, Some, None, is_some, option_map, Ok}
+use Rattle.std.specs.Prelude.{ℕ, Bool, false, not, ◌==◌, ◌&&◌, ◌||◌, if◌then◌else◌, List, [], Option, Some, None, is_some, option_map, Ok}
+use Rattle.std.specs.Str.{bytes_eq}
 use Rattle.std.specs.String.{string_bytes}
+use Rattle.line_diff.specs.Compared.{ends_so}
 use Rattle.lsp_message.specs.Params.{DocumentItem}
 use Rattle.lsp_store.specs.Table.{entry_at}
 use Rattle.lsp_log.specs.Log.{Record}
@@ -11,6 +13,7 @@ use Rattle.lsp_replay.specs.declared.outcome.Missing.TheVariants as missing
 use Rattle.lsp_replay.specs.declared.outcome.Outcome.{Outcome}
 use Rattle.lsp_replay.specs.RunOutput.{RunOutput}
 use Rattle.lsp_replay.specs.Commands.{RecordOutput, View, writes, ends, output_in, unless_bad, report_from, log_config}
+use Rattle.lsp_replay.specs.Openings.{opened_in}
 use Rattle.lsp_replay.specs.Run.{Engine, log_engine}
 use Rattle.lsp_replay.specs.Session.{Session, Judged, opened, session_outcome}
 
@@ -18,7 +21,8 @@ use Rattle.lsp_replay.specs.Session.{Session, Judged, opened, session_outcome}
 pub record PartData : Type 0 where
   -- the number of its last record, from 1; without one it is the whole log
   pub at : Option ℕ
-  -- the document whose text is printed; without one it is all that are open
+  -- the URI of the document whose text is printed, or how it ends; without one it is all that are
+  -- open
   pub uri : Option (List ℕ)
 
 -- A part, with its URI as bytes.
@@ -37,6 +41,55 @@ abbrev pub last_text_in : Option (List ℕ) → Option (List ℕ) → List Docum
 last_text_in None before table = None
 last_text_in (Some uri) before table = last_text before (entry_at table uri)
 
+-- ---- which document that is
+
+-- The document that was found, if one was.
+pub record Found : Type 0 where
+  pub uri : Option (List ℕ)
+  -- Does another one's URI end as it should, too?
+  pub several : Bool
+  -- its last text
+  pub text : Option (List ℕ)
+
+-- Before the first record.
+abbrev pub none_found : Found
+none_found = record { uri = None; several = false; text = None }
+
+-- A document that has just been found.
+abbrev pub only : List ℕ → Found
+only uri = record { uri = Some uri; several = false; text = None }
+
+-- Does it have the very URI that was asked for?
+abbrev pub is_named : List ℕ → Option (List ℕ) → Bool
+is_named asked None = false
+is_named asked (Some uri) = bytes_eq uri asked
+
+-- One was opened whose URI ends so. The first one stays.
+abbrev pub with_ending : List ℕ → Option (List ℕ) → Found → Found
+with_ending uri None found = only uri
+with_ending uri (Some other) found =
+    record found { several = found.several || not (bytes_eq other uri) }
+
+-- A document was opened. One with the very URI that was asked for counts alone.
+abbrev pub found_with : List ℕ → List ℕ → Found → Found
+found_with asked uri found = if bytes_eq uri asked then only uri
+    else if ends_so uri asked && not (is_named asked found.uri)
+    then with_ending uri found.uri found else found
+
+-- The same, if one was asked for and one was opened.
+abbrev pub found_if : Option (List ℕ) → Option (List ℕ) → Found → Found
+found_if None opened found = found
+found_if (Some asked) None found = found
+found_if (Some asked) (Some uri) found = found_with asked uri found
+
+-- With its text among these open documents.
+abbrev pub refreshed : List DocumentItem → Found → Found
+refreshed table found = record found { text = last_text_in found.uri found.text table }
+
+-- The text, if there is one document alone.
+abbrev pub text_found : Found → Option (List ℕ)
+text_found found = if found.several then None else found.text
+
 -- ---- what is printed at the end of the part
 
 -- One document's last text, as it is; or a line for each open document.
@@ -49,7 +102,7 @@ part_bytes (Some uri) (Some text) table = text
 abbrev pub lacking : Missing → Outcome → Outcome
 lacking what outcome = record outcome { status = 1; missing = Some what }
 
--- The outcome is that of `replay`, unless the document was never open.
+-- The outcome is that of `replay`, unless the document was never open, or several fit.
 abbrev pub part_outcome : Option (List ℕ) → Option (List ℕ) → Outcome → Outcome
 part_outcome None last outcome = outcome
 part_outcome (Some uri) None outcome = lacking missing.Document outcome
@@ -61,42 +114,43 @@ is_last None number = false
 is_last (Some at) number = at == number
 
 -- After the part's last record nothing more is read. Any other record prints nothing.
-abbrev pub part_step : PartData → Option (List ℕ) → Session → RecordOutput
-part_step part last s =
+abbrev pub part_step : PartData → Found → Session → RecordOutput
+part_step part found s =
     if is_last part.at s.records then
-    ends (part_bytes part.uri last s.server.table)
-    (Ok (part_outcome part.uri last (session_outcome s))) else writes []
+    ends (part_bytes part.uri (text_found found) s.server.table)
+    (Ok (part_outcome part.uri (text_found found) (session_outcome s))) else writes []
 
 -- At the end of the input, if the part has no last record. Else that record isn't in the log.
-abbrev pub part_at_end : PartData → Option (List ℕ) → Session → List ℕ
-part_at_end part last s =
-    if is_some part.at then [] else part_bytes part.uri last s.server.table
+abbrev pub part_at_end : PartData → Found → Session → List ℕ
+part_at_end part found s =
+    if is_some part.at then [] else part_bytes part.uri (text_found found) s.server.table
 
 -- The outcome then.
-abbrev pub end_outcome : PartData → Option (List ℕ) → Session → Outcome
-end_outcome part last s =
+abbrev pub end_outcome : PartData → Found → Session → Outcome
+end_outcome part found s =
     if is_some part.at then lacking missing.Record (session_outcome s)
-    else part_outcome part.uri last (session_outcome s)
+    else part_outcome part.uri (text_found found) (session_outcome s)
 
 -- ---- all records
 
--- The last text after a record.
-abbrev pub next_text : PartData → Option (List ℕ) → Judged → Option (List ℕ)
-next_text part last j = last_text_in part.uri last j.session.server.table
+-- The document that is found after a record.
+abbrev pub found_after : PartData → Found → Record → Judged → Found
+found_after part found r j =
+    refreshed j.session.server.table (found_if part.uri (opened_in r j) found)
 
--- A record prints nothing, unless it is the part's last one. The state is the last text.
-abbrev pub replaying_part : PartData → View (Option (List ℕ))
+-- A record prints nothing, unless it is the part's last one. The state is the document.
+abbrev pub replaying_part : PartData → View Found
 replaying_part part = record {
-  record_output = λ last s r j.
-      unless_bad r j.verdict (part_step part (next_text part last j) j.session);
-  next = λ last s r j. next_text part last j;
-  end_output = λ last s line_due. part_at_end part last s;
+  record_output = λ found s r j.
+      unless_bad r j.verdict (part_step part (found_after part found r j) j.session);
+  next = λ found s r j. found_after part found r j;
+  end_output = λ found s line_due. part_at_end part found s;
   outcome = end_outcome part;
 }
 
 -- The output of `replay` for a part of a log.
 abbrev pub part_report : Settings → PartData → List Record → RunOutput
-part_report settings part = output_in (replaying_part part) None (opened (log_config settings))
+part_report settings part = output_in (replaying_part part) none_found (opened (log_config settings))
 
 -- The engine that replays a part of a log. Its report is written at once.
 abbrev pub part_engine : Settings → Part → Engine

@@ -86,7 +86,7 @@ reason_json limits m renamed (answered answer) = if is_refused answer then
     ++ codes "\"") else None
 reason_json limits m renamed verdict = None
 
--- The notes of an accepted record, as strings in an array. Without notes there is none.
+-- The notes of a record, as strings in an array. Without notes there is none.
 abbrev pub notes_json : List Note → Option (List ℕ)
 notes_json [] = None
 notes_json (note ∷ notes) =

@@ -10,6 +10,7 @@ pub mod Taken
 pub mod Lines
 pub mod Mentions
 pub mod Noting
+pub mod Openings
 pub mod Parts
 pub mod Progress
 pub mod Verdicts

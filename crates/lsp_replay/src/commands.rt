@@ -16,6 +16,7 @@ mod compared;
 mod explained;
 mod live;
 mod normalised;
+mod openings;
 mod parts;
 mod traced;
 
@@ -23,6 +24,7 @@ pub use crate::commands::compared::compare;
 pub use crate::commands::explained::{Listing, explain};
 pub use crate::commands::live::{check_live, explain_live, trace_live};
 pub use crate::commands::normalised::{normalise, normalise_documents};
+pub use crate::commands::openings::list_openings;
 pub use crate::commands::parts::{Part, replay_part};
 pub use crate::commands::traced::{Details, trace};
 use crate::engine::{InputRules, run_on};

@@ -2,7 +2,7 @@
 
 ghost use Rattle.std.specs.Prelude.{◌≡◌, IfOk, OnOk, option_map};
 ghost use Rattle.lsp_server.specs.Seen.{answer_view};
-ghost use Rattle.lsp_replay.specs.Counts.{answer_code, counted_code, counts_after, is_frequent, is_habit};
+ghost use Rattle.lsp_replay.specs.Counts.{answer_code, counted_code, counts_after, dropped_word, is_dropped, is_frequent, is_habit};
 ghost use Rattle.lsp_replay.specs.Counts.{nothing_counted, rare_notes, tallied_notes};
 ghost use Rattle.lsp_replay.specs.inside.Verdicts.{verdict_view};
 
@@ -26,6 +26,7 @@ const HABIT_RATE: u64 = 100;
 pub struct Counts {
     alloc: Global,
     changed: u64,
+    dropped: Vec<Tally>,
     refused: Vec<Tally>,
     noted: Vec<Tally>,
 }
@@ -37,6 +38,7 @@ impl Model for Counts {
 
     ghost view = { λ counts. record {
       changes = counts.changed;
+      drops = counts.dropped.items;
       refusals = counts.refused.items;
       noted = counts.noted.items;
     } };
@@ -50,6 +52,7 @@ impl Counts {
         Counts {
             alloc,
             changed: 0,
+            dropped: Vec::new(alloc),
             refused: Vec::new(alloc),
             noted: Vec::new(alloc),
         }
@@ -60,6 +63,13 @@ impl Counts {
         ensures { result ≡ self.now.changes }
     {
         self.changed
+    }
+
+    /// Returns the records that were dropped, as one thing that was counted, if there are any.
+    pub fn dropped(&self) -> &[Tally]
+        ensures { result.now ≡ self.now.drops }
+    {
+        self.dropped.as_slice()
     }
 
     /// Returns the codes of the records that count as refused.
@@ -89,6 +99,7 @@ impl Counts {
         if has_changed(verdict) {
             self.changed = one_more(self.changed);
         }
+        add_if(self.alloc, &mut self.dropped, dropped_word(verdict), number)?;
         add_if(self.alloc, &mut self.refused, counted_code(verdict), number)?;
         add_notes(self.alloc, &mut self.noted, notes, number)
     }
@@ -123,6 +134,23 @@ fn is_frequent(changed: u64, count: u64) -> bool
     ensures { result ≡ is_frequent changed count }
 {
     count != 0 && changed / HABIT_RATE <= count
+}
+
+/// Returns the word of a record that was dropped.
+fn dropped_word(verdict: &Verdict) -> Option<&'static str>
+    ensures { option_map (λ word. word.now) result ≡ dropped_word (verdict_view verdict.now) }
+{
+    if is_dropped(verdict) {
+        Some("dropped")
+    } else {
+        None
+    }
+}
+
+fn is_dropped(verdict: &Verdict) -> bool
+    ensures { result ≡ is_dropped (verdict_view verdict.now) }
+{
+    matches!(verdict, Verdict::Answered(Answer::Dropped))
 }
 
 /// Returns the code of a record that counts as refused.

@@ -42,7 +42,7 @@ pub struct About {
     pub uri: Option<String>,
     /// Whether it is a `didChange`.
     pub is_change: bool,
-    /// What is suspicious of it, if it is accepted.
+    /// What is suspicious of it, unless it is refused.
     pub notes: Vec<Note>,
 }
 
@@ -61,7 +61,7 @@ pub struct Facts {
     /// The record to look at, if the documents refused this one: which made the current version, if
     /// this one has an old version; else which opened, closed or refused the document last.
     pub last: Option<u64>,
-    /// What is suspicious of it, if it was accepted.
+    /// What is suspicious of it, unless it was refused.
     pub notes: Vec<Note>,
     /// The notes whose kinds are no habits.
     pub rare: Vec<Note>,

@@ -3,7 +3,7 @@
 //!
 //! - `commands`: `serve` and `serve_on`, `check` and `explain`, `trace`, `replay` and
 //!   `replay_part`, `compare`, `normalise` and `normalise_documents`, and `convert`; `check_live`,
-//!   `explain_live` and `trace_live` of a session as it goes on.
+//!   `explain_live` and `trace_live` of a session as it goes on; `list_openings`.
 //! - `counts`: how often what came.
 //! - `engine`: the one loop from a reader to a writer; `handler` is what it hands records to.
 //! - `pipeline`: the one handler: it reads a record's body once, leaves out what doesn't stay, and
@@ -13,7 +13,8 @@
 //! - `facts`: what `trace` and `check --explain` say of a record.
 //! - `members`: what a line of JSON is put together from.
 //! - `mentions`: which record opened, closed or refused a document last.
-//! - `notes`: what of an accepted message is suspicious.
+//! - `notes`: what is suspicious of a message that wasn't refused.
+//! - `openings`: which message opened each document first.
 //! - `outcome`: the status and the counts at the end of a run, and what a part of a log lacks.
 //! - `laws`: what holds of the logs that are written.
 #![tactic(auto)]
@@ -27,6 +28,7 @@ mod laws;
 mod members;
 mod mentions;
 mod notes;
+mod openings;
 mod outcome;
 mod pipeline;
 mod printer;
@@ -34,7 +36,8 @@ mod session;
 
 pub use commands::{
     Details, Listing, Part, Settings, check, check_live, compare, convert, explain, explain_live,
-    normalise, normalise_documents, replay, replay_part, serve, serve_on, trace, trace_live,
+    list_openings, normalise, normalise_documents, replay, replay_part, serve, serve_on, trace,
+    trace_live,
 };
 pub use laws::{documents_laws, json_laws, log_laws};
 pub use line_diff::Comparison;

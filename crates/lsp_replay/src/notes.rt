@@ -1,14 +1,15 @@
-//! What of an accepted message is suspicious, though it has a meaning.
+//! What is suspicious of a message that wasn't refused.
 
 pub(crate) mod changes;
 pub(crate) mod kinds;
 pub(crate) mod returns;
+pub(crate) mod saved;
 pub(crate) mod units;
 
 use lsp_edit::Side;
 use lsp_text::Position;
 
-/// Something suspicious of an accepted message. A change has its index in the message.
+/// Something suspicious of a message that wasn't refused. A change has its index in the message.
 #[derive(Clone, Copy, Debug, PartialEq, Eq)]
 pub enum Note {
     /// It opens a document that is open.
@@ -45,5 +46,10 @@ pub enum Note {
     /// A change's text is what it replaces.
     SameText {
         change: usize,
+    },
+    /// It is a `didSave` with a text that isn't the document's, and differs from it first in this
+    /// line of the document, from 1.
+    OtherSaved {
+        line: usize,
     },
 }

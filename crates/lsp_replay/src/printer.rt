@@ -2,9 +2,10 @@
 //! what it has to say of it.
 //!
 //! Its modules are the commands, `serving`, `checking`, `explaining`, `tracing`, `replaying`,
-//! `partial` (of a part of a log), `comparing`, `normalising`, `squashing` and `converting`. `live` is any of
-//! them, flushed before more is read. `front` writes what comes before a record's frame, `reasons`
-//! why a record was refused, and `noted` what is suspicious of one that was accepted.
+//! `partial` (of a part of a log), `listing` (which documents were opened), `comparing`,
+//! `normalising`, `squashing` and `converting`. `live` is any of them, flushed before more is read.
+//! `front` writes what comes before a record's frame, `reasons` why a record was refused, and
+//! `noted` what is suspicious of one that was accepted.
 
 ghost use Rattle.std.specs.Prelude.{◌≡◌, ◌<◌, ◌++◌, ◌∷◌, ◌⊎◌, [], ℕ, Bool, List, None, false, Err, IfOk, IfErr, MatchOption, OnOk};
 ghost use Rattle.lsp_log.specs.Log.{Record};
@@ -19,6 +20,7 @@ pub(crate) mod comparing;
 pub(crate) mod converting;
 pub(crate) mod explaining;
 mod front;
+pub(crate) mod listing;
 pub(crate) mod live;
 pub(crate) mod normalising;
 pub(crate) mod noted;

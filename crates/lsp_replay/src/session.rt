@@ -8,6 +8,7 @@
 //! - `results`: the result of `initialize`.
 //! - `counting`: what counts as refused.
 //! - `closing`: the text of a document that a record may close.
+//! - `opening`: the document that a record may open.
 
 ghost use Rattle.std.specs.Prelude.{ℕ, ◌≡◌, ◌≢◌, ◌⊎◌, IfErr, IfOk, List, MatchResult, OnErr, OnOk, MatchOption, None, Some};
 ghost use Rattle.lsp_message.specs.Message.{reading};
@@ -27,6 +28,7 @@ pub(crate) mod changes;
 pub(crate) mod closing;
 pub(crate) mod counting;
 pub(crate) mod joining;
+pub(crate) mod opening;
 pub(crate) mod results;
 pub(crate) mod selecting;
 pub(crate) mod witness;

@@ -1,5 +1,5 @@
 -- Lines on standard error, piece by piece, and the end of a run over a file.
-use Rattle.std.proofs.Common.{◌≡◌, ◌⊎◌, inl, inr, ℕ, List, ◌++◌, Option, codes, Err, ap, sym, ◌∙◌, append_assoc}
+use Rattle.std.proofs.Common.{◌≡◌, ◌⊎◌, inl, inr, ℕ, List, [], ◌++◌, Option, codes, Err, ap, sym, ◌∙◌, append_assoc, append-nil}
 use Rattle.lsp_frame.specs.declared.fault.FrameFault.{FrameFault}
 use Rattle.lsp_stream.specs.declared.fault.EngineFault.{EngineFault}
 use Rattle.lsp_stream.specs.declared.fault.EngineFault.TheVariants as engine
@@ -7,6 +7,7 @@ use Rattle.lsp_stream.specs.Ports.{WriterState}
 use Rattle.lspsync.specs.declared.ends.Ending.{Ending}
 use Rattle.lspsync.specs.FaultText.{fault_cause}
 use Rattle.lspsync.specs.Run.{IsBlamed, IsFileEnding}
+use Rattle.lspsync.specs.declared.openings.Wanted.{Wanted}
 
 -- The line of a fault.
 pub fault_pieces : (start text place end whole : List ℕ) → whole ≡ text ++ place
@@ -26,15 +27,21 @@ pub hint_pieces : (start name sep text place cause page end whole more : List �
     ≡ (start ++ (name ++ (sep ++ ((whole ++ (sep ++ (cause ++ page))) ++ end)))) ++ more
 hint_pieces start name sep text place cause page end whole more is = rw is (simp append_assoc)
 
+-- The line of a missing document, and a list.
+pub list_pieces : (start name sep what end words : List ℕ)
+    → start ++ (name ++ (sep ++ (what ++ (end ++ (words ++ [])))))
+    ≡ (start ++ (name ++ (sep ++ (what ++ end)))) ++ words
+list_pieces start name sep what end words = simp (append_assoc, append-nil)
+
 -- A fault of a file is reported as its cause says, one of reading as that of standard input.
-pub file_ending : (name : List ℕ) (fault : EngineFault) (before after : WriterState) (ending : Ending)
-    → IsBlamed name fault (fault_cause fault) before after ending
-    → IsFileEnding name (Err fault) before after ending
-file_ending name engine.Read before after ending blamed = inr blamed
-file_ending name engine.Write before after ending blamed = blamed
-file_ending name (engine.Frame fault) before after ending blamed = blamed
-file_ending name (engine.Truncated place) before after ending blamed = blamed
-file_ending name (engine.BodyTooLong place) before after ending blamed = blamed
-file_ending name engine.NoMemory before after ending blamed = blamed
-file_ending name engine.TooManyTurns before after ending blamed = blamed
-file_ending name (engine.BadLog place) before after ending blamed = blamed
+pub file_ending : (name : List ℕ) (wanted : Option Wanted) (known : Option (List ℕ)) (fault : EngineFault)
+    (before after : WriterState) (ending : Ending) → IsBlamed name fault (fault_cause fault) before after ending
+    → IsFileEnding name wanted known (Err fault) before after ending
+file_ending name wanted known engine.Read before after ending blamed = inr blamed
+file_ending name wanted known engine.Write before after ending blamed = blamed
+file_ending name wanted known (engine.Frame fault) before after ending blamed = blamed
+file_ending name wanted known (engine.Truncated place) before after ending blamed = blamed
+file_ending name wanted known (engine.BodyTooLong place) before after ending blamed = blamed
+file_ending name wanted known engine.NoMemory before after ending blamed = blamed
+file_ending name wanted known engine.TooManyTurns before after ending blamed = blamed
+file_ending name wanted known (engine.BadLog place) before after ending blamed = blamed

@@ -29,6 +29,8 @@ use Rattle.lspsync.specs.declared.command_line.Task.{Task}
 use Rattle.lspsync.specs.Call.{AreWordsReadAs, file_of, saved_of}
 use Rattle.lspsync.specs.Loaded.{with_text}
 use Rattle.lspsync.specs.FaultText.{blame_text, fault_cause, fault_text}
+use Rattle.lspsync.specs.Openings.{AreListed, IsWanted, file_opened}
+use Rattle.lspsync.specs.declared.openings.Wanted.{Wanted}
 
 -- The status of a fault: 3 if a stream failed, 4 if out of memory, 5 if the input is no log.
 abbrev pub status_of : EngineFault → ℕ
@@ -160,19 +162,25 @@ IsUnreadable name before after ending =
     ((reason : List ℕ) × Ends 3 (error_line (Some name) reason) false before after ending)
     ⊎ IsFaultEnd NoMemory before after ending
 
--- The end of a run over a file.
-abbrev pub IsFileEnding : List ℕ → Result Outcome EngineFault → WriterState → WriterState →
-    Ending → Type 0
-IsFileEnding name (Ok outcome) before after ending =
-    IsOutcomeEnd (Some name) outcome before after ending
-IsFileEnding name (Err Read) before after ending =
-    IsUnreadable name before after ending ⊎ IsFaultEnd Read before after ending
-IsFileEnding name (Err fault) before after ending =
-    IsBlamed name fault (fault_cause fault) before after ending
+-- The line that a document is missing, and which messages opened the documents of the file.
+abbrev pub IsListedEnd : List ℕ → Option Wanted → Option (List ℕ) → Outcome → WriterState →
+    WriterState → Ending → Type 0
+IsListedEnd name wanted known outcome before after ending = (words : List ℕ)
+    × AreListed wanted known outcome.missing words
+    × Ends outcome.status (error_line (Some name) (missing_text missing.Document) ++ words) false
+    before after ending
 
--- What is known of a file that was opened, of which these bytes may be known.
-abbrev pub file_opened : Option (List ℕ) → ReaderState
-file_opened left = record { left = left; failed = false; calls = 0; ended = false }
+-- The end of a run over a file, of whose bytes this may be known. A document that is missing may be
+-- reported with the list of those that the file has.
+abbrev pub IsFileEnding : List ℕ → Option Wanted → Option (List ℕ) → Result Outcome EngineFault →
+    WriterState → WriterState → Ending → Type 0
+IsFileEnding name wanted known (Ok outcome) before after ending =
+    IsOutcomeEnd (Some name) outcome before after ending
+    ⊎ IsListedEnd name wanted known outcome before after ending
+IsFileEnding name wanted known (Err Read) before after ending =
+    IsUnreadable name before after ending ⊎ IsFaultEnd Read before after ending
+IsFileEnding name wanted known (Err fault) before after ending =
+    IsBlamed name fault (fault_cause fault) before after ending
 
 -- The engine of a call ran over a file from its beginning on. Of its bytes this may be known.
 pub record IsFileRun (asked : Call) (name : List ℕ) (known : Option (List ℕ))
@@ -183,7 +191,10 @@ pub record IsFileRun (asked : Call) (name : List ℕ) (known : Option (List ℕ)
   pub file : ReaderState
   pub answer : Result Outcome EngineFault
   pub performed : IsPerformed asked (ports (file_opened left) before) (ports file after) answer
-  pub ends : IsFileEnding name answer errors_before errors ending
+  -- the document that the call names
+  pub wanted : Option Wanted
+  pub names : IfSome wanted (IsWanted asked)
+  pub ends : IsFileEnding name wanted known answer errors_before errors ending
 
 -- The engine ran over a file; or the file couldn't be opened, and then nothing is written.
 abbrev pub IsFileDone : Call → List ℕ → Option (List ℕ) → WriterState → WriterState →

@@ -1,6 +1,6 @@
 //! How a run ends: its status, and what is printed of it on standard error.
 
-ghost use Rattle.std.specs.Prelude.{◌≡◌, ◌≢◌, None, codes, false, option_map};
+ghost use Rattle.std.specs.Prelude.{◌≡◌, ◌≢◌, ◌++◌, None, Some, codes, false, option_map};
 ghost use Rattle.lsp_program.specs.Output.{IsPrinted};
 ghost use Rattle.lspsync.specs.Run.{Ends, IsFaultEnd, IsOutcomeEnd, both_ends, error_line};
 ghost use Rattle.lspsync.specs.Run.{is_write_fault, missing_text, status_of};
@@ -56,6 +56,27 @@ pub fn end_well<E: Sink>(name: Option<&str>, outcome: Outcome, errors: &mut E) -
         None => Ending::new(outcome.status, Ok(())),
         Some(missing) => say(outcome.status, name, missing_text(missing), errors),
     }
+}
+
+/// Ends with a status. A line says that the document is missing that was asked for in a file, and
+/// words list those that the file has.
+pub fn end_missing<E: Sink>(name: &str, status: u8, words: &str, errors: &mut E) -> Ending
+    ensures { Ends status
+        (error_line (Some name.now) (missing_text Missing.Document) ++ words.now) false
+        (E.seen errors.old) (E.seen errors.new) result }
+{
+    say_list(status, name, missing_text(Missing::Document), words, errors)
+}
+
+/// Ends with a status, and prints a line about a file, and more words.
+fn say_list<E: Sink>(status: u8, name: &str, what: &str, words: &str, errors: &mut E) -> Ending
+    ensures { Ends status (error_line (Some name.now) what.now ++ words.now) false
+        (E.seen errors.old) (E.seen errors.new) result }
+{
+    Ending::new(
+        status,
+        print(errors, &["lspsync: ", name, ": ", what, "\n", words]),
+    )
 }
 
 /// Returns what a part of a log lacks.

@@ -1,6 +1,6 @@
 //! Files of logs, by their names.
 
-ghost use Rattle.std.specs.Prelude.{◌≡◌, ◌++◌, Err, IfOk, IfSome, List, Option, false, option_map, string_bytes, ℕ};
+ghost use Rattle.std.specs.Prelude.{◌≡◌, ◌++◌, Err, IfOk, IfSome, List, Ok, Option, false, option_map, string_bytes, ℕ};
 ghost use Rattle.std.specs.Io.KnownBytes.{Keeps};
 ghost use Rattle.lsp_program.specs.Output.{IsPrinted};
 ghost use Rattle.lspsync.specs.FaultText.{fault_text};
@@ -9,8 +9,9 @@ ghost use Rattle.lspsync.specs.Run.{status_of};
 
 use crate::beginning::hint;
 use crate::command_line::Call;
-use crate::ends::{Ending, end_well, report, say, status_of};
+use crate::ends::{Ending, end_missing, end_well, report, say, status_of};
 use crate::fault_text::{cause_of, text_of};
+use crate::openings::{Wanted, openings, wanted_by};
 use crate::run::perform;
 use itoa::Buffer;
 use lsp_program::{STREAM_FAULT, digits, print};
@@ -28,6 +29,9 @@ pub trait Folder {
     /// Opens a file to be read from its beginning on.
     fn open(&self, name: &str) -> io::Result<Self::File>
         ensures { IfOk result (λ file. Keeps (bytes self.now name.now) (Self.File.remaining file)) };
+
+    /// Returns whether a file has its bytes still once they were read, as a pipe has not.
+    fn is_lasting(&self, name: &str) -> bool;
 }
 
 /// How many bytes of a log's beginning are kept.
@@ -81,26 +85,57 @@ pub fn run_file<F: Folder, W: Sink, E: Sink>(
                 first: Vec::new(alloc),
                 error: None,
             });
+            let wanted = wanted_by(alloc, &call);
             let answer = perform(alloc, call, &mut log, output);
-            end_file(alloc, name, &log.into_inner(), answer, errors)
+            end_file(
+                alloc,
+                name,
+                &log.into_inner(),
+                wanted,
+                answer,
+                folder,
+                errors,
+            )
         }
         Err(error) => unreadable(alloc, name, error, errors),
     }
 }
 
 /// Ends with the outcome of a run over a file, or reports its fault.
-fn end_file<T, E: Sink>(
+fn end_file<T, F: Folder, E: Sink>(
     alloc: Global,
     name: &str,
     log: &LogFile<T>,
+    wanted: Option<Wanted>,
     answer: Result<Outcome, EngineFault>,
+    folder: &F,
     errors: &mut E,
 ) -> Ending
-    ensures { IsFileEnding name.now answer (E.seen errors.old) (E.seen errors.new) result }
+    ensures { IsFileEnding name.now wanted (F.bytes folder.now name.now) answer
+        (E.seen errors.old) (E.seen errors.new) result }
 {
     match answer {
-        Ok(outcome) => end_well(Some(name), outcome, errors),
+        Ok(outcome) => end_outcome(alloc, name, wanted, outcome, folder, errors),
         Err(fault) => end_fault(alloc, name, log, fault, errors),
+    }
+}
+
+/// Ends with an outcome. If the document is missing that the call names, it lists those that the
+/// file has.
+fn end_outcome<F: Folder, E: Sink>(
+    alloc: Global,
+    name: &str,
+    wanted: Option<Wanted>,
+    outcome: Outcome,
+    folder: &F,
+    errors: &mut E,
+) -> Ending
+    ensures { IsFileEnding name.now wanted (F.bytes folder.now name.now) (Ok outcome)
+        (E.seen errors.old) (E.seen errors.new) result }
+{
+    match openings(alloc, name, wanted, outcome, folder) {
+        Some(list) => end_missing(name, outcome.status, &list, errors),
+        None => end_well(Some(name), outcome, errors),
     }
 }
 
@@ -112,7 +147,9 @@ fn end_fault<T, E: Sink>(
     fault: EngineFault,
     errors: &mut E,
 ) -> Ending
-    ensures { IsFileEnding name.now (Err fault) (E.seen errors.old) (E.seen errors.new) result }
+    ensures { (wanted : Option Wanted) (known : Option (List ℕ)) →
+        IsFileEnding name.now wanted known (Err fault)
+        (E.seen errors.old) (E.seen errors.new) result }
 {
     match (fault, log.error) {
         (EngineFault::Read, Some(error)) => unreadable(alloc, name, error, errors),

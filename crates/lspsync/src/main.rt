@@ -8,6 +8,7 @@
 //! - `command_line`: the words that the program is called with.
 //! - `fault_text`: the text of a fault's line, and its cause.
 //! - `beginning`: what a file that is no log seems to be.
+//! - `openings`: which messages opened the documents of a log.
 //! - `process`: the process's own files and terminal.
 #![tactic(auto)]
 
@@ -17,6 +18,7 @@ mod ends;
 mod fault_text;
 mod files;
 mod live;
+mod openings;
 mod process;
 mod run;
 #[cfg(test)]

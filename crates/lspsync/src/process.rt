@@ -3,7 +3,7 @@
 ghost use Rattle.std.specs.Prelude.{None};
 
 use crate::files::Folder;
-use std::fs::File;
+use std::fs::{self, File};
 use std::io::{self, Read, Write};
 
 /// The files of the system, by their paths.
@@ -17,6 +17,13 @@ impl Folder for Disk<'_> {
 
     fn open(&self, name: &str) -> io::Result<File> {
         File::open(self.0, name)
+    }
+
+    fn is_lasting(&self, name: &str) -> bool {
+        match fs::metadata(self.0, name) {
+            Ok(metadata) => metadata.is_file(),
+            Err(_) => false,
+        }
     }
 }
 

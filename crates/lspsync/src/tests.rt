@@ -71,6 +71,10 @@ impl<'a> Folder for Shelf<'a> {
         }
         Err(io::Error::from(ErrorKind::NotFound))
     }
+
+    fn is_lasting(&self, name: &str) -> bool {
+        name != "pipe"
+    }
 }
 
 const ALL: CallEnd = CallEnd::Take(usize::MAX);

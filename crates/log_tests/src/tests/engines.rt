@@ -4,6 +4,7 @@ mod compares;
 mod failing_runs;
 mod failures;
 mod notes;
+mod parts;
 mod refused;
 mod sessions;
 mod words;
@@ -12,7 +13,8 @@ use lsp_frame::{Limits, frame};
 use lsp_replay::{
     CallEnd, Comparison, Details, Duplex, EngineFault, Listing, Outcome, Part, Settings, Sink,
     Source, StopReader, StopWriter, Told, check, check_live, compare, convert, explain,
-    explain_live, normalise, normalise_documents, replay, replay_part, serve, trace, trace_live,
+    explain_live, list_openings, normalise, normalise_documents, replay, replay_part, serve, trace,
+    trace_live,
 };
 use lsp_samples::bodies::{
     ACCEPTED as REPLY, CANONICAL, CHANGE as EDITED, CLOSE, EXIT, INITIALIZE, INITIALIZED, OPEN,
@@ -66,6 +68,10 @@ const BOTH: &str =
 const SAVE: &str =
     r#"{"jsonrpc":"2.0","method":"textDocument/didSave","params":{"textDocument":{"uri":"file:///a"}}}"#;
 
+/// The same with a text that isn't the document's.
+const SAVE_OTHER: &str =
+    r#"{"jsonrpc":"2.0","method":"textDocument/didSave","params":{"text":"b","textDocument":{"uri":"file:///a"}}}"#;
+
 /// A request that no server of documents knows.
 const HOVER: &str =
     r#"{"id":3,"jsonrpc":"2.0","method":"textDocument/hover","params":{"position":{"character":1,"line":0},"textDocument":{"uri":"file:///a"}}}"#;
@@ -103,6 +109,8 @@ enum Command {
     TraceLive,
     /// `compare` of the document that ends in `a` with this text.
     Compare(&'static str),
+    /// The messages that opened documents, for one that ends in `b/a`.
+    Openings,
 }
 
 /// Some bytes of a row.
@@ -248,6 +256,10 @@ fn call<R: Source, W: Sink>(
         Command::Trace => trace(alloc, from, to, settings, TEXTS, turns),
         Command::CheckLive | Command::ExplainLive | Command::TraceLive => {
             call_live(alloc, command, &mut Duplex::new(from, to), settings)
+        }
+        Command::Openings => {
+            let ending = String::from_str(alloc, "b/a")?;
+            list_openings(alloc, from, to, settings, ending, turns)
         }
         Command::Compare(text) => {
             let ending = String::from_str(alloc, "a")?;

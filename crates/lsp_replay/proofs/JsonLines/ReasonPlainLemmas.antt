@@ -23,7 +23,7 @@ use Rattle.lsp_stream.specs.Ports.{one_more}
 use Rattle.lsp_log.specs.declared.record.Sender.{Sender}
 use Rattle.lsp_log.specs.declared.record.Sender.TheVariants.{Client, Server}
 use Rattle.lsp_replay.specs.declared.notes.Note.{Note}
-use Rattle.lsp_replay.specs.declared.notes.Note.TheVariants.{OpenAlready, LoneReturn, OldVersion, NoChanges, WholeText, PastEnd, WrongLength, SameText}
+use Rattle.lsp_replay.specs.declared.notes.Note.TheVariants.{OpenAlready, LoneReturn, OldVersion, NoChanges, WholeText, PastEnd, WrongLength, SameText, OtherSaved}
 use Rattle.lsp_replay.specs.Commands.{code_word, verdict_word}
 use Rattle.lsp_replay.specs.Notes.{change_words, note_words, past_words, side_words}
 use Rattle.lsp_replay.specs.Reasons.{edit_reason, end_words, error_reason, idle_words, is_idle, position_words, range_sent, reason_words, renamed_words, store_reason, version_words}
@@ -175,3 +175,4 @@ plain_note (PastEnd index side sent taken) =
     (plain_position sent)) (plain_past sent taken)) (plain_position taken)) refl
 plain_note (WrongLength index sent replaced characters) = simp (list_all-append is_ascii_plain, plain_decimal)
 plain_note (SameText index) = plain-append (change_words index) (codes " changes nothing") (plain_change index) refl
+plain_note (OtherSaved line) = simp (list_all-append is_ascii_plain, plain_decimal)

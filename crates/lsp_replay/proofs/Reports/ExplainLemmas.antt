@@ -15,12 +15,12 @@ use Rattle.lsp_replay.proofs.Reports.ReasonLemmas.{listed_at}
 
 pub line_is : (listing : Listing) (known : Known) (s : Session) (r : Record) (limits : LimitsData)
     → limits ≡ (judge s r).session.server.config.limits → (facts : Facts) → AreFacts known s r.head r.body facts
-    → (old bytes : List ℕ) → old ≡ [] → bytes ≡ old ++ explained_by listing limits facts
+    → (old bytes : List ℕ) → old ≡ [] → bytes ≡ old ++ explained_by listing limits facts (reading r.body)
     → bytes ≡ explained_line listing known s r (judge s r) (incoming_of (reading r.body))
 line_is listing known s r limits limits_are facts are old bytes empty bytes_is =
     let uri = uri_of r.head.side (incoming_of (reading r.body)) in
-    bytes_is ∙ ap (λ (bs : List ℕ). bs ++ explained_by listing limits facts) empty
-    ∙ ap (λ (l : LimitsData). explained_by listing l facts) limits_are
+    bytes_is ∙ ap (λ (bs : List ℕ). bs ++ explained_by listing limits facts (reading r.body)) empty
+    ∙ ap (λ (l : LimitsData). explained_by listing l facts (reading r.body)) limits_are
     ∙ rw (
       are.number,
       are.verdict,
@@ -31,6 +31,6 @@ line_is listing known s r limits limits_are facts are old bytes empty bytes_is =
       are.rare,
       are.change,
       listed_at listing (judge s r).session.server.config.limits (judge s r).session.records uri
-          (seen_in known uri (judge s r).verdict)
+          (reading r.body) (seen_in known uri (judge s r).verdict)
           (listed_notes listing known.counts (notes_of s known.ranged r.body (judge s r).verdict)) s r.head r.body,
     ) refl

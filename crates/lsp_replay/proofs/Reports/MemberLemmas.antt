@@ -25,6 +25,14 @@ pub seven_words : {A E : Type 0} (r : Result A E) (new old a b c d e f g : List 
 seven_words (Ok x) new old a b c d e f g is = is ∙ parts old a b c d e f g
 seven_words (Err x) new old a b c d e f g is = tt
 
+-- eight words
+pub eight_words : {A E : Type 0} (r : Result A E) (new old a b c d e f g h : List ℕ)
+    → OnOk r (new ≡ old ++ a ++ b ++ c ++ d ++ e ++ f ++ g ++ h)
+    → OnOk r (new ≡ old ++ (a ++ b ++ c ++ d ++ e ++ f ++ g ++ h))
+eight_words (Ok x) new old a b c d e f g h is =
+    is ∙ ap (λ z. z ++ h) (parts old a b c d e f g) ∙ append_assoc old (a ++ b ++ c ++ d ++ e ++ f ++ g) h
+eight_words (Err x) new old a b c d e f g h is = tt
+
 -- ---- the first members
 
 first_parts : (old a d b p c s q m i u : List ℕ) → old ++ a ++ d ++ b ++ p ++ c ++ s ++ q ++ m ++ i ++ u

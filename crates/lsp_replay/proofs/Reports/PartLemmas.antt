@@ -1,54 +1,106 @@
 -- What `replay` of a part gives for a record, and over all records.
-use Rattle.std.proofs.Common.{◌≡◌, ◌≢◌, ℕ, Bool, true, false, List, [], ◌∷◌, Option, Some, None, refl, sym, ap, ◌∙◌}
-use Rattle.std.specs.Prelude.{Ok, if◌then◌else◌}
+use Rattle.std.proofs.Common.{◌≡◌, ◌≢◌, ℕ, Bool, true, false, List, [], ◌∷◌, Option, Some, None, bytes_eq, refl, sym, ap, ◌∙◌}
+use Rattle.std.specs.Prelude.{Ok, not, ◌&&◌, ◌||◌, if◌then◌else◌}
+use Rattle.line_diff.specs.Compared.{ends_so}
+use Rattle.lsp_message.specs.Params.{DocumentItem}
 use Rattle.lsp_replay.specs.declared.outcome.Outcome.{Outcome}
 use Rattle.lsp_log.specs.Log.{Record}
 use Rattle.lsp_replay.specs.RunOutput.{RunOutput, written_first, stopped}
-use Rattle.lsp_server.specs.declared.config.Config.{Config}
-use Rattle.lsp_replay.specs.Session.{Session, Verdict, bad, judge, opened, session_outcome}
+use Rattle.lsp_replay.specs.Session.{Session, Judged, Verdict, bad, counted, judge, session_outcome}
 use Rattle.lsp_replay.specs.Commands.{RecordOutput, writes, ends, followed_by}
-use Rattle.lsp_replay.specs.Parts.{PartData, last_text_in, part_bytes, part_outcome, part_step, next_text, is_last, replaying_part}
+use Rattle.lsp_replay.specs.Openings.{opened_if, opened_in}
+use Rattle.lsp_replay.specs.Parts.{Found, PartData, found_after, found_if, is_last, is_named, last_text_in, only, part_bytes, part_outcome, part_step, refreshed, replaying_part, text_found, with_ending}
+use Rattle.lsp_replay.specs.inside.Bodies.{BodyData, body_read}
+use Rattle.lsp_replay.specs.inside.Kept.{closed_by, kept_after}
+use Rattle.lsp_replay.specs.inside.Openings.{open_read}
 use Rattle.lsp_replay.specs.inside.Parts.{replayed_in}
+use Rattle.lsp_replay.proofs.Records.BodyLemmas.{judged_at}
 use Rattle.lsp_replay.proofs.Records.OutputLemmas.{output_after, unless_not}
+use Rattle.lsp_replay.proofs.Reports.KeptLemmas.{kept_over}
+use Rattle.lsp_replay.proofs.Reports.OpeningLemmas.{opened_at}
 
-module _ (part : PartData) (old : Option (List ℕ)) (s : Session) (r : Record) (t : Session) (verdict : Verdict)
-    (new : Option (List ℕ)) (is_judged : verdict ≡ (judge s r).verdict) (not_bad : verdict ≢ bad)
-    (session : t ≡ (judge s r).session)
-    (kept : last_text_in part.uri new t.server.table ≡ last_text_in part.uri old t.server.table) where
-  abbrev last : Option (List ℕ)
-  last = last_text_in part.uri new t.server.table
+-- ---- a record's output
 
-  abbrev step_with : RecordOutput → Option (List ℕ) → Session → List Record → RunOutput
-  step_with given l u more = followed_by given.out given.end (replayed_in part l u more)
+module _ (part : PartData) (old : Found) (s : Session) (r : Record) (t : Session) (verdict : Verdict)
+    (new : Found) (is_judged : verdict ≡ (judge s r).verdict) (not_bad : verdict ≢ bad)
+    (session : t ≡ (judge s r).session) (next_is : new ≡ found_after part old r (judge s r)) where
+  abbrev step_with : RecordOutput → Found → Session → List Record → RunOutput
+  step_with given found u more = followed_by given.out given.end (replayed_in part found u more)
 
-  goes : (more : List Record) → replayed_in part old s (r ∷ more) ≡ step_with (part_step part last t) last t more
+  goes : (more : List Record) → replayed_in part old s (r ∷ more) ≡ step_with (part_step part new t) new t more
   goes =
-      output_after (replaying_part part) old s r (part_step part last t)
-      (unless_not r (judge s r).verdict (part_step part (next_text part old (judge s r)) (judge s r).session)
+      output_after (replaying_part part) old s r (part_step part new t)
+      (unless_not r (judge s r).verdict (part_step part (found_after part old r (judge s r)) (judge s r).session)
       (λ e. not_bad (is_judged ∙ e))
-      ∙ ap (λ (u : Session). part_step part (last_text_in part.uri old u.server.table) u) (sym session)
-      ∙ ap (λ (l : Option (List ℕ)). part_step part l t) (sym kept))
-      last (kept ∙ ap (λ (u : Session). last_text_in part.uri old u.server.table) session) t session
+      ∙ ap (λ (u : Session). part_step part (found_after part old r (judge s r)) u) (sym session)
+      ∙ ap (λ (f : Found). part_step part f t) (sym next_is))
+      new next_is t session
 
   pub part_continues : (bytes : List ℕ) → bytes ≡ [] → is_last part.at t.records ≡ false → (more : List Record)
-      → replayed_in part old s (r ∷ more) ≡ written_first bytes (replayed_in part last t more)
+      → replayed_in part old s (r ∷ more) ≡ written_first bytes (replayed_in part new t more)
   part_continues bytes empty other more =
       goes more
-      ∙ ap (λ (b : Bool). step_with (if b then ends (part_bytes part.uri last t.server.table)
-      (Ok (part_outcome part.uri last (session_outcome t))) else writes []) last t more) other
-      ∙ ap (λ (b : List ℕ). written_first b (replayed_in part last t more)) (sym empty)
+      ∙ ap (λ (b : Bool). step_with (if b then ends (part_bytes part.uri (text_found new) t.server.table)
+      (Ok (part_outcome part.uri (text_found new) (session_outcome t))) else writes []) new t more) other
+      ∙ ap (λ (b : List ℕ). written_first b (replayed_in part new t more)) (sym empty)
 
   pub part_ends : (bytes : List ℕ) (outcome : Outcome) → is_last part.at t.records ≡ true
-      → bytes ≡ part_bytes part.uri last t.server.table → outcome ≡ part_outcome part.uri last (session_outcome t)
+      → bytes ≡ part_bytes part.uri (text_found new) t.server.table
+      → outcome ≡ part_outcome part.uri (text_found new) (session_outcome t)
       → (more : List Record) → replayed_in part old s (r ∷ more) ≡ stopped bytes (Ok outcome)
   part_ends bytes outcome here bytes_are outcome_is more =
       goes more
-      ∙ ap (λ (b : Bool). step_with (if b then ends (part_bytes part.uri last t.server.table)
-      (Ok (part_outcome part.uri last (session_outcome t))) else writes []) last t more) here
-      ∙ ap (λ (o : Outcome). stopped (part_bytes part.uri last t.server.table) (Ok o)) (sym outcome_is)
+      ∙ ap (λ (b : Bool). step_with (if b then ends (part_bytes part.uri (text_found new) t.server.table)
+      (Ok (part_outcome part.uri (text_found new) (session_outcome t))) else writes []) new t more) here
+      ∙ ap (λ (o : Outcome). stopped (part_bytes part.uri (text_found new) t.server.table) (Ok o)) (sym outcome_is)
       ∙ ap (λ (b : List ℕ). stopped b (Ok outcome)) (sym bytes_are)
 
--- Before the first record no document is open, and none was.
-pub nothing_kept : (uri : Option (List ℕ)) (config : Config) → last_text_in uri None (opened config).server.table ≡ None
-nothing_kept None config = refl
-nothing_kept (Some uri) config = refl
+-- ---- the document that is found, by the text that was kept
+
+abbrev with_text : Option (List ℕ) → Bool → Option (List ℕ) → Found
+with_text uri several text = record { uri = uri; several = several; text = text }
+
+module _ (table : List DocumentItem) (several : Bool) (a b : Option (List ℕ)) where
+  ending_alike : (uri : List ℕ) (found : Option (List ℕ)) → last_text_in found a table ≡ last_text_in found b table
+      → refreshed table (with_ending uri found (with_text found several a))
+      ≡ refreshed table (with_ending uri found (with_text found several b))
+  ending_alike uri None same = refl
+  ending_alike uri (Some other) same = ap (with_text (Some other) (several || not (bytes_eq other uri))) same
+
+  if_alike : (exact ending : Bool) (uri : List ℕ) (found : Option (List ℕ))
+      → last_text_in found a table ≡ last_text_in found b table
+      → refreshed table (if exact then only uri else if ending then with_ending uri found (with_text found several a)
+      else with_text found several a)
+      ≡ refreshed table (if exact then only uri else if ending then with_ending uri found (with_text found several b)
+      else with_text found several b)
+  if_alike true ending uri found same = refl
+  if_alike false true uri found same = ending_alike uri found same
+  if_alike false false uri found same = ap (with_text found several) same
+
+  pub found_alike : (asked opened found : Option (List ℕ)) → last_text_in found a table ≡ last_text_in found b table
+      → refreshed table (found_if asked opened (with_text found several a))
+      ≡ refreshed table (found_if asked opened (with_text found several b))
+  found_alike None opened found same = ap (with_text found several) same
+  found_alike (Some asked) None found same = ap (with_text found several) same
+  found_alike (Some asked) (Some uri) found same =
+      if_alike (bytes_eq uri asked) (ends_so uri asked && not (is_named asked found)) uri found same
+
+-- ---- the document that is found after a record
+
+module _ (part : PartData) (s t : Session) (r : Record) (verdict : Verdict) (is_judged : verdict ≡ (judge s r).verdict)
+    (session : t ≡ (judge s r).session) (read : BodyData)
+    (is_read : read ≡ body_read r.head.version r.head.side r.body) where
+  pub found_next : (old kept new : Found) (closed uri opened : Option (List ℕ))
+      → closed ≡ closed_by s.server.table old.uri read → uri ≡ open_read read → opened ≡ opened_if verdict uri
+      → kept ≡ record old { text = kept_after closed old.text } → new ≡ found_if part.uri opened kept
+      → refreshed t.server.table new ≡ found_after part (refreshed s.server.table old) r (judge s r)
+  found_next old kept new closed uri opened closed_is uri_is opened_is kept_is new_is =
+      let before = last_text_in old.uri old.text s.server.table in
+      let same = kept_over s s t read old.uri closed old.text (kept_after closed old.text) refl closed_is
+      (session ∙ ap (λ (j : Judged). (counted j).session) (sym (judged_at s r.head r.body s read refl is_read))) refl in
+      let opens = opened_at s r verdict is_judged uri opened (uri_is ∙ ap open_read is_read) opened_is in
+      ap (refreshed t.server.table) (new_is ∙ ap (found_if part.uri opened) kept_is)
+      ∙ found_alike t.server.table old.several (kept_after closed old.text) before part.uri opened old.uri same
+      ∙ ap (λ (o : Option (List ℕ)). refreshed t.server.table (found_if part.uri o (refreshed s.server.table old))) opens
+      ∙ ap (λ (u : Session). refreshed u.server.table (found_if part.uri (opened_in r (judge s r))
+      (refreshed s.server.table old))) session

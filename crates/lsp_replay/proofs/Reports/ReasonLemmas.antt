@@ -2,7 +2,7 @@
 use Rattle.std.proofs.Common.{◌≡◌, ◌⊎◌, inl, inr, ℕ, Bool, true, false, List, Option, Some, None, refl, sym, ap, ◌∙◌, subst, ⊎_elim}
 use Rattle.std.specs.Prelude.{⊤, ◌&&◌, is_none, if◌then◌else◌}
 use Rattle.lsp_frame.specs.Limits.{LimitsData}
-use Rattle.lsp_message.specs.Message.{IdData, reading}
+use Rattle.lsp_message.specs.Message.{IdData, Reading, reading}
 use Rattle.lsp_message.specs.Params.{ChangeData}
 use Rattle.lsp_server.specs.declared.phase.Phase.{Phase}
 use Rattle.lsp_server.specs.declared.phase.Phase.TheVariants.{New, Running, Down, Ended}
@@ -114,11 +114,11 @@ module _ {X : Type 0} (f : Option ChangeData → Verdict → X)
       ∙ sym (quiet (change_in (incoming_of (reading body))) (judge_at s head body).verdict q))
       (received_at s body head.version head.side)
 
-module _ (listing : Listing) (limits : LimitsData) (number : ℕ) (uri : Option (List ℕ)) (seen : Seen)
+module _ (listing : Listing) (limits : LimitsData) (number : ℕ) (uri : Option (List ℕ)) (asked : Reading) (seen : Seen)
     (notes : List Note) where
   quiet_listed : (change : Option ChangeData) (verdict : Verdict) → IsQuiet verdict
-      → listed_line listing limits number uri change seen verdict notes
-      ≡ listed_line listing limits number uri None seen verdict notes
+      → listed_line listing limits number uri asked change seen verdict notes
+      ≡ listed_line listing limits number uri asked None seen verdict notes
   quiet_listed change recorded q = refl
   quiet_listed change bad q = refl
   quiet_listed change (answered dropped) q = refl
@@ -130,12 +130,12 @@ module _ (listing : Listing) (limits : LimitsData) (number : ℕ) (uri : Option 
   quiet_listed change (answered (exits status)) q = absurd q
 
   pub listed_at : (s : Session) (head : Head) (body : List ℕ)
-      → listed_line listing limits number uri (received_of s (body_read head.version head.side body)) seen
+      → listed_line listing limits number uri asked (received_of s (body_read head.version head.side body)) seen
       (judge_at s head body).verdict notes
-      ≡ listed_line listing limits number uri (change_in (incoming_of (reading body))) seen
+      ≡ listed_line listing limits number uri asked (change_in (incoming_of (reading body))) seen
       (judge_at s head body).verdict notes
   listed_at =
-      by_received (λ change verdict. listed_line listing limits number uri change seen verdict notes) quiet_listed
+      by_received (λ change verdict. listed_line listing limits number uri asked change seen verdict notes) quiet_listed
 
 quiet_strict : (change : Option ChangeData) (verdict : Verdict) → IsQuiet verdict
     → is_strict_refusal change verdict ≡ is_strict_refusal None verdict

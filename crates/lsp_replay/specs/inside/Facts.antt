@@ -109,9 +109,9 @@ abbrev pub listed_by : Listing → Facts → List Note
 listed_by listing facts = if listing.all then facts.notes.items else facts.rare.items
 
 -- A line of `check --explain`, if the record has one.
-abbrev pub explained_by : Listing → LimitsData → Facts → List ℕ
-explained_by listing limits facts =
-    listed_line listing limits facts.number (option_map string_bytes facts.uri)
+abbrev pub explained_by : Listing → LimitsData → Facts → Reading → List ℕ
+explained_by listing limits facts body =
+    listed_line listing limits facts.number (option_map string_bytes facts.uri) body
     (option_map change_view facts.change) (seen_by facts) (verdict_view facts.verdict)
     (listed_by listing facts)
 

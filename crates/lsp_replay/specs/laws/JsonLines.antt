@@ -70,7 +70,7 @@ reason_value limits m renamed (answered answer) = if is_refused answer then
     Some (string (reason_words limits (change_in m) answer ++ renamed_words renamed)) else None
 reason_value limits m renamed verdict = None
 
--- The notes of an accepted record.
+-- The notes of a record.
 abbrev pub notes_value : List Note → Option Json
 notes_value [] = None
 notes_value (note ∷ notes) =

@@ -8,6 +8,7 @@ use crate::commands::Settings;
 use crate::outcome::Outcome;
 use crate::pipeline::run;
 use crate::printer::partial::ReplayPart;
+use crate::printer::partial::chosen::Chosen;
 use lsp_stream::{EngineFault, Sink, Source};
 use std::alloc::Global;
 
@@ -17,15 +18,17 @@ pub struct Part {
     /// The number of the last record that is read, from 1, as `check` counts them. Without one the
     /// whole log is read.
     pub at: Option<u64>,
-    /// The URI of the document whose text is printed. Without one each open document has a line.
+    /// The URI of the document whose text is printed, or how it ends. Without one each open document
+    /// has a line.
     pub uri: Option<String>,
 }
 
 /// Writes the documents that are open after a record of a log, as [`replay`](crate::replay) does at
-/// its end; or the last text of one document, byte for byte, also if it was closed. After the
-/// part's last record nothing is read. The status is 1 if something was refused up to there, else
-/// 0. If the log has fewer records, or the document was not open up to there, nothing is written:
-/// the outcome says which is missing, and the status is 1.
+/// its end; or the last text of one document, byte for byte, also if it was closed. A document with
+/// the very URI comes first; else it is the one whose URI ends so. After the part's last record
+/// nothing is read. The status is 1 if something was refused up to there, else 0. If the log has
+/// fewer records, or the document was not open up to there, or the URIs of several end so, nothing
+/// is written: the outcome says which is missing, and the status is 1.
 ///
 /// Errors and costs are those of [`replay`](crate::replay). The memory is for what is written, too.
 pub fn replay_part<R: Source, W: Sink>(
@@ -44,7 +47,8 @@ pub fn replay_part<R: Source, W: Sink>(
     let replay = ReplayPart {
         session: settings.session(alloc),
         part,
-        kept: None,
+        chosen: Chosen::none(),
+        alloc,
     };
     run(alloc, reader, writer, replay, None, rules, max_turns)
 }

@@ -6,7 +6,7 @@ ghost use Rattle.lsp_message.specs.Seen.{change_view};
 ghost use Rattle.lsp_server.specs.Seen.{incoming_view};
 ghost use Rattle.lsp_store.specs.Table.{entry_at};
 ghost use Rattle.lsp_replay.specs.Notes.{changing_notes, notes_if, notes_on, opening_notes};
-ghost use Rattle.lsp_replay.specs.Notes.{return_notes, terms_in, version_notes};
+ghost use Rattle.lsp_replay.specs.Notes.{return_notes, saving_notes, terms_in, version_notes};
 ghost use Rattle.lsp_replay.specs.inside.Bodies.{body_view};
 ghost use Rattle.lsp_replay.specs.inside.Facts.{IsAbout};
 ghost use Rattle.lsp_replay.specs.inside.Verdicts.{verdict_view};
@@ -16,6 +16,7 @@ use crate::facts::asked::{copied_text, is_change, uri_of};
 use crate::notes::Note;
 use crate::notes::changes::{Terms, push_batch_notes};
 use crate::notes::returns::{has_feed, has_lone_return};
+use crate::notes::saved::{notification_params, push_saved_note};
 use crate::session::{RecordBody, Verdict};
 use lsp_log::Sender;
 use lsp_message::{ChangeParams, OpenParams, range_lengths};
@@ -47,8 +48,8 @@ pub(super) fn about_of(
     })
 }
 
-/// Returns what there is to note of a message, if it is accepted. The body of a change is read once
-/// more, for its lengths.
+/// Returns what there is to note of a message, unless it is refused. The body of a change is read
+/// once more, for its lengths, and that of a `didSave`, for its text.
 fn notes_on(
     alloc: Global,
     server: &Server,
@@ -62,6 +63,12 @@ fn notes_on(
     match incoming {
         Incoming::DidOpen(Some(params)) => opening_notes(alloc, server, params),
         Incoming::DidChange(Some(params)) => changing_notes(alloc, server, ranged, body, params),
+        Incoming::OtherNotification { method } => saving_notes(
+            alloc,
+            server,
+            method.as_str(),
+            body,
+        ),
         _ => Ok(Vec::new(alloc)),
     }
 }
@@ -123,12 +130,30 @@ fn changing_notes(
     Ok(notes)
 }
 
-/// Returns the notes of an accepted message; a refused one has none.
+/// Notes a text that was saved and isn't its document's. Only the body of a `didSave` is read.
+fn saving_notes(
+    alloc: Global,
+    server: &Server,
+    method: &str,
+    body: &[u8],
+) -> Result<Vec<Note>, AllocError>
+    ensures { IfOk result (λ notes. notes.items
+        ≡ saving_notes server.now.table method.now (reading body.now)) }
+{
+    let mut notes = Vec::new(alloc);
+    if method == "textDocument/didSave" {
+        let params = notification_params(alloc, body)?;
+        push_saved_note(alloc, &mut notes, server.store(), params.as_ref())?;
+    }
+    Ok(notes)
+}
+
+/// Returns the notes of a message that is accepted or ignored; any other has none.
 pub(super) fn notes_if(mut notes: Vec<Note>, verdict: &Verdict) -> Vec<Note>
     ensures { result.items ≡ notes_if notes.items (verdict_view verdict.now) }
 {
     match verdict {
-        Verdict::Answered(Answer::Changed) => notes,
+        Verdict::Answered(Answer::Changed | Answer::Ignored) => notes,
         _ => {
             notes.clear();
             notes

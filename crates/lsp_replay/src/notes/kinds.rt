@@ -23,6 +23,7 @@ pub fn note_kind(note: Note) -> &'static str
             ..
         } => length_kind(sent == characters as u64),
         Note::SameText { .. } => "changes nothing",
+        Note::OtherSaved { .. } => "another text saved",
     }
 }
 

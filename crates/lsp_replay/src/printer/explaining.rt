@@ -2,11 +2,12 @@
 //! what is suspicious of it.
 
 ghost use Rattle.std.specs.Prelude.{◌≡◌, ◌++◌, refl, OnOk, codes, decimal, false, flat_map, option_map, string_bytes};
+ghost use Rattle.lsp_message.specs.Message.{reading};
 ghost use Rattle.lsp_message.specs.Seen.{change_view};
 ghost use Rattle.lsp_replay.specs.Counts.{counts_words};
 ghost use Rattle.lsp_replay.specs.Tallies.{tally_words};
 ghost use Rattle.lsp_replay.specs.Explained.{advice, closing_lines, document_words, explaining, explanation, first_advice};
-ghost use Rattle.lsp_replay.specs.Explained.{habit_advice, is_listed, lenient_advice, line_with, remark, see_words};
+ghost use Rattle.lsp_replay.specs.Explained.{habit_advice, is_listed, lenient_advice, line_with, noted_uri, remark, see_words};
 ghost use Rattle.lsp_replay.specs.inside.Lines.{lines_in};
 ghost use Rattle.lsp_replay.specs.inside.Facts.{explained_by, listed_by, seen_by};
 ghost use Rattle.lsp_replay.specs.inside.Verdicts.{verdict_view};
@@ -18,6 +19,7 @@ use crate::facts::{Facts, Known, has_notes};
 use crate::handler::{Given, Output};
 use crate::members::{push_json_string, push_number, push_words};
 use crate::notes::Note;
+use crate::notes::saved::{notification_params, saved_uri};
 use crate::outcome::Outcome;
 use crate::printer::Printer;
 use crate::printer::checking::push_verdict;
@@ -88,7 +90,7 @@ impl Printer for Explain {
             .known
             .take(&mut self.session, head, body, read, &mut witness)?;
         let limits = self.session.server().store().limits();
-        push_facts(self.alloc, buffer, self.listing, limits, &facts)?;
+        push_facts(self.alloc, buffer, self.listing, limits, &facts, body)?;
         Ok(Given::more(Output::Bytes))
     }
 
@@ -109,15 +111,16 @@ fn push_facts(
     listing: Listing,
     limits: Limits,
     facts: &Facts,
+    body: &[u8],
 ) -> Result<(), AllocError>
-    ensures { OnOk result
-        (buffer.new.items ≡ buffer.old.items ++ explained_by listing limits facts.now) }
+    ensures { OnOk result (buffer.new.items ≡ buffer.old.items
+        ++ explained_by listing limits facts.now (reading body.now)) }
 {
     let notes = listed_notes(listing, facts);
     if !is_listed(listing, &facts.verdict, notes) {
         return Ok(());
     }
-    push_line(alloc, buffer, limits, facts, notes)
+    push_line(alloc, buffer, limits, facts, body, notes)
 }
 
 /// Returns the notes on the line of a record: those that are no habits, or each.
@@ -144,18 +147,19 @@ fn push_line(
     buffer: &mut Vec<u8>,
     limits: Limits,
     facts: &Facts,
+    body: &[u8],
     notes: &[Note],
 ) -> Result<(), AllocError>
     ensures { OnOk result (buffer.new.items ≡ buffer.old.items
         ++ line_with limits facts.now.number (option_map string_bytes facts.now.uri)
-        (option_map change_view facts.now.change) (seen_by facts.now)
+        (reading body.now) (option_map change_view facts.now.change) (seen_by facts.now)
         (verdict_view facts.now.verdict) notes.now) }
 {
     push_number(buffer, facts.number)?;
     buffer.extend_from_slice(b" ")?;
     push_verdict(buffer, &facts.verdict)?;
     push_explanation(alloc, buffer, limits, facts)?;
-    push_remark(alloc, buffer, facts.uri.as_deref(), notes)?;
+    push_remark(alloc, buffer, facts.uri.as_deref(), body, notes)?;
     buffer.extend_from_slice(b"\n")
 }
 
@@ -184,22 +188,40 @@ fn push_explanation(
     push_see(buffer, facts.last)
 }
 
-/// Writes what is suspicious of a record about a document, if something is.
+/// Writes what is suspicious of a record, if something is.
 fn push_remark(
     alloc: Global,
     buffer: &mut Vec<u8>,
     uri: Option<&str>,
+    body: &[u8],
     notes: &[Note],
 ) -> Result<(), AllocError>
-    ensures { OnOk result (buffer.new.items ≡ buffer.old.items
-        ++ remark (option_map (λ uri. uri.now) uri.entry) notes.now) }
+    ensures { OnOk result (buffer.new.items ≡ buffer.old.items ++ remark
+        (noted_uri (option_map (λ uri. uri.now) uri.entry) (reading body.now)) notes.now) }
 {
     if notes.is_empty() {
         return Ok(());
     }
-    push_document(alloc, buffer, uri)?;
+    push_noted_document(alloc, buffer, uri, body)?;
     buffer.extend_from_slice(b": ")?;
     push_notes(buffer, "; ", notes)
+}
+
+/// Writes the document that notes are about. The body is read for that of a text that was saved.
+fn push_noted_document(
+    alloc: Global,
+    buffer: &mut Vec<u8>,
+    uri: Option<&str>,
+    body: &[u8],
+) -> Result<(), AllocError>
+    ensures { OnOk result (buffer.new.items ≡ buffer.old.items ++ document_words
+        (noted_uri (option_map (λ uri. uri.now) uri.entry) (reading body.now))) }
+{
+    if uri.is_some() {
+        return push_document(alloc, buffer, uri);
+    }
+    let params = notification_params(alloc, body)?;
+    push_document(alloc, buffer, saved_uri(params.as_ref()))
 }
 
 /// Writes the document that a record is about.
@@ -235,6 +257,7 @@ fn push_counts(buffer: &mut Vec<u8>, messages: u64, counts: &Counts) -> Result<(
     push_words(buffer, ", changed documents: ")?;
     push_number(buffer, counts.changed())?;
     push_words(buffer, "\n")?;
+    push_tallies(buffer, "", counts.dropped())?;
     push_tallies(buffer, "refused by ", counts.refused())?;
     push_tallies(buffer, "noted ", counts.noted())
 }

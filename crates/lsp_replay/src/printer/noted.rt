@@ -1,4 +1,4 @@
-//! What is suspicious of an accepted message, in words.
+//! What is suspicious of a message that wasn't refused, in words.
 
 ghost use Rattle.std.specs.Prelude.{◌≡◌, ◌++◌, OnOk, codes, decimal};
 ghost use Rattle.std.specs.Fmt.{signed_decimal};
@@ -56,6 +56,7 @@ fn push_note(buffer: &mut Vec<u8>, note: Note) -> Result<(), AllocError>
             ..
         } => push_wrong_length(buffer, change, sent, replaced),
         Note::SameText { change } => push_remark(buffer, change, " changes nothing"),
+        Note::OtherSaved { line } => push_other_saved(buffer, line),
     }
 }
 
@@ -128,6 +129,20 @@ fn push_wrong_length(
     push_words(buffer, ", and replaces ")?;
     push_number(buffer, replaced as u64)?;
     push_words(buffer, " UTF-16 units")
+}
+
+/// Writes that another text was saved, and the first line that differs.
+fn push_other_saved(buffer: &mut Vec<u8>, line: usize) -> Result<(), AllocError>
+    ensures { OnOk result (buffer.new.items ≡ buffer.old.items
+        ++ codes "the saved text is not the document's: they differ in line " ++ decimal line
+        ++ codes " first") }
+{
+    push_words(
+        buffer,
+        "the saved text is not the document's: they differ in line ",
+    )?;
+    push_number(buffer, line as u64)?;
+    push_words(buffer, " first")
 }
 
 /// Writes something of a change.

@@ -1,18 +1,20 @@
 //! `replay` of a part of a log: the documents after a record, or the last text of one document.
 
-ghost use Rattle.std.specs.Prelude.{◌≡◌, ◌++◌, refl, IfOk, OnOk, false, option_map, string_bytes};
-ghost use Rattle.lsp_store.specs.Table.{entry_at};
+ghost use Rattle.std.specs.Prelude.{◌≡◌, ◌++◌, refl, IfOk, OnOk, false};
 ghost use Rattle.lsp_replay.specs.Session.{session_outcome};
 ghost use Rattle.lsp_replay.specs.Commands.{report_from};
-ghost use Rattle.lsp_replay.specs.Parts.{is_last, last_text, part_bytes, part_data, part_outcome};
-ghost use Rattle.lsp_replay.specs.inside.Kept.{kept_after};
-ghost use Rattle.lsp_replay.specs.inside.Parts.{last_text_now, replayed_in};
+ghost use Rattle.lsp_replay.specs.Parts.{is_last, part_bytes, part_data, part_outcome};
+ghost use Rattle.lsp_replay.specs.inside.Parts.{found_now, replayed_in, text_now};
+
+pub(crate) mod chosen;
 
 use crate::commands::Part;
 use crate::handler::{Given, Output};
 use crate::outcome::{Missing, Outcome};
 use crate::printer::Printer;
+use crate::printer::partial::chosen::Chosen;
 use crate::printer::replaying::push_document_line;
+use crate::session::opening::{opened_if, opened_uri};
 use crate::session::{RecordBody, Session};
 use lsp_log::Head;
 use lsp_store::Store;
@@ -24,8 +26,8 @@ use std::alloc::{AllocError, Global};
 pub struct ReplayPart {
     pub session: Session,
     pub part: Part,
-    /// The text that the part's document had when it was closed last.
-    pub kept: Option<String>,
+    pub chosen: Chosen,
+    pub alloc: Global,
 }
 
 impl ReplayPart {
@@ -39,36 +41,22 @@ impl ReplayPart {
         }
     }
 
-    /// Returns the last text of the document with this URI, in a copy.
-    fn last_text(&self, alloc: Global, uri: &str) -> Result<Option<String>, AllocError>
-        ensures { IfOk result (λ found. option_map string_bytes found
-            ≡ last_text (option_map string_bytes self.now.kept)
-            (entry_at self.now.session.server.table uri.now)) }
-    {
-        if let Some(document) = self.session.server().store().get(uri) {
-            return Ok(Some(document.text().to_string(alloc)?));
-        }
-        match &self.kept {
-            Some(kept) => Ok(Some(String::from_str(alloc, kept)?)),
-            None => Ok(None),
-        }
-    }
-
     /// Writes what is printed of the part, and returns the outcome.
     fn push_report(&self, buffer: &mut Vec<u8>) -> Result<Outcome, AllocError>
         ensures bytes { OnOk result (buffer.new.items ≡ buffer.old.items
-            ++ part_bytes (part_data self.now.part).uri (last_text_now self.now)
+            ++ part_bytes (part_data self.now.part).uri (text_now self.now)
             self.now.session.server.table) }
         ensures outcome { IfOk result (λ outcome. outcome
-            ≡ part_outcome (part_data self.now.part).uri (last_text_now self.now)
+            ≡ part_outcome (part_data self.now.part).uri (text_now self.now)
             (session_outcome self.now.session)) }
     {
         let outcome = self.session.outcome();
-        let Some(uri) = &self.part.uri else {
-            push_documents(buffer, self.session.server().store())?;
+        let documents = self.session.server().store();
+        let Some(_) = &self.part.uri else {
+            push_documents(buffer, documents)?;
             return Ok(outcome);
         };
-        let Some(text) = self.last_text(*buffer.allocator(), uri)? else {
+        let Some(text) = self.chosen.text(self.alloc, documents)? else {
             return Ok(Outcome {
                 status: 1,
                 missing: Some(Missing::Document),
@@ -82,7 +70,7 @@ impl ReplayPart {
 
 impl Printer for ReplayPart {
     ghost run_output = { λ replay.
-        replayed_in (part_data replay.part) (last_text_now replay) replay.session };
+        replayed_in (part_data replay.part) (found_now replay) replay.session };
 
     ghost reached = { λ replay. replay.session };
 
@@ -108,9 +96,13 @@ impl Printer for ReplayPart {
         read: RecordBody<'_>,
         buffer: &mut Vec<u8>,
     ) -> Result<Given, EngineFault> {
-        let closed = self.session.closed_text(&read, self.part.uri.as_deref())?;
-        self.session.accept(head, read)?;
-        keep(&mut self.kept, closed);
+        let found = self.chosen.uri();
+        let closed = self.session.closed_text(&read, found)?;
+        let uri = opened_uri(self.alloc, &read)?;
+        let verdict = self.session.accept(head, read)?;
+        let opened = opened_if(&verdict, uri);
+        self.chosen.keep(closed);
+        self.chosen.take(self.part.uri.as_deref(), opened);
         if !self.is_last() {
             return Ok(Given::more(Output::Bytes));
         }
@@ -134,16 +126,6 @@ impl Printer for ReplayPart {
             }));
         }
         Ok(Some(self.push_report(buffer)?))
-    }
-}
-
-/// Keeps a text in place of the one before, if there is one.
-fn keep(kept: &mut Option<String>, closed: Option<String>)
-    ensures { option_map string_bytes kept.new
-        ≡ kept_after (option_map string_bytes closed) (option_map string_bytes kept.old) }
-{
-    if let Some(text) = closed {
-        *kept = Some(text);
     }
 }
 

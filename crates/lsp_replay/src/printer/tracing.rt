@@ -208,7 +208,7 @@ fn push_mention(buffer: &mut Vec<u8>, last: Option<u64>) -> Result<(), AllocErro
     push_number(buffer, number)
 }
 
-/// Writes what is suspicious of an accepted record, if there is something.
+/// Writes what is suspicious of a record, if there is something.
 fn push_noted(buffer: &mut Vec<u8>, notes: &[Note]) -> Result<(), AllocError>
     ensures { OnOk result (buffer.new.items ≡ buffer.old.items
         ++ member (codes ",\"notes\":") (notes_json notes.now)) }

@@ -61,10 +61,11 @@ order of opening. The status is that of `check`. Nothing is printed where the
 log is faulty.
 
 With `--at N` it is the documents after the Nth record, as `check` counts; what
-comes after it isn't read. With `--uri URI` it is that document's text alone,
-byte for byte, also after its `didClose`: the last text that it had. Where there
-is no such record, or the document was never open, a line on standard error says
-so, and the status is 1.
+comes after it isn't read. With `--uri URI` it is the last text of one document
+alone, byte for byte, also after its `didClose`: of that with this URI, else of
+the one whose URI ends so. Where there is no such record or document, a line on
+standard error says so, and the status is 1; of a file it also says then which
+messages opened its documents.
 
 Example, and a document's text alone, then and after the third record:
   lspsync replay examples/typing.log
@@ -82,7 +83,8 @@ message that made each of the document's: that message is wrong, or a change
 after it is missing. `\\u{a0}` and the like are characters that can't be seen.
 
 The status is 0 where the texts are equal, byte for byte, else 1. Where no
-document's URI ends so, a line on standard error says so, and the status is 1.
+document's URI ends so, a line on standard error says so, and the status is 1;
+of a log in a file it also says then which messages opened its documents.
 
 Example, of a text that is the same:
   lspsync replay --uri file:///home/ada/hello.py examples/typing.log > hello.py
@@ -154,8 +156,8 @@ one message, as between two saves";
 
 pub static AT: &str = "Replay up to the Nth record alone, from 1";
 
-pub static URI: &str = "Print this document's last text alone, as it is, also
-if it was closed";
+pub static URI: &str = "Print one document's last text alone, as it is, also
+if it was closed: with this URI, or ending so";
 
 pub static EXPLAIN: &str = "Print why a message was refused or what is suspicious
 too, and at the end what to do next";

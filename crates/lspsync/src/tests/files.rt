@@ -34,19 +34,27 @@ const TWO_CUT: &str =
 
 const BROKEN: &str = "lspsync: broken.log: a call that was to fail\n";
 
-const NO_URI: &str = "lspsync: good.log: the document was never open\n";
+const NO_URI: &str =
+    "lspsync: good.log: the document was never open\n  message 2 opened \"file:///a\"\n";
+
+const NO_DOCUMENT: &str =
+    "lspsync: begun.log: the document was never open\n  no message opened a document\n";
+
+const PIPE: &str = "lspsync: pipe: the document was never open\n";
+
+const NO_RECORD: &str = "lspsync: good.log: the log has no record of this number\n";
 
 const SAME: &str = "\"file:///a\" after message 3: the text is the file's\n";
 
 const OTHER: &str =
-    "\"file:///a\" after message 3: the text is not the file's:\nline 1 (made by message 3): \"aXc\"\n  the file has: \"abc\\n\"\nOf each line the message that is named is wrong, or after it one is missing.\n";
+    "\"file:///a\" after message 3: the text is not the file's:\nline 1 (made by message 3): \"aXc\"\n  the file has: \"abc\\n\"\nFor each line, a message named is wrong, or a later one that was to change what it made is missing or wrong.\n";
 
 const BYTES: &str = "lspsync: nvim.bin: stream did not contain valid UTF-8\n";
 
 const NO_SAVED: &str = "lspsync: gone.txt: entity not found\n";
 
 /// Words, the status, the output, and what is printed on standard error.
-static ROWS: [(&str, u8, &str, &str); 17] = [
+static ROWS: [(&str, u8, &str, &str); 23] = [
     ("lspsync compare a good.log", 0, SAME, ""),
     ("lspsync compare --uri=a saved.txt -", 1, OTHER, ""),
     ("lspsync compare nvim.bin good.log", 3, "", BYTES),
@@ -63,6 +71,13 @@ static ROWS: [(&str, u8, &str, &str); 17] = [
     ("lspsync trace bare.log", 5, "", BARE),
     ("lspsync trace two.log", 5, "", TWO_CUT),
     ("lspsync replay --uri=file:///b good.log", 1, "", NO_URI),
+    ("lspsync replay --uri=a good.log", 0, "aXc", ""),
+    // `--at` comes before the document was opened.
+    ("lspsync replay --uri=a --at=1 good.log", 1, "", NO_URI),
+    ("lspsync replay --uri=a --at=9 good.log", 1, "", NO_RECORD),
+    ("lspsync replay --uri=a begun.log", 1, "", NO_DOCUMENT),
+    ("lspsync replay --uri=b pipe", 1, "", PIPE),
+    ("lspsync replay --at=9 good.log", 1, "", NO_RECORD),
     (
         "lspsync check good.log --lenient gone.log -",
         3,
@@ -77,7 +92,8 @@ fn is_answered(alloc: Global, row: &(&str, u8, &str, &str)) -> Result<bool, Allo
     let words: Vec<&str> = words.split(' ').collect(alloc)?;
     let good = log(alloc, &[INITIALIZE, OPEN, WHOLE])?;
     let cut = Vec::from_slice(alloc, good.get(..400).unwrap_or(&[]))?;
-    let files: [Held<'_>; 9] = [
+    let begun = log(alloc, &[INITIALIZE])?;
+    let files: [Held<'_>; 11] = [
         ("a", b"aXc", &[Take(1)]),
         ("saved.txt", b"abc\n", &[]),
         ("nvim.bin", b"a\xff", &[]),
@@ -85,6 +101,8 @@ fn is_answered(alloc: Global, row: &(&str, u8, &str, &str)) -> Result<bool, Allo
         ("two.log", b"lsp-session-log 2\n>Content-Length: 2\r\n", &[]),
         ("good.log", &good, &[Take(1), Take(30)]),
         ("cut.log", &cut, &[]),
+        ("begun.log", &begun, &[]),
+        ("pipe", &good, &[]),
         ("broken.log", &good, &[Take(350), Fails]),
         ("nvim.log", b"[START][ LSP logging", &[Take(1), Take(2)]),
     ];

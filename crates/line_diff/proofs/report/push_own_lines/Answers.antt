@@ -5,12 +5,13 @@ use Rattle.line_diff.proofs.report.push_own_lines.Goals as goal
 
 pub loop-index-preserved : goal.loop-index-preserved
 loop-index-preserved c =
-    let words = own_line_at c.args.owners.now (map (λ (line : Bor (List ℕ)). line.now) c.args.lines.now) in
-    let line : own_line (c.loop-index.index + 1) c.owner_at.result c.text_at.result.now ≡ words c.loop-index.index =
-    rw (c.owner_at.ensures, c.text_at.ensures) refl in
+    let words = own_line_at c.args.rows.now (map (λ (line : Bor (List ℕ)). line.now) c.args.lines.now)
+    (map (λ (line : Bor (List ℕ)). line.now) c.args.others.now) c.args.hunk.now in
+    let line : own_line (c.loop-index.index + 1) c.line_makers-makers.result c.text_at.result.now
+    ≡ words c.loop-index.index = rw (c.line_makers-makers.ensures, c.text_at.ensures) refl in
     rw (
       c.in_ok-push_own_line.ensures,
       line,
       append_assoc,
-      ← words_more words c.args.end c.loop-index.index (omega arith),
+      ← words_more words c.args.hunk.now.end c.loop-index.index (omega arith),
     ) c.loop-index.invariant

@@ -5,6 +5,8 @@ use Rattle.line_diff.proofs.report.push_own_lines.Given as goal
 abbrev pub invariant-loop-index : goal.invariant-loop-index
 invariant-loop-index l =
     l.buffer.items
-    ++ words_from (own_line_at l.owners (map (λ line. line.now) l.lines)) (l.end - l.index) l.index
+    ++ words_from (own_line_at l.rows (map (λ line. line.now) l.lines) (map (λ line. line.now) l.others) l.hunk)
+    (l.hunk.end - l.index) l.index
     ≡ l.fn.buffer.items
-    ++ words_from (own_line_at l.owners (map (λ line. line.now) l.lines)) (l.end - l.start) l.start
+    ++ words_from (own_line_at l.rows (map (λ line. line.now) l.lines) (map (λ line. line.now) l.others) l.hunk)
+    (l.hunk.end - l.hunk.start) l.hunk.start

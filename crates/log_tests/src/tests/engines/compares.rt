@@ -43,28 +43,28 @@ static ROWS: [(&[&str], &str, End, &str); 9] = [
         &[INITIALIZE, THREE_LINES],
         "one\r\ntwo\rthree\n",
         Ended(1, 2, 0),
-        "\"file:///a\" after message 2: the text is the file's, but for\n  line ends\n",
+        "\"file:///a\" after message 2: the text is the file's, but for\n  line ends, the first of them made by message 2\n",
     ),
     // A line differs, and one is missing at the end.
     (
         &[INITIALIZE, THREE_LINES, SECOND_LINE],
         "one\ntwo\u{a0}\nthree\nfour\n",
         Ended(1, 3, 0),
-        "\"file:///a\" after message 3: the text is not the file's:\nline 2 (made by message 3): \"2\\t\\n\"\n  the file has: \"two\\u{a0}\\n\"\nafter line 3, after message 2:\n  the file has: \"four\\n\"\nOf each line the message that is named is wrong, or after it one is missing.\n",
+        "\"file:///a\" after message 3: the text is not the file's:\nline 2 (made by message 3): \"2\\t\\n\"\n  the file has: \"two\\u{a0}\\n\"\nafter line 3 (made by message 2):\n  the file has: \"four\\n\"\nFor each line, a message named is wrong, or a later one that was to change what it made is missing or wrong.\n",
     ),
     // A line is missing at the beginning, and there are two too many at the end.
     (
         &[INITIALIZE, THREE_LINES, SECOND_LINE],
         "zero\none\n",
         Ended(1, 3, 0),
-        "\"file:///a\" after message 3: the text is not the file's:\nafter line 0, after message 2:\n  the file has: \"zero\\n\"\nline 2 (made by message 3): \"2\\t\\n\"\nline 3 (made by message 2): \"three\\n\"\nOf each line the message that is named is wrong, or after it one is missing.\n",
+        "\"file:///a\" after message 3: the text is not the file's:\nafter line 0 (made by message 2):\n  the file has: \"zero\\n\"\nline 2 (made by message 3): \"2\\t\\n\"\nline 3 (made by messages 2 and 3): \"three\\n\"\nFor each line, a message named is wrong, or a later one that was to change what it made is missing or wrong.\n",
     ),
     // It was opened again, so each line is of that message.
     (
         &[INITIALIZE, THREE_LINES, SECOND_LINE, CLOSE, OPEN],
         "",
         Ended(1, 5, 0),
-        "\"file:///a\" after message 5: the text is not the file's:\nline 1 (made by message 5): \"abc\"\nOf each line the message that is named is wrong, or after it one is missing.\n",
+        "\"file:///a\" after message 5: the text is not the file's:\nline 1 (made by message 5): \"abc\"\nFor each line, a message named is wrong, or a later one that was to change what it made is missing or wrong.\n",
     ),
     (
         &[INITIALIZE, OPEN, OTHER],

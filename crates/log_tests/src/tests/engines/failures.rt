@@ -14,7 +14,7 @@ static SERVED: [Case; 1] = [Case {
 }];
 
 /// The log commands over a log of version 1.
-static OVER_1: [Case; 11] = [
+static OVER_1: [Case; 12] = [
     Case {
         command: Command::Check,
         input: Bytes::Frames(WORKED),
@@ -62,6 +62,15 @@ static OVER_1: [Case; 11] = [
         input: Bytes::Frames(&[INITIALIZE, OPEN, WHOLE, CLOSE]),
         output: Bytes::Plain(b"aXc"),
         end: Ended(0, 4, 0),
+        records: &[],
+        flushes: &[],
+    },
+    // All documents that were opened are listed.
+    Case {
+        command: Command::Openings,
+        input: Bytes::Frames(&[INITIALIZE, OPEN, CLOSE]),
+        output: Bytes::Plain(b"  message 2 opened \"file:///a\"\n"),
+        end: Ended(0, 3, 0),
         records: &[],
         flushes: &[],
     },

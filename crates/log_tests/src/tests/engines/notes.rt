@@ -240,6 +240,71 @@ fn a_kind_of_note_that_comes_often_is_said_once(rt: HostRuntime) -> Result<(), F
     Ok(())
 }
 
+/// Members of a `didSave` after [`TWO_LINES`], beside its document, and the line that is noted. A
+/// member that comes again counts.
+static SAVES: [(&str, Option<u8>); 11] = [
+    (r#""text":"one\ntwo😀\n""#, None),
+    (r#""version":2"#, None),
+    (r#""text":["one"]"#, None),
+    (r#""text":"one","textDocument":{"uri":"file:///b"}"#, None),
+    (r#""text":"one","textDocument":"file:///a""#, None),
+    (r#""text":"""#, Some(1)),
+    // A carriage return before a line feed ends no line.
+    (r#""text":"one\r\ntwo😀\n""#, Some(1)),
+    (r#""text":"one""#, Some(1)),
+    (r#""text":"one\ntwo😁\n""#, Some(2)),
+    (r#""text":"one\ntwo😀""#, Some(2)),
+    (r#""text":"one\ntwo😀\n\n""#, Some(3)),
+];
+
+const OTHER_SAVED: &str =
+    "ignored of \"file:///a\": the saved text is not the document's: they differ in line";
+
+/// Returns what `check --brief` writes of a third message with a note of this line, if it has one.
+fn brief(alloc: Global, line: Option<u8>) -> Result<String, AllocError> {
+    let counted = "messages of the editor: 3, changed documents: 1\n";
+    let Some(line) = line else {
+        return format!(in alloc; "{counted}{COMPARE}");
+    };
+    let noted = "noted another text saved: 1, first message 3\n";
+    format!(in alloc; "3 {OTHER_SAVED} {line} first\n{counted}{noted}{SEE}")
+}
+
+/// Returns whether a `didSave` with these members has a note of this line.
+fn is_saved(alloc: Global, members: &str, line: Option<u8>) -> Result<bool, Fail> {
+    let front =
+        r#"{"jsonrpc":"2.0","method":"textDocument/didSave","params":{"textDocument":{"uri":"file:///a"},"#;
+    let save = format!(in alloc; "{front}{members}}}}}")?;
+    let input = log(alloc, &[INITIALIZE, TWO_LINES, save.as_str()])?;
+    let run = run_with(alloc, Command::Brief, &input, settings()?, SMOOTH)?;
+    Ok(run.output.as_slice() == brief(alloc, line)?.as_bytes())
+}
+
+/// Returns whether another text that is saved before `initialize` has no note, and one that is saved
+/// again has it on no line.
+fn is_saved_often(alloc: Global) -> Result<bool, Fail> {
+    let input = log(
+        alloc,
+        &[SAVE_OTHER, INITIALIZE, OPEN, SAVE_OTHER, SAVE_OTHER],
+    )?;
+    let run = run_with(alloc, Command::Explain, &input, settings()?, SMOOTH)?;
+    let lines =
+        "messages of the editor: 5, changed documents: 1\nnoted another text saved: 2, first message 4\n";
+    let output = format!(in alloc;
+        "1 dropped\n2 reply\n3 changed\n4 {OTHER_SAVED} 1 first\n5 ignored\n{lines}{SEE}{HABIT}"
+    )?;
+    Ok(run.output.as_slice() == output.as_bytes())
+}
+
+#[test]
+fn a_saved_text_that_is_not_the_documents_is_noted(rt: HostRuntime) -> Result<(), Fail> {
+    for (members, line) in &SAVES {
+        assert!(rt; is_saved(rt.alloc(), members, *line)?, "at {members}");
+    }
+    assert!(rt; is_saved_often(rt.alloc())?);
+    Ok(())
+}
+
 /// A document is opened and changed, and a version comes again without changes; then another name is
 /// changed and closed.
 static LOST: [&str; 6] = [

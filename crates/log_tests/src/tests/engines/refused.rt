@@ -99,7 +99,7 @@ impl Wanted {
     }
 }
 
-static RUNS: [Wanted; 15] = [
+static RUNS: [Wanted; 16] = [
     Wanted {
         command: Command::Serve,
         input: Bytes::Frames(&[SHORT]),
@@ -153,6 +153,13 @@ static RUNS: [Wanted; 15] = [
         lengths: &[3],
         end: Ended(0, 2, 0),
     },
+    Wanted {
+        command: Command::Openings,
+        input: Bytes::Frames(&[SHORT, OPEN, CLOSE]),
+        parts: &["  message 2 opened \"file:///a\"\n"],
+        lengths: &[31],
+        end: Ended(0, 3, 0),
+    },
     // The document is opened, and opened again.
     Wanted {
         command: Command::Trace,
@@ -189,6 +196,19 @@ static RUNS: [Wanted; 15] = [
             "messages of the editor: 3, changed documents: 2\nnoted changes nothing: 1, first message 3\nnoted past the last line: 1, first message 3\nNothing was refused; see the notes. `lspsync replay --at N`: the texts after message N.\n",
         ],
         lengths: &[8, 18, 160, 383],
+        end: Ended(0, 3, 0),
+    },
+    // A text is saved that isn't the document's.
+    Wanted {
+        command: Command::Explain,
+        input: Bytes::Frames(&[SHORT, OPEN, SAVE_OTHER]),
+        parts: &[
+            "1 reply\n",
+            "2 changed\n",
+            "3 ignored of \"file:///a\": the saved text is not the document's: they differ in line 1 first\n",
+            "messages of the editor: 3, changed documents: 1\nnoted another text saved: 1, first message 3\nNothing was refused; see the notes. `lspsync replay --at N`: the texts after message N.\n",
+        ],
+        lengths: &[8, 18, 110, 291],
         end: Ended(0, 3, 0),
     },
     // The whole of an empty text is replaced by nothing, which is no change.
@@ -240,9 +260,9 @@ static RUNS: [Wanted; 15] = [
         command: Command::Compare("aYc\n"),
         input: Bytes::Frames(&[SHORT, OPEN]),
         parts: &[
-            "\"file:///a\" after message 2: the text is not the file's:\nline 1 (made by message 2): \"abc\"\n  the file has: \"aYc\\n\"\nOf each line the message that is named is wrong, or after it one is missing.\n",
+            "\"file:///a\" after message 2: the text is not the file's:\nline 1 (made by message 2): \"abc\"\n  the file has: \"aYc\\n\"\nFor each line, a message named is wrong, or a later one that was to change what it made is missing or wrong.\n",
         ],
-        lengths: &[192],
+        lengths: &[224],
         end: Ended(1, 2, 0),
     },
     // Two frames, and two records of version 2.

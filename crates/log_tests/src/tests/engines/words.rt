@@ -114,7 +114,7 @@ static WORDS: [Answered; 27] = [
 
 /// The end of what `check` with reasons writes. S1 and S5 are among the refusals.
 const ADVICE: &[u8] =
-    b"messages of the editor: 27, changed documents: 3\nrefused by error -32002: 1, first message 1\nrefused by error -32602: 1, first message 3\nrefused by error -32700: 1, first message 6\nrefused by error -32600: 3, first message 7\nrefused by M4: 1, first message 12\nrefused by S1: 1, first message 14\nrefused by S4: 1, first message 15\nrefused by S2: 1, first message 17\nrefused by S3: 1, first message 18\nrefused by E2: 1, first message 19\nrefused by S5: 1, first message 20\nrefused by E1: 1, first message 22\nrefused by S6: 1, first message 23\nRefused messages change nothing. `lspsync replay --at N`: the texts after message N.\nMany servers don't refuse what is S1 or S5 here. `--lenient` doesn't either.\n";
+    b"messages of the editor: 27, changed documents: 3\ndropped: 2, first message 2\nrefused by error -32002: 1, first message 1\nrefused by error -32602: 1, first message 3\nrefused by error -32700: 1, first message 6\nrefused by error -32600: 3, first message 7\nrefused by M4: 1, first message 12\nrefused by S1: 1, first message 14\nrefused by S4: 1, first message 15\nrefused by S2: 1, first message 17\nrefused by S3: 1, first message 18\nrefused by E2: 1, first message 19\nrefused by S5: 1, first message 20\nrefused by E1: 1, first message 22\nrefused by S6: 1, first message 23\nRefused messages change nothing. `lspsync replay --at N`: the texts after message N.\nMany servers don't refuse what is S1 or S5 here. `--lenient` doesn't either.\n";
 
 /// Returns the frames of the bodies.
 fn frames(alloc: Global, rows: &[Answered]) -> Result<Vec<u8>, AllocError> {

@@ -1,16 +1,17 @@
-use Rattle.std.specs.Prelude.{codes, decimal, flat_map}
+use Rattle.std.specs.Prelude.{[], codes, decimal, flat_map}
 use Rattle.lsp_replay.specs.Tallies.{tally_words}
-use Rattle.lsp_replay.proofs.Reports.MemberLemmas.{seven_words}
+use Rattle.lsp_replay.proofs.Reports.MemberLemmas.{eight_words}
 use Rattle.lsp_replay.proofs.printer.explaining.push_counts.Goals as goal
 
 pub returns : goal.returns
 returns c =
     let counts = c.args.counts.now in
-    seven_words c.push_tallies-2.result _ c.args.buffer.now.items (codes "messages of the editor: ")
+    eight_words c.push_tallies-3.result _ c.args.buffer.now.items (codes "messages of the editor: ")
     (decimal c.args.messages) (codes ", changed documents: ") (decimal counts.changes) (codes "\n")
-    (flat_map (tally_words (codes "refused by ")) counts.refusals)
+    (flat_map (tally_words []) counts.drops) (flat_map (tally_words (codes "refused by ")) counts.refusals)
     (flat_map (tally_words (codes "noted ")) counts.noted)
     (rw (
+      c.in_ok-push_tallies-2.ensures,
       c.in_ok-push_tallies.ensures,
       c.in_ok-push_words-3.ensures,
       c.in_ok-push_number-2.ensures,
@@ -18,6 +19,7 @@ returns c =
       c.in_ok-push_number.ensures,
       c.in_ok-push_words.ensures,
       c.changed.ensures,
+      c.dropped.ensures,
       c.refused.ensures,
       c.noted.ensures,
-    ) at c.push_tallies-2.ensures)
+    ) at c.push_tallies-3.ensures)

@@ -1,0 +1,147 @@
+//! By which changes a line differs from another one.
+
+ghost use Rattle.std.specs.Prelude.{◌≡◌, ◌-◌, IfOk, drop, map, take};
+ghost use Rattle.line_diff.specs.Makers.{greatest, makers_of, number_at, number_rows, row_at, rows_of};
+
+use crate::owners::{common_back, common_front};
+use std::alloc::{AllocError, Global};
+use std::marker::Model;
+
+/// The changes that made the bytes of a text, and the last ones at its places.
+#[derive(Clone, Copy)]
+pub struct Numbers<'a> {
+    pub owners: &'a [u64],
+    pub places: &'a [u64],
+}
+
+/// The same, in a row for each line.
+#[derive(Drop)]
+pub struct Rows<'a> {
+    pub owners: Vec<&'a [u64]>,
+    pub places: Vec<&'a [u64]>,
+}
+
+impl<'a> Model for Rows<'a> {
+    ghost use Rattle.std.specs.Prelude.{map};
+    ghost use Rattle.line_diff.specs.Makers.{NumberRows};
+
+    ghost Value = { NumberRows };
+
+    ghost view = { λ r. record {
+      owners = map (λ row. row.now) r.owners.items;
+      places = map (λ row. row.now) r.places.items;
+    } };
+}
+
+/// The changes by which a line differs: which made the first byte that does, and the last one in
+/// what does.
+#[derive(Clone, Copy, Debug, PartialEq, Eq)]
+pub struct Makers {
+    pub first: u64,
+    pub last: u64,
+}
+
+/// Returns the first numbers, so many or all.
+fn first_of(numbers: &[u64], count: usize) -> &[u64]
+    ensures { result.now ≡ take count numbers.now }
+{
+    if count < numbers.len() {
+        &numbers[..count]
+    } else {
+        numbers
+    }
+}
+
+/// Returns the numbers after so many, or none.
+fn after(numbers: &[u64], count: usize) -> &[u64]
+    ensures { result.now ≡ drop count numbers.now }
+{
+    if count < numbers.len() {
+        &numbers[count..]
+    } else {
+        &[]
+    }
+}
+
+/// Returns numbers in a row for each line, of as many as it has bytes, and a last row of those that
+/// are left. Fails only where memory runs out.
+fn rows_of<'a>(
+    alloc: Global,
+    numbers: &'a [u64],
+    lines: &[&str],
+) -> Result<Vec<&'a [u64]>, AllocError>
+    ensures { IfOk result (λ rows. map (λ row. row.now) rows.items
+        ≡ rows_of numbers.now (map (λ line. line.now) lines.entry.now)) }
+{
+    let mut rows = Vec::new(alloc);
+    let mut rest = numbers;
+    for line in lines {
+        rows.push(first_of(rest, line.len()))?;
+        rest = after(rest, line.len());
+    }
+    rows.push(rest)?;
+    Ok(rows)
+}
+
+impl<'a> Numbers<'a> {
+    /// Returns the numbers in a row for each line. Fails only where memory runs out.
+    #[tactic(auto, unfolding(crate::specs::Makers::number_rows))]
+    pub fn rows(self, alloc: Global, lines: &[&str]) -> Result<Rows<'a>, AllocError>
+        ensures { IfOk result (λ rows. rows ≡ number_rows self.entry.owners.now
+            self.entry.places.now (map (λ line. line.now) lines.entry.now)) }
+    {
+        Ok(Rows {
+            owners: rows_of(alloc, self.owners, lines)?,
+            places: rows_of(alloc, self.places, lines)?,
+        })
+    }
+}
+
+/// Returns a row, or an empty one where there is no such row.
+pub fn row_at<'a>(rows: &[&'a [u64]], index: usize) -> &'a [u64]
+    ensures { result.now ≡ row_at (map (λ row. row.now) rows.entry.now) index }
+{
+    match rows.get(index) {
+        Some(row) => *row,
+        None => &[],
+    }
+}
+
+/// Returns a number, or 0 where there is none.
+pub fn number_at(numbers: &[u64], index: usize) -> u64
+    ensures { result ≡ number_at numbers.now index }
+{
+    match numbers.get(index) {
+        Some(number) => *number,
+        None => 0,
+    }
+}
+
+/// Returns the greatest of the numbers from one index to another, or 0.
+fn greatest(numbers: &[u64], start: usize, end: usize) -> u64
+    ensures { result ≡ greatest numbers.now (end - start) start }
+{
+    let mut most = 0;
+    for index in start..end {
+        most = number_at(numbers, index).max(most);
+    }
+    most
+}
+
+/// Returns the changes by which a line, whose bytes and places have these numbers, differs from
+/// another one: which made the first byte that differs, and the last one in what differs.
+pub fn makers_of(owners: &[u64], places: &[u64], line: &[u8], other: &[u8]) -> Makers
+    ensures { result ≡ makers_of owners.now places.now line.now other.now }
+{
+    let front = common_front(line, other);
+    let end = line.len() - common_back(front, line, other);
+    let last = greatest(places, front, end + 1);
+    if front == end {
+        Makers { first: last, last }
+    } else {
+        Makers {
+            first: number_at(owners, front),
+            last,
+        }
+    }
+}

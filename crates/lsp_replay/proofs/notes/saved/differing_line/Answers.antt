@@ -1,0 +1,33 @@
+use Rattle.std.proofs.Common.{true, false, sym, ◌∙◌, arith}
+use Rattle.lsp_replay.proofs.Reports.SavedLemmas.{goes_on, is_over}
+use Rattle.lsp_replay.proofs.notes.saved.differing_line.Goals as goal
+use Rattle.lsp_replay.proofs.notes.saved.differing_line.Goals.{then-ends_line, else-ends_line}
+
+pub bytes-preserved : goal.bytes-preserved
+bytes-preserved c =
+    let held = c.bytes.invariant in
+    let text = c.args.text.now in
+    let next = c.bytes.next in
+    elim c.if-ends_line.branch [
+      | then-ends_line w ↦
+          rw w.line-is (record {
+            within = omega (arith, c.bytes-test.true);
+            few = omega (arith, held.few);
+            rest = held.rest
+                ∙ goes_on true c.bytes.line next text c.args.other.now c.bytes-test.true c.if-next-other.true
+                c.if-text-next.false (sym c.ends_line.ensures ∙ w.if-ends_line.true);
+          })
+      | else-ends_line w ↦
+          rw w.line-is (record {
+            within = omega (arith, c.bytes-test.true);
+            few = omega (arith, held.few);
+            rest = held.rest
+                ∙ goes_on false c.bytes.line next text c.args.other.now c.bytes-test.true c.if-next-other.true
+                c.if-text-next.false (sym c.ends_line.ensures ∙ w.if-ends_line.false);
+          })
+    ]
+
+pub returns-else-next-other : goal.returns-else-next-other
+returns-else-next-other c =
+    sym (c.bytes.invariant.rest
+    ∙ is_over c.bytes.line c.bytes.next c.args.text.now c.args.other.now c.if-next-other.false)

@@ -1,0 +1,13 @@
+use Rattle.std.specs.Prelude.{◌≡◌, ◌≤◌, ◌+◌, ◌-◌, drop, length}
+use Rattle.lsp_replay.specs.Notes.{differing_line}
+use Rattle.lsp_replay.proofs.notes.saved.differing_line.Given as goal
+
+abbrev pub invariant-bytes : goal.invariant-bytes
+invariant-bytes l = record {
+  within : l.next ≤ length l.text;
+  few : l.line ≤ l.next + 1;
+  rest : differing_line 1 l.text l.other ≡ differing_line l.line (drop l.next l.text) (drop l.next l.other);
+}
+
+abbrev pub decreases-bytes : goal.decreases-bytes
+decreases-bytes l = length l.text - l.next

@@ -1,0 +1,67 @@
+//! Which message opened each document of a log first.
+
+ghost use Rattle.std.specs.Prelude.{refl, false};
+ghost use Rattle.lsp_replay.specs.inside.Openings.{listed_in};
+
+use crate::handler::{Given, Output};
+use crate::openings::Openings;
+use crate::outcome::Outcome;
+use crate::printer::Printer;
+use crate::session::opening::{opened_if, opened_uri};
+use crate::session::{RecordBody, Session};
+use lsp_log::Head;
+use lsp_stream::EngineFault;
+use std::alloc::Global;
+
+/// Writes the list at the end.
+#[derive(Drop)]
+pub struct ListOpenings {
+    pub session: Session,
+    pub openings: Openings,
+    pub alloc: Global,
+}
+
+impl Printer for ListOpenings {
+    ghost run_output = { λ list. listed_in list.openings list.session };
+
+    ghost reached = { λ list. list.session };
+
+    ghost FLUSHES = { false };
+
+    const FLUSHES: bool = false;
+
+    ghost parts = { λ list. 0 };
+
+    ghost silent = { λ _. refl };
+
+    ghost unstopped = { λ _. refl };
+
+    fn session(&self) -> &Session {
+        &self.session
+    }
+
+    fn print(
+        &mut self,
+        head: Head,
+        _raw: &[u8],
+        _body: &[u8],
+        read: RecordBody<'_>,
+        _buffer: &mut Vec<u8>,
+    ) -> Result<Given, EngineFault> {
+        let uri = opened_uri(self.alloc, &read)?;
+        let verdict = self.session.accept(head, read)?;
+        let opened = opened_if(&verdict, uri);
+        self.openings
+            .take(opened.as_deref(), self.session.records())?;
+        Ok(Given::more(Output::Bytes))
+    }
+
+    fn finish(
+        &mut self,
+        _line_due: bool,
+        buffer: &mut Vec<u8>,
+    ) -> Result<Option<Outcome>, EngineFault> {
+        self.openings.push(buffer)?;
+        Ok(Some(self.session.outcome()))
+    }
+}

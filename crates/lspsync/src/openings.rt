@@ -1,0 +1,96 @@
+//! Which messages opened the documents of a log, where the one that is asked for isn't there.
+
+ghost use Rattle.std.specs.Prelude.{◌≡◌, IfOk, IfSome, string_bytes};
+ghost use Rattle.lspsync.specs.Openings.{AreListed, IsList, IsListOf, IsWanted};
+
+use crate::command_line::Call;
+use crate::files::Folder;
+use lsp_program::MAX_TURNS;
+use lsp_replay::{EngineFault, Missing, Outcome, Settings, Told, list_openings};
+use std::alloc::Global;
+use std::io::Read;
+
+/// The document that a call names, and how its log is read.
+#[derive(Drop)]
+pub struct Wanted {
+    settings: Settings,
+    ending: String,
+}
+
+/// Returns the document that a call names, if it names one. Without memory it returns none.
+pub fn wanted_by(alloc: Global, call: &Call) -> Option<Wanted>
+    ensures { IfSome result (IsWanted call.now) }
+{
+    match call {
+        Call::ReplayPart(settings, part) => match &part.uri {
+            Some(uri) => wanted_as(alloc, *settings, uri),
+            None => None,
+        },
+        Call::Compare(settings, against) => wanted_as(alloc, *settings, &against.ending),
+        _ => None,
+    }
+}
+
+fn wanted_as(alloc: Global, settings: Settings, ending: &str) -> Option<Wanted>
+    ensures { IfSome result
+        (λ w. (w.settings ≡ settings) × (string_bytes w.ending ≡ ending.now)) }
+{
+    match String::from_str(alloc, ending) {
+        Ok(ending) => Some(Wanted { settings, ending }),
+        Err(_) => None,
+    }
+}
+
+/// Returns which messages opened the documents of a log, if one is missing: the log is read once
+/// more. Returns none if it can't be, as a pipe, and without memory.
+pub fn openings<F: Folder>(
+    alloc: Global,
+    name: &str,
+    wanted: Option<Wanted>,
+    outcome: Outcome,
+    folder: &F,
+) -> Option<String>
+    ensures { IfSome result (λ words.
+        AreListed wanted (F.bytes folder.now name.now) outcome.missing (string_bytes words)) }
+{
+    let Some(Missing::Document) = outcome.missing else {
+        return None;
+    };
+    let Some(wanted) = wanted else {
+        return None;
+    };
+    listed(alloc, name, wanted, folder)
+}
+
+fn listed<F: Folder>(alloc: Global, name: &str, wanted: Wanted, folder: &F) -> Option<String>
+    ensures { IfSome result (λ words.
+        IsList wanted (F.bytes folder.now name.now) (string_bytes words)) }
+{
+    if !folder.is_lasting(name) {
+        return None;
+    }
+    let Ok(file) = folder.open(name) else {
+        return None;
+    };
+    match list_of(alloc, file, wanted) {
+        Ok(words) => as_text(words),
+        Err(_) => None,
+    }
+}
+
+/// Returns which messages opened the documents of a log.
+fn list_of<T: Read + Drop>(alloc: Global, log: T, wanted: Wanted) -> Result<Vec<u8>, EngineFault>
+    ensures { IfOk result (λ words. IsListOf wanted (T.remaining log) words.items) }
+{
+    let mut input = Told::new(log);
+    let mut words = Told::new(Vec::new(alloc));
+    let Wanted { settings, ending } = wanted;
+    list_openings(alloc, &mut input, &mut words, settings, ending, MAX_TURNS)?;
+    Ok(words.into_inner())
+}
+
+fn as_text(bytes: Vec<u8>) -> Option<String>
+    ensures { IfSome result (λ text. string_bytes text ≡ bytes.items) }
+{
+    String::from_utf8(bytes).ok()
+}
