@@ -1,5 +1,12 @@
 #!/usr/bin/env python3
-"""Checks a folder of logs on the workers of a Dask cluster.
+"""Checks a folder of logs on the workers of a Dask cluster (https://docs.dask.org/), or by a process for each processor of this machine.
+
+    export PYTHONPATH=bindings/python LASPIDRU_LIBRARY=build/liblaspidru.so.0.1.0
+    examples/fleet/check_logs.py logs table
+    examples/fleet/check_logs.py --scheduler tcp://head:8786 /shared/logs table
+
+A cluster's workers need the package laspidru, and see the folder under one path. On Debian 12 this needs python3-distributed,
+python3-pandas and python3-matplotlib.
 
 TABLE.csv and TABLE.html have a row for each editor, version and code: how many messages were refused so, in how many logs, and the first
 message in the first of these logs. A log in which nothing was refused, and one that can't be checked to its end, have rows too. An editor
@@ -18,7 +25,7 @@ try:
     from dask.distributed import Client, as_completed
 except ImportError as why:
     if "--help" not in sys.argv[1:]:
-        sys.exit(f"check_logs.py: {why} (examples/fleet/README.md says what is needed)")
+        sys.exit(f"check_logs.py: {why} (--help says what is needed)")
 
 VERSION_LINE, BEGINNING, ACCEPTED = b"lsp-session-log 2\n", 1 << 20, "nothing refused"
 KEY = ["editor", "version", "code"]
