@@ -1,6 +1,6 @@
 //! A text, and which change made each of its lines.
 
-ghost use Rattle.std.specs.Prelude.{◌≡◌, ◌++◌, IfOk, OnOk, string_bytes};
+ghost use Rattle.std.specs.Prelude.{◌≡◌, ◌++◌, IfOk, OnErr, OnOk, string_bytes};
 ghost use Rattle.line_diff.specs.Report.{report_words};
 ghost use Rattle.line_diff.specs.Tracked.{changed_by, opened_by};
 
@@ -52,10 +52,12 @@ impl TrackedText {
     }
 
     /// Takes the text that the change of this number has made of the one before. Lines that are
-    /// common at the front and at the back keep their numbers. Fails only where memory runs out.
-    /// Linear in both texts.
+    /// common at the front and at the back keep their numbers. Fails only where memory runs out;
+    /// then nothing has changed. Linear in both texts.
     pub fn change(&mut self, alloc: Global, number: u64, text: String) -> Result<(), AllocError>
-        ensures { OnOk result (self.new ≡ changed_by number (string_bytes text) self.old) }
+        ensures changed { OnOk result
+            (self.new ≡ changed_by number (string_bytes text) self.old) }
+        ensures unchanged { OnErr result (self.new ≡ self.old) }
     {
         let owners = owners_after(alloc, number, &self.owners, &self.text, &text)?;
         self.owners = owners;
@@ -71,9 +73,9 @@ impl TrackedText {
         self.text.as_str()
     }
 
-    /// Writes whether the text is a file's, and else how they differ: by line ends, the last line
+    /// Appends whether the text is a file's, and else how they differ: by line ends, the last line
     /// end or a byte order mark alone, or by which lines, with the change that made each. Fails only
-    /// where memory runs out. Linear where the texts are near.
+    /// where memory runs out, and then the bytes are unchanged. Linear where the texts are near.
     #[tactic(auto, unfolding(crate::specs::Report::report_words))]
     pub fn push_report(
         &self,
@@ -81,8 +83,19 @@ impl TrackedText {
         buffer: &mut Vec<u8>,
         file: &str,
     ) -> Result<(), AllocError>
-        ensures { OnOk result (buffer.new.items ≡ buffer.old.items ++ report_words self.now file.now) }
+        ensures report { OnOk result
+            (buffer.new.items ≡ buffer.old.items ++ report_words self.now file.now) }
+        ensures unchanged { OnErr result (buffer.new.items ≡ buffer.old.items) }
     {
-        push_report(alloc, buffer, &self.text, self.made, &self.owners, file)
+        let mut report = Vec::new(alloc);
+        push_report(
+            alloc,
+            &mut report,
+            &self.text,
+            self.made,
+            &self.owners,
+            file,
+        )?;
+        buffer.extend_from_slice(&report)
     }
 }
