@@ -57,6 +57,9 @@ int main(void) {
     test_server();
     test_logs();
     test_log_options();
+    test_log_listing();
+    test_compare();
+    test_compare_refused();
     test_log_faults();
     test_framer();
     test_client_lifecycle();

@@ -19,7 +19,7 @@ typedef struct { size_t max_body, max_text, max_docs, max_changes; bool utf8, ut
 typedef struct { uint32_t phase, reason, encoding; size_t documents; } laspidru_state;
 typedef struct { int32_t version; size_t bytes; } laspidru_opened;
 typedef struct { size_t max_body, max_text, max_docs, max_changes; uint64_t at; uint32_t encoding; bool lenient, squash,
-    documents, texts, bodies, has_uri; } laspidru_log_settings;
+    documents, texts, bodies, has_uri, brief, all; } laspidru_log_settings;
 typedef struct { uint32_t status, frame, missing; uint64_t messages, refused, offset; size_t output_len; } laspidru_ending;
 uint32_t laspidru_version(void);
 uint32_t laspidru_text(uint32_t code, size_t start, unsigned char *out, size_t out_len, size_t *copied);
@@ -80,6 +80,9 @@ uint32_t laspidru_open_canonical_message(laspidru_handle *end, const unsigned ch
     laspidru_handle *output, laspidru_fault *fault, size_t *frame_len);
 uint32_t laspidru_log_run(laspidru_handle *output, uint32_t command, const laspidru_log_settings *settings,
     const unsigned char *uri, size_t uri_len, const unsigned char *log, size_t log_len, laspidru_ending *ending);
+uint32_t laspidru_log_compare(laspidru_handle *output, const laspidru_log_settings *settings, const unsigned char *uri,
+    size_t uri_len, const unsigned char *saved, size_t saved_len, const unsigned char *log, size_t log_len,
+    laspidru_ending *ending);
 uint32_t laspidru_output_copy(laspidru_handle *output, size_t start, unsigned char *out, size_t out_len, size_t *copied);
 // end of declared
 ]])
@@ -517,17 +520,23 @@ end
 
 local COMMANDS = { check = 0, explain = 1, trace = 2, replay = 3, normalise = 4, convert = 5 }
 
--- Runs a command of lspsync on a log: what it wrote, and {status, messages, refused}. Options are lspsync's: `encoding`, the four limits,
--- `lenient`; `explain` of check, `texts` and `bodies` of trace, `at` and `uri` of replay, `squash` and `documents` of normalise.
-local function run(name, log, options)
+-- Runs a command of lspsync on a log: what it wrote, and {status, messages, refused}. Options are lspsync's:
+-- `encoding`, the four limits, `lenient`; `explain`, `brief` and `all` of check, `texts` and `bodies` of trace, `at` and
+-- `uri` of replay, `uri` of compare, `squash` and `documents` of normalise. `saved` is the text that compare compares.
+local function run(name, log, options, saved)
     options = options or {}
     local settings, ending = with_limits(ffi.new("laspidru_log_settings"), options), ffi.new("laspidru_ending")
-    for _, flag in ipairs({ "squash", "documents", "texts", "bodies" }) do settings[flag] = options[flag] and true or false end
+    for _, flag in ipairs({ "squash", "documents", "texts", "bodies", "brief", "all" }) do settings[flag] = options[flag] and true or false end
     settings.encoding, settings.has_uri = encoding_of(options.encoding or "utf-16"), options.uri ~= nil
     settings.at = options.at and number(options.at, 1, 2 ^ 53) or 0
     local data, uri, output = bytes_of(log), text_of(options.uri or "", "a URI"), new_handle()
-    local command = COMMANDS[options.explain and "explain" or name]
-    local code = C.laspidru_log_run(output, command, settings, uri, #uri, data, #data, ending)
+    local code
+    if saved then
+        code = C.laspidru_log_compare(output, settings, uri, #uri, saved, #saved, data, #data, ending)
+    else
+        local command = COMMANDS[(options.explain or options.brief or options.all) and "explain" or name]
+        code = C.laspidru_log_run(output, command, settings, uri, #uri, data, #data, ending)
+    end
     if not output.is_full then demand(code) end
     local written_ = copied(function(...) return C.laspidru_output_copy(output, 0, ...) end, tonumber(ending.output_len))
     if code ~= 0 then refuse(CODES[code], { offset = tonumber(ending.offset), frame = ending.frame, output = written_ }) end
@@ -552,4 +561,6 @@ local module = {
 for _, name in ipairs({ "check", "trace", "replay", "normalise", "convert" }) do
     module[name] = function(log, options) return run(name, log, options) end
 end
+-- The same of compare, with the text of a document as its editor saved it: a string, or a file that is open.
+function module.compare(log, saved, options) return run("compare", log, options, bytes_of(saved)) end
 return module

@@ -62,6 +62,7 @@ typedef struct {
     CALL(open_batch_of_edits, "hbnnbnbnhb", a[0].at, a[1].at, a[2].n, a[3].n, a[4].at, a[5].n, a[6].at, a[7].n, a[8].at, a[9].at) \
     CALL(open_canonical_message, "hbnnnbnbnhbb", a[0].at, a[1].at, a[2].n, a[3].n, a[4].n, a[5].at, a[6].n, a[7].at, a[8].n, a[9].at, a[10].at, a[11].at) \
     CALL(log_run, "hnbbnbnb", a[0].at, a[1].n, a[2].at, a[3].at, a[4].n, a[5].at, a[6].n, a[7].at) \
+    CALL(log_compare, "hbbnbnbnb", a[0].at, a[1].at, a[2].at, a[3].n, a[4].at, a[5].n, a[6].at, a[7].n, a[8].at) \
     CALL(output_copy, "hnbnb", a[0].at, a[1].n, a[2].at, a[3].n, a[4].at) \
 
 /* end of declared */

@@ -571,14 +571,17 @@ class LogOutput {
 }
 
 const COMMANDS = { check: 0, explain: 1, trace: 2, replay: 3, normalise: 4, convert: 5 };
-const FLAGS = ['lenient', 'squash', 'documents', 'texts', 'bodies']; // as the addon takes them after the encoding
+// As the addon takes them after the encoding
+const FLAGS = ['lenient', 'squash', 'documents', 'texts', 'bodies', 'has_uri', 'brief', 'all'];
 let read; // the bytes of a log that isn't bytes
 
-function run(command, log, { at = 0, uri, encoding = 'utf-16', ...options } = {}, has = []) {
+function run(command, log, { at = 0, uri, encoding = 'utf-16', ...options } = {}, has = [], saved = undefined) {
   const unknown = Object.keys(options).find((it) => !(it in OF_LIMITS) && it !== 'lenient' && !has.includes(it));
   if (unknown !== undefined) throw new TypeError(`there is no option ${unknown}`);
-  const numbers = [...limitsOf(options), unitsOf(encoding), ...FLAGS.map((it) => (options[it] ? 1 : 0)), uri === undefined ? 0 : 1];
-  const ended = addon.log(COMMANDS[command], bytesOf(read(log)), Uint32Array.from(numbers), byteOffsetOf(at), utf8(uri ?? ''));
+  const flags = { ...options, has_uri: uri !== undefined };
+  const numbers = [...limitsOf(options), unitsOf(encoding), ...FLAGS.map((it) => (flags[it] ? 1 : 0))];
+  const given = [bytesOf(read(log)), Uint32Array.from(numbers), byteOffsetOf(at), utf8(uri ?? ''), saved];
+  const ended = addon.log(COMMANDS[command], ...given);
   if (ended.code !== 0) throw new LogFault(ended);
   if (ended.missing !== 0) throw refusal(WORDS[ended.missing]);
   return new LogOutput(ended);
@@ -587,8 +590,10 @@ function run(command, log, { at = 0, uri, encoding = 'utf-16', ...options } = {}
 // The commands of lspsync on the bytes of a log. In Node a log is also the path of a file, or the number of one that is open. Options are
 // lspsync's: encoding, maxBody, maxText, maxDocs, maxChanges, lenient.
 
-/** What a server answers to each record of a log, a line for each; with `explain` why, and what is suspicious. */
-const check = (log, { explain = false, ...options } = {}) => run(explain ? 'explain' : 'check', log, options);
+/** What a server answers to each record of a log, a line for each; with `explain` why, and what is suspicious; with
+ * `brief` only lines that have that, with `all` each note on its line. Both mean `explain` too. */
+const check = (log, { explain = false, ...options } = {}) =>
+  run(explain || options.brief || options.all ? 'explain' : 'check', log, options, ['brief', 'all']);
 
 /** All that is known of each record of a log, a line of JSON for each, also with `texts` and `bodies`. */
 const trace = (log, options) => run('trace', log, options, ['texts', 'bodies']);
@@ -598,6 +603,11 @@ const replay = (log, { at, ...options } = {}) => {
   if (at !== undefined && byteOffsetOf(at) < 1) throw refusal('OUT_OF_RANGE');
   return run('replay', log, { at, ...options });
 };
+
+/** Whether the last text of a document is `saved`, as its editor saved it, and else which message made each line that
+ * differs. The document is the one whose URI ends as `uri`; without it as the path of `saved`, or else the only one. */
+const compare = (log, saved, { uri = typeof saved === 'string' ? saved : undefined, ...options } = {}) =>
+  run('compare', log, { uri, ...options }, [], bytesOf(read(saved)));
 
 /** The log with each accepted change as its canonical message; with `squash` each run of changes of one document as one, with `documents`
  * without the records that are neither about the session nor about a text. */
@@ -614,7 +624,7 @@ function over(its, reading = (log) => log) {
   WHY = Object.fromEntries(texts);
   const number = addon.version();
   const version = [10000, 100, 1].map((of) => Math.floor(number / of) % 100).join('.');
-  return { version, WHY, TextDocument, Framer, Server, Client, FrameFault, LogFault, check, trace, replay, normalise, convert };
+  return { version, WHY, TextDocument, Framer, Server, Client, FrameFault, LogFault, check, trace, replay, compare, normalise, convert };
 }
 
 module.exports = { over, Buffer };

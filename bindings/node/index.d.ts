@@ -258,7 +258,7 @@ export type Log = Uint8Array | string | URL | number;
 
 export interface LogOutput {
   output: Buffer;
-  /** 1 where something was refused, else 0. */
+  /** 1 where something was refused, or of `compare` where the texts differ; else 0. */
   status: number;
   messages: number;
   refused: number;
@@ -277,8 +277,11 @@ export class LogFault extends Error {
   readonly output: Buffer;
 }
 
-/** What a server answers to each record of a log, a line for each; with `explain` why, and what is suspicious. */
-export function check(log: Log, options?: LogOptions & { explain?: boolean }): LogOutput;
+/**
+ * What a server answers to each record of a log, a line for each; with `explain` why, and what is suspicious; with
+ * `brief` only lines that have that, with `all` each note on its line. Both mean `explain` too.
+ */
+export function check(log: Log, options?: LogOptions & { explain?: boolean; brief?: boolean; all?: boolean }): LogOutput;
 
 /** All that is known of each record of a log, a line of JSON for each, also with its document's text and its body. */
 export function trace(log: Log, options?: LogOptions & { texts?: boolean; bodies?: boolean }): LogOutput;
@@ -288,6 +291,13 @@ export function trace(log: Log, options?: LogOptions & { texts?: boolean; bodies
  * with the code `OUT_OF_RANGE` where there is no such record, and with `NOT_OPEN` where the document was never open.
  */
 export function replay(log: Log, options?: LogOptions & { at?: number; uri?: string }): LogOutput;
+
+/**
+ * Whether the last text of a document is `saved`, as its editor saved it, and else which message made each line that
+ * differs. The document is the one whose URI ends as `uri`; without it as the path of `saved`, or else the only one. It
+ * throws with the code `NOT_OPEN` where there is none, and with `NOT_UTF8` where `saved` isn't UTF-8.
+ */
+export function compare(log: Log, saved: Log, options?: LogOptions & { uri?: string }): LogOutput;
 
 /**
  * The log with each accepted change as its canonical message; with `squash` each run of changes of one document as one, with `documents`

@@ -18,7 +18,7 @@ const AT = {
   client_settings: { max_body: 0, max_text: 8, max_docs: 16, max_changes: 24, utf8: 32, utf32: 33, lenient: 34, size: 40 },
   state: { phase: 0, reason: 4, encoding: 8, documents: 16, size: 24 },
   opened: { version: 0, bytes: 8, size: 16 },
-  log_settings: { max_body: 0, max_text: 8, max_docs: 16, max_changes: 24, at: 32, encoding: 40, lenient: 44, squash: 45, documents: 46, texts: 47, bodies: 48, has_uri: 49, size: 56 },
+  log_settings: { max_body: 0, max_text: 8, max_docs: 16, max_changes: 24, at: 32, encoding: 40, lenient: 44, squash: 45, documents: 46, texts: 47, bodies: 48, has_uri: 49, brief: 50, all: 51, size: 56 },
   ending: { status: 0, frame: 4, missing: 8, messages: 16, refused: 24, offset: 32, output_len: 40, size: 48 },
 };
 // end of declared
@@ -29,7 +29,7 @@ const ROOM = 65536;
 const REPORTED_STEP = 65536; // the collector hears of a document's size after changes of so many bytes
 const SERVER = ['encoding', 'is_fixed', 'is_full', 'lenient'];
 const CLIENT = ['utf8', 'utf32', 'lenient'];
-const LOG = ['encoding', 'lenient', 'squash', 'documents', 'texts', 'bodies', 'has_uri'];
+const LOG = ['encoding', 'lenient', 'squash', 'documents', 'texts', 'bodies', 'has_uri', 'brief', 'all'];
 const SIMD = Uint8Array.of(0, 97, 115, 109, 1, 0, 0, 0, 1, 5, 1, 96, 0, 1, 123, 3, 2, 1, 0, 10, 10, 1, 8, 0, 65, 0, 253, 15, 253, 98, 11);
 
 /** The module of these bytes, or an error that says what the engine lacks. */
@@ -368,11 +368,12 @@ function over(lib) {
       demand(lib.document_position(lib.of(held), encoding, size(offset), place(at)));
       return [u32(at), u32(at + 4)];
     },
-    log(command, log, numbers, last, uri) {
+    log(command, log, numbers, last, uri, saved) {
       return during((output) => {
         const [at, settings, it] = [take(AT.ending.size), settingsOf(numbers, AT.log_settings, LOG), AT.ending];
         lib.view.setBigUint64(settings + AT.log_settings.at, BigInt(last), true);
-        const code = lib.log_run(output, command, place(settings), ...passed(uri), ...passed(log), place(at));
+        const read = [place(settings), ...passed(uri), ...(saved ? passed(saved) : []), ...passed(log), place(at)];
+        const code = saved ? lib.log_compare(output, ...read) : lib.log_run(output, command, ...read);
         if (!lib.isFull(spare)) refuse(code);
         const ended = { code, status: u32(at + it.status), missing: u32(at + it.missing), frame: u32(at + it.frame) };
         const counts = { messages: u64(at + it.messages), refused: u64(at + it.refused), offset: u64(at + it.offset) };

@@ -5,7 +5,7 @@ const fs = require('fs');
 const path = require('path');
 const { test } = require('node:test');
 const { TextDocument, Framer, Server, Client, FrameFault, LogFault, WHY, version, ...logs } = require('./index.js');
-const { check, trace, replay, normalise, convert } = logs;
+const { check, trace, replay, compare, normalise, convert } = logs;
 
 const at = (line, character) => ({ line, character });
 const change = (start, end, text) => ({ range: { start, end }, text });
@@ -181,6 +181,7 @@ test('commands on logs', () => {
 test('what lspsync has beside the limits', () => {
   const file = path.join(__dirname, '..', '..', 'examples', 'stale-version.log');
   assert.match(check(file, { explain: true }).output.toString(), /^1 reply\n2 changed\n3 refused S5 of /);
+  assert.match(check(file, { brief: true }).output.toString(), /^3 refused S5 of /);
   const records = trace(file, { bodies: true }).records;
   assert.deepStrictEqual(records.map(({ number, body }) => [number, body !== undefined]), [1, 2, 3, 4, 5].map((it) => [it, true]));
   assert.deepStrictEqual([trace(file).records[1].text, typeof trace(file, { texts: true }).records[1].text], [undefined, 'string']);
@@ -193,6 +194,20 @@ test('what lspsync has beside the limits', () => {
   assert.throws(() => check(file, { texts: true }), TypeError);
   assert(normalise(example('two-saves'), { documents: true }).output.length <= normalise(example('two-saves')).output.length);
   assert.strictEqual(version, '0.1.0');
+});
+
+test('a log and the text that its editor saved', () => {
+  const file = path.join(__dirname, '..', '..', 'examples', 'stale-version.log');
+  const same = compare(file, Buffer.from('aXc'));
+  assert.deepStrictEqual([same.status, same.output.toString()], [0, '"file:///a" after message 5: the text is the file\'s\n']);
+  const other = compare(file, Buffer.from('abc'), { uri: '/a' });
+  assert.deepStrictEqual([other.status, other.refused], [1, 2]);
+  assert.match(other.output.toString(), /\nline 1 \(made by message 5\): "aXc"\n/);
+  assert.throws(() => compare(file, __filename), { code: 'NOT_OPEN' });
+  assert.strictEqual(compare(file, __filename, { uri: 'a' }).status, 1);
+  assert.throws(() => compare(file, Buffer.from([255])), { code: 'NOT_UTF8' });
+  assert.throws(() => compare(file, 'no such file'), { code: 'ENOENT' });
+  assert.throws(() => compare(file, Buffer.alloc(0), { brief: true }), TypeError);
 });
 
 test('faulty logs, and refused options', () => {

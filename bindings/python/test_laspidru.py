@@ -1,4 +1,5 @@
 """The test of the binding for Python."""
+import io
 import os
 import random
 import re
@@ -9,7 +10,7 @@ import unittest
 import urllib.parse
 
 import laspidru
-from laspidru import Document, EditsFault, LaspidruError, LogFault, TextDocument, check, convert, normalise, replay, trace
+from laspidru import Document, EditsFault, LaspidruError, LogFault, TextDocument, check, compare, convert, normalise, replay, trace
 from test_choices import each_of
 
 BATCHES = int(os.environ.get("LASPIDRU_BATCHES", "2000"))
@@ -411,6 +412,8 @@ class Tests(unittest.TestCase):
         path = os.path.join(EXAMPLES, "stale-version.log")
         explained, lines = check(path, explain=True).output, check(path).output.splitlines()
         self.assertEqual((explained.startswith(b"1 reply\n2 changed\n3 refused S5 "), len(explained.splitlines()) > len(lines)), (True, True))
+        brief, listed = check(path, brief=True), check(path, all=True)
+        self.assertEqual((brief.output.startswith(b"3 refused S5 of "), listed.output.startswith(explained[:40])), (True, True))
         with open(path, "rb") as stream:
             records = trace(stream, bodies=True).records
         self.assertEqual([(it["number"], "body" in it) for it in records], [(number, True) for number in range(1, 6)])
@@ -425,6 +428,21 @@ class Tests(unittest.TestCase):
         self.assertLessEqual(len(normalise(example("two-saves"), documents=True).output), len(normalise(example("two-saves")).output))
         self.assertRaises(TypeError, check, path, texts=True, no_such=True)
         self.assertRaises(TypeError, check, 7)
+
+    def test_compare(self):
+        """The text of stale-version.log is "aXc", which message 5 made."""
+        path = os.path.join(EXAMPLES, "stale-version.log")
+        same, other = compare(path, b"aXc"), compare(path, io.BytesIO(b"abc"), uri="/a")
+        self.assertEqual((same.status, same.output), (0, b'"file:///a" after message 5: the text is the file\'s\n'))
+        self.assertEqual((other.status, b'line 1 (made by message 5): "aXc"' in other.output, other.refused), (1, True, 2))
+        with tempfile.TemporaryDirectory() as folder:
+            saved = os.path.join(folder, "a")
+            with open(saved, "wb") as file:
+                file.write(b"aXc")
+            self.refuses("NOT_OPEN", compare, path, saved)
+            self.assertEqual(compare(path, saved, uri="a"), same)
+        self.refuses("NOT_UTF8", compare, path, b"\xff")
+        self.assertRaises(TypeError, compare, path, 7)
 
     def test_version_and_texts(self):
         self.assertEqual(laspidru.__version__, "0.1.0")

@@ -4,6 +4,12 @@ static const laspidru_log_settings log_settings = {.max_body = 4096, .max_text =
 static const char change_b[] = "{\"jsonrpc\":\"2.0\",\"method\":\"textDocument/didChange\",\"params\":{\"textDocument\":"
                                "{\"uri\":\"file:///a\",\"version\":8},\"contentChanges\":[{\"range\":{\"start\":"
                                "{\"line\":0,\"character\":0},\"end\":{\"line\":0,\"character\":0}},\"text\":\"!\"}]}}";
+static const char empty_7[] = "{\"jsonrpc\":\"2.0\",\"method\":\"textDocument/didChange\",\"params\":{\"textDocument\":"
+                              "{\"uri\":\"file:///a\",\"version\":7},\"contentChanges\":[]}}";
+static const char empty_8[] = "{\"jsonrpc\":\"2.0\",\"method\":\"textDocument/didChange\",\"params\":{\"textDocument\":"
+                              "{\"uri\":\"file:///a\",\"version\":8},\"contentChanges\":[]}}";
+static const char open_b[] = "{\"jsonrpc\":\"2.0\",\"method\":\"textDocument/didOpen\",\"params\":{\"textDocument\":"
+                             "{\"uri\":\"file:///b\",\"languageId\":\"c\",\"version\":1,\"text\":\"\"}}}";
 static const char canonical_a[] = "{\"jsonrpc\":\"2.0\",\"method\":\"textDocument/didChange\",\"params\":{\"contentChanges\":["
                                   "{\"range\":{\"end\":{\"character\":1,\"line\":1},\"start\":{\"character\":0,\"line\":1}},"
                                   "\"text\":\"XY\"}],\"textDocument\":{\"uri\":\"file:///a\",\"version\":7}}}";
@@ -60,16 +66,32 @@ static laspidru_u32 run_log(laspidru_handle *output, laspidru_u32 command, const
     return laspidru_log_run(output, command, how, bytes(uri_a), how->has_uri ? 9 : 0, log.bytes, log.len, ending);
 }
 
+static laspidru_u32 compare_log(laspidru_handle *output, const laspidru_log_settings *how, const char *uri, const char *saved, part log,
+                                laspidru_ending *ending) {
+    return laspidru_log_compare(output, how, bytes(uri), strlen(uri), bytes(saved), strlen(saved), log.bytes, log.len, ending);
+}
+
+/* Whether a call has filled a handle with these bytes. Empties it. */
+static int has_output(laspidru_handle *output, part wanted, laspidru_ending ending) {
+    static unsigned char out[8192];
+    laspidru_size copied = 99;
+    int is_right = output->is_full && ending.output_len == wanted.len &&
+                   laspidru_output_copy(output, 0, out, sizeof out, &copied) == LASPIDRU_OK && copied == wanted.len &&
+                   memcmp(out, wanted.bytes, copied) == 0;
+    laspidru_close(output);
+    return is_right;
+}
+
 /* Runs a command, and whether it returns this code and writes these bytes. */
 static int writes(laspidru_u32 command, const laspidru_log_settings *how, part log, laspidru_u32 code, part wanted, laspidru_ending *ending) {
-    static unsigned char out[8192];
     laspidru_handle output = {0};
-    laspidru_size copied = 99;
-    int is_right = run_log(&output, command, how, log, ending) == code && output.is_full && ending->output_len == wanted.len &&
-                   laspidru_output_copy(&output, 0, out, sizeof out, &copied) == LASPIDRU_OK && copied == wanted.len &&
-                   memcmp(out, wanted.bytes, copied) == 0;
-    laspidru_close(&output);
-    return is_right;
+    return run_log(&output, command, how, log, ending) == code && has_output(&output, wanted, *ending);
+}
+
+/* Compares with a saved text, and whether it returns this code and writes these words. */
+static int compares(const char *uri, const char *saved, part log, laspidru_u32 code, const char *wanted, laspidru_ending *ending) {
+    laspidru_handle output = {0};
+    return compare_log(&output, &log_settings, uri, saved, log, ending) == code && has_output(&output, text_part(wanted), *ending);
 }
 
 static int is_outcome(laspidru_ending it, laspidru_u32 status, laspidru_u64 messages, laspidru_u64 refused) {
@@ -152,6 +174,89 @@ static void test_log_options(void) {
     CHECK(laspidru_output_copy(&output, 0, out.bytes, 40, &copied) == LASPIDRU_OK && memcmp(out.bytes, "1 reply\n2 changed\n", 18) == 0);
     CHECK(ending.output_len > 40);
     laspidru_close(&output);
+}
+
+/* Whether the output of `explain` begins so. */
+static int explains(const laspidru_log_settings *how, part log, const char *begins) {
+    unsigned char out[128];
+    laspidru_handle output = {0};
+    laspidru_ending ending = {9, 9, 9, 9, 9, 9, 9};
+    laspidru_size copied = 0;
+    int is_right = run_log(&output, LASPIDRU_EXPLAIN, how, log, &ending) == LASPIDRU_OK && ending.status == 1 &&
+                   laspidru_output_copy(&output, 0, out, strlen(begins), &copied) == LASPIDRU_OK &&
+                   copied == strlen(begins) && memcmp(out, begins, copied) == 0;
+    laspidru_close(&output);
+    return is_right;
+}
+
+/* Which lines and notes `explain` has: the second note of a kind is a habit. */
+static void test_log_listing(void) {
+    static const char *const session[] = {initialize, open_a, empty_7, empty_8, change_a, 0};
+    laspidru_log_settings brief = log_settings, all = log_settings;
+    brief.brief = all.all = 1;
+    CHECK(explains(&log_settings, log_of(session), "1 reply\n2 changed\n3 changed of \"file:///a\": it has no changes\n4 changed\n"));
+    CHECK(explains(&all, log_of(session), "1 reply\n2 changed\n3 changed of \"file:///a\": it has no changes\n4 changed of "));
+    CHECK(explains(&brief, log_of(session), "3 changed of \"file:///a\": it has no changes\n5 refused S5 of "));
+}
+
+static void test_compare(void) {
+    static const char *const session[] = {initialize, open_a, change_a, change_b, 0};
+    static const char *const stale[] = {initialize, open_a, change_a, change_a, 0};
+    static const char *const two[] = {initialize, open_a, open_b, 0};
+    part log = log_of(session), cut = log;
+    laspidru_ending ending = {9, 9, 9, 9, 9, 9, 9};
+    CHECK(compares("/a", "!ab\nXYd", log, LASPIDRU_OK, "\"file:///a\" after message 4: the text is the file's\n", &ending));
+    CHECK(is_outcome(ending, 0, 4, 0));
+    CHECK(compares("", "!ab\r\nXYd", log, LASPIDRU_OK,
+                   "\"file:///a\" after message 4: the text is the file's, but for\n  line ends\n", &ending));
+    CHECK(is_outcome(ending, 1, 4, 0));
+    CHECK(compares("file:///a", "!ab\nXY", log, LASPIDRU_OK,
+                   "\"file:///a\" after message 4: the text is not the file's:\nline 2 (made by message 3): \"XYd\"\n"
+                   "  the file has: \"XY\"\nOf each line the message that is named is wrong, or after it one is missing.\n", &ending));
+    CHECK(is_outcome(ending, 1, 4, 0));
+    CHECK(compares("a", "ab\nXYd", log_of(stale), LASPIDRU_OK, "\"file:///a\" after message 3: the text is the file's\n", &ending));
+    CHECK(is_outcome(ending, 0, 4, 1));
+    CHECK(compares("", "", log_of(two), LASPIDRU_OK,
+                   "more than one document ends so; `--uri` names one:\n\"file:///a\"\n\"file:///b\"\n", &ending));
+    CHECK(is_outcome(ending, 1, 3, 0));
+    CHECK(compares("/b", "", log_of(two), LASPIDRU_OK, "\"file:///b\" after message 3: the text is the file's\n", &ending));
+    CHECK(compares("b", "", log, LASPIDRU_OK, "", &ending) && ending.status == 1 && ending.missing == LASPIDRU_NOT_OPEN);
+    add(&cut, "Content-Length: 5\r\n\r\nabcd");
+    CHECK(compares("/a", "", cut, LASPIDRU_CUT, "", &ending) && is_fault(ending, 0, cut.len));
+    cut = log;
+    add(&cut, "Content-Length 2");
+    CHECK(compares("/a", "", cut, LASPIDRU_BAD_FRAME, "", &ending) && is_fault(ending, 1, log.len + 14));
+    cut = text_part("lsp-session-log 2\n?");
+    CHECK(compares("/a", "", cut, LASPIDRU_BAD_LOG, "", &ending) && is_fault(ending, 0, 18));
+}
+
+/* Each refusal of a comparison comes before the next one, and writes nothing. */
+static void test_compare_refused(void) {
+    static const char *const session[] = {initialize, open_a, 0};
+    laspidru_log_settings how = log_settings;
+    laspidru_ending ending = {9, 9, 9, 9, 9, 9, 9};
+    laspidru_handle output = {0};
+    part log = log_of(session);
+    how.encoding = 7;
+    how.max_body = 4095;
+    how.max_text = 1073741825;
+    how.max_docs = how.max_changes = 0;
+    CHECK(run_log(&output, LASPIDRU_CHECK, &log_settings, log, &ending) == LASPIDRU_OK);
+    ending.output_len = 9;
+    CHECK(compare_log(&output, &how, "\xff", "\xff", log, &ending) == LASPIDRU_IN_USE && output.is_full);
+    laspidru_close(&output);
+    CHECK(compare_log(&output, &how, "\xff", "", log, &ending) == LASPIDRU_NOT_UTF8);
+    CHECK(compare_log(&output, &how, "", "\xff", log, &ending) == LASPIDRU_NOT_UTF8);
+    CHECK(compare_log(&output, &how, "", "", log, &ending) == LASPIDRU_BAD_ENCODING);
+    how.encoding = LASPIDRU_UTF32;
+    CHECK(compare_log(&output, &how, "", "", log, &ending) == LASPIDRU_BAD_MAX_BODY);
+    how.max_body = 4096;
+    CHECK(compare_log(&output, &how, "", "", log, &ending) == LASPIDRU_BAD_MAX_TEXT);
+    how.max_text = 0;
+    CHECK(compare_log(&output, &how, "", "", log, &ending) == LASPIDRU_BAD_MAX_DOCS);
+    how.max_docs = 1;
+    CHECK(compare_log(&output, &how, "", "", log, &ending) == LASPIDRU_BAD_MAX_CHANGES);
+    CHECK(!output.is_full && ending.output_len == 9);
 }
 
 static void test_log_faults(void) {

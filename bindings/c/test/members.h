@@ -49,6 +49,7 @@ static void test_defaults(void) {
     CHECK(!client.utf8 && !client.utf32 && !client.lenient);
     CHECK(log.max_body == 16777216 && log.max_text == 16777216 && log.max_docs == 1024 && log.max_changes == 65536);
     CHECK(log.encoding == LASPIDRU_UTF16 && log.at == 0 && !log.lenient && !log.squash && !log.documents && !log.texts && !log.bodies && !log.has_uri);
+    CHECK(!log.brief && !log.all);
 }
 
 /* Whether a handle's frame has this text in it. */

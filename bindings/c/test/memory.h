@@ -76,7 +76,7 @@ static int run_refused_server(void) {
 
 static const laspidru_log_settings all_settings = {
     .max_body = 4096, .max_text = 64, .max_docs = 2, .max_changes = 4, .encoding = LASPIDRU_UTF8,
-    .at = 4, .squash = 1, .documents = 1, .texts = 1, .bodies = 1, .has_uri = 1};
+    .at = 4, .squash = 1, .documents = 1, .texts = 1, .bodies = 1, .has_uri = 1, .brief = 1, .all = 1};
 
 /* The commands with a request refused. A call that is refused leaves what was, and the same call then succeeds. */
 static int run_refused_logs(void) {
@@ -96,6 +96,13 @@ static int run_refused_logs(void) {
         CHECK(code == LASPIDRU_OK && ending.status == 0 && ending.missing == 0);
         laspidru_close(&output);
     }
+    ending.status = 9;
+    while ((code = compare_log(&output, &all_settings, "/a", "ab\ncd", log, &ending)) == LASPIDRU_OUT_OF_MEMORY) {
+        CHECK(!output.is_full && ending.status == 9);
+        refusals++;
+    }
+    CHECK(code == LASPIDRU_OK && ending.status == 1 && ending.missing == 0);
+    laspidru_close(&output);
     CHECK(heap_blocks() == 0);
     return refusals;
 }

@@ -13,7 +13,7 @@ from ._library import VERSION as __version__
 from ._library import ENCODINGS, WHY, EditsFault, FrameFault, LaspidruError, LogFault
 from .documents import Document, TextDocument
 from .ends import Client, Event, Framer, Server
-from .logs import LogOutput, check, convert, normalise, replay, trace
+from .logs import LogOutput, check, compare, convert, normalise, replay, trace
 
 __all__ = ["ENCODINGS", "WHY", "Client", "Document", "EditsFault", "Event", "FrameFault", "Framer", "LaspidruError", "LogFault",
-           "LogOutput", "Server", "TextDocument", "check", "convert", "normalise", "replay", "trace"]
+           "LogOutput", "Server", "TextDocument", "check", "compare", "convert", "normalise", "replay", "trace"]

@@ -25,7 +25,7 @@ typedef struct { size_t max_body, max_text, max_docs, max_changes; bool utf8, ut
 typedef struct { uint32_t phase, reason, encoding; size_t documents; } laspidru_state;
 typedef struct { int32_t version; size_t bytes; } laspidru_opened;
 typedef struct { size_t max_body, max_text, max_docs, max_changes; uint64_t at; uint32_t encoding; bool lenient, squash,
-    documents, texts, bodies, has_uri; } laspidru_log_settings;
+    documents, texts, bodies, has_uri, brief, all; } laspidru_log_settings;
 typedef struct { uint32_t status, frame, missing; uint64_t messages, refused, offset; size_t output_len; } laspidru_ending;
 uint32_t laspidru_version(void);
 uint32_t laspidru_text(uint32_t code, size_t start, unsigned char *out, size_t out_len, size_t *copied);
@@ -86,6 +86,9 @@ uint32_t laspidru_open_canonical_message(laspidru_handle *end, const unsigned ch
     laspidru_handle *output, laspidru_fault *fault, size_t *frame_len);
 uint32_t laspidru_log_run(laspidru_handle *output, uint32_t command, const laspidru_log_settings *settings,
     const unsigned char *uri, size_t uri_len, const unsigned char *log, size_t log_len, laspidru_ending *ending);
+uint32_t laspidru_log_compare(laspidru_handle *output, const laspidru_log_settings *settings, const unsigned char *uri,
+    size_t uri_len, const unsigned char *saved, size_t saved_len, const unsigned char *log, size_t log_len,
+    laspidru_ending *ending);
 uint32_t laspidru_output_copy(laspidru_handle *output, size_t start, unsigned char *out, size_t out_len, size_t *copied);
 """
 # end of declared

@@ -11,8 +11,8 @@ from ._library import (LIBRARY, NAMES, NUMBERS, Ending, Handle, LaspidruError, L
 
 
 class LogOutput(NamedTuple):
-    """What a command on a log wrote; its status, which is 1 where something was refused; how many messages there were, and how
-    many of them were refused."""
+    """What a command on a log wrote; its status, which is 1 where something was refused, or of `compare` where texts
+    differ; how many messages there were, and how many of them were refused."""
     output: bytes
     status: int
     messages: int
@@ -24,24 +24,29 @@ class LogOutput(NamedTuple):
         return [json.loads(line) for line in self.output.splitlines()]
 
 
-def _bytes_of(log: Any) -> bytes:
+def _bytes_of(log: Any, what: str = "a log") -> bytes:
     """The bytes of a log: they themselves, or of a file of this path or of a stream what is left to read."""
     if isinstance(log, (str, os.PathLike)):
         with open(log, "rb") as file:
             return file.read()
-    return some_bytes(log.read() if hasattr(log, "read") else log, "a log")
+    return some_bytes(log.read() if hasattr(log, "read") else log, what)
 
 
-def _run(name: str, log: Any, *, at: Optional[int] = None, uri: Optional[str] = None, encoding: str = "utf-16", max_body: int = 16777216,
-         max_text: int = 16777216, max_docs: int = 1024, max_changes: int = 65536, lenient: bool = False, squash: bool = False,
-         documents: bool = False, texts: bool = False, bodies: bool = False) -> LogOutput:
+def _run(name: str, log: Any, saved: Optional[bytes] = None, /, *, at: Optional[int] = None, uri: Optional[str] = None,
+         encoding: str = "utf-16", max_body: int = 16777216, max_text: int = 16777216, max_docs: int = 1024,
+         max_changes: int = 65536, lenient: bool = False, squash: bool = False, documents: bool = False,
+         texts: bool = False, bodies: bool = False, brief: bool = False, all: bool = False) -> LogOutput:
     data, named = _bytes_of(log), utf8(uri or "")
     if at is not None and at < 1:
         raise LaspidruError("OUT_OF_RANGE")
-    settings = LogSettings(*limits(max_body, max_text, max_docs, max_changes), number(at or 0, 64), encoding_number(encoding), lenient,
-                           squash, documents, texts, bodies, uri is not None)
+    settings = LogSettings(*limits(max_body, max_text, max_docs, max_changes), number(at or 0, 64),
+                           encoding_number(encoding), lenient, squash, documents, texts, bodies, uri is not None, brief, all)
     handle, ending = Handle(), Ending()
-    code = LIBRARY.laspidru_log_run(byref(handle), NUMBERS[name], byref(settings), named, len(named), data, len(data), byref(ending))
+    read = byref(settings), named, len(named)
+    if saved is None:
+        code = LIBRARY.laspidru_log_run(byref(handle), NUMBERS[name], *read, data, len(data), byref(ending))
+    else:
+        code = LIBRARY.laspidru_log_compare(byref(handle), *read, saved, len(saved), data, len(data), byref(ending))
     try:
         if not handle.is_full:
             demand(code)
@@ -59,9 +64,10 @@ def _run(name: str, log: Any, *, at: Optional[int] = None, uri: Optional[str] = 
 # max_changes and lenient.
 
 
-def check(log: Any, *, explain: bool = False, **options: Any) -> LogOutput:
-    """What a server answers to each record of a log, a line for each; with `explain` why, and what is suspicious."""
-    return _run("EXPLAIN" if explain else "CHECK", log, **options)
+def check(log: Any, *, explain: bool = False, brief: bool = False, all: bool = False, **options: Any) -> LogOutput:
+    """What a server answers to each record of a log, a line for each; with `explain` why, and what is suspicious; with
+    `brief` only lines that have that, with `all` each note on its line. Both mean `explain` too."""
+    return _run("EXPLAIN" if explain or brief or all else "CHECK", log, brief=brief, all=all, **options)
 
 
 def trace(log: Any, *, texts: bool = False, bodies: bool = False, **options: Any) -> LogOutput:
@@ -73,6 +79,15 @@ def replay(log: Any, *, at: Optional[int] = None, uri: Optional[str] = None, **o
     """The documents that are open at the end of a log, or after the record `at`, a line of JSON for each (`records`); with `uri` the
     text of that document. LaspidruError says that there is no such record, or that the document was never open."""
     return _run("REPLAY", log, at=at, uri=uri, **options)
+
+
+def compare(log: Any, saved: Any, *, uri: Optional[str] = None, **options: Any) -> LogOutput:
+    """Whether the last text of a document is `saved`, what its editor saved (bytes, the path of a file, or a stream),
+    and else which message made each line that differs. The document is the one whose URI ends as `uri`; without it as
+    the path, or else the only one. LaspidruError says that no document's URI ends so."""
+    if uri is None and isinstance(saved, (str, os.PathLike)):
+        uri = os.fspath(saved)
+    return _run("COMPARE", log, _bytes_of(saved, "a saved text"), uri=uri, **options)
 
 
 def normalise(log: Any, *, squash: bool = False, documents: bool = False, **options: Any) -> LogOutput:

@@ -337,6 +337,11 @@ impl Handle {
         unsafe { laspidru_log_run(handle, command, settings, name, uri.len(), log.as_ptr(), log.len(), ending) }
     }
 
+    pub fn log_compare(&self, settings: &LogSettings, uri: &str, saved: &str, log: &[u8], ending: &mut Ending) -> u32 {
+        let (handle, name, text) = (&mut *self.0.borrow_mut(), uri.as_ptr(), saved.as_ptr());
+        unsafe { laspidru_log_compare(handle, settings, name, uri.len(), text, saved.len(), log.as_ptr(), log.len(), ending) }
+    }
+
     pub fn output_copy(&self, len: usize) -> Vec<u8> {
         self.copied(laspidru_output_copy, 0, len)
     }

@@ -19,6 +19,10 @@ pub struct Settings {
     pub texts: bool,
     /// Whether [`trace`] writes each body.
     pub bodies: bool,
+    /// Whether [`explain`] writes only lines with a reason or notes.
+    pub brief: bool,
+    /// Whether [`explain`] writes each note on its line, also where its kind comes often.
+    pub all: bool,
 }
 
 /// The part of a log that [`replay_part`] reads, and what it writes.
@@ -35,6 +39,8 @@ pub struct Part<'a> {
 pub struct Output {
     /// The bytes.
     pub bytes: Vec<u8>,
+    /// 1 where something was refused, or of [`compare`] where the texts differ; else 0.
+    pub status: u32,
     /// How many messages there were.
     pub messages: u64,
     /// How many of them were refused.
@@ -144,6 +150,17 @@ pub fn replay_part(log: &[u8], settings: &Settings, part: &Part<'_>) -> Result<O
     run(ffi::REPLAY, log, settings, part)
 }
 
+/// Writes whether the last text of a document is `saved`, as its editor saved it, and else which message made each line
+/// that differs. The document is the one whose URI ends as `uri`, or the only one without it. Where two end so, both are
+/// named.
+///
+/// # Errors
+/// As those of [`check`]; and [`LogError::NotOpen`] if no document's URI ends so.
+pub fn compare(log: &[u8], saved: &str, uri: Option<&str>, settings: &Settings) -> Result<Output, LogError> {
+    let part = Part { uri, ..Part::default() };
+    run_with(|output, settings, uri, ending| output.log_compare(settings, uri, saved, log, ending), settings, &part)
+}
+
 /// Writes the log with each accepted change as its canonical message.
 ///
 /// # Errors
@@ -161,6 +178,14 @@ pub fn convert(log: &[u8], settings: &Settings) -> Result<Output, LogError> {
 }
 
 fn run(command: u32, log: &[u8], settings: &Settings, part: &Part<'_>) -> Result<Output, LogError> {
+    run_with(|output, settings, uri, ending| output.log_run(command, settings, uri, log, ending), settings, part)
+}
+
+fn run_with(
+    call: impl FnOnce(&ffi::Handle, &ffi::LogSettings, &str, &mut ffi::Ending) -> u32,
+    settings: &Settings,
+    part: &Part<'_>,
+) -> Result<Output, LogError> {
     let settings = ffi::LogSettings {
         max_body: settings.limits.max_body,
         max_text: settings.limits.max_text,
@@ -174,9 +199,11 @@ fn run(command: u32, log: &[u8], settings: &Settings, part: &Part<'_>) -> Result
         texts: settings.texts,
         bodies: settings.bodies,
         has_uri: part.uri.is_some(),
+        brief: settings.brief,
+        all: settings.all,
     };
     let (output, mut ending) = (ffi::Handle::empty(), ffi::Ending::default());
-    let code = output.log_run(command, &settings, part.uri.unwrap_or_default(), log, &mut ending);
+    let code = call(&output, &settings, part.uri.unwrap_or_default(), &mut ending);
     if !output.is_full() {
         return Err(match code {
             ffi::OUT_OF_MEMORY => LogError::OutOfMemory,
@@ -186,7 +213,9 @@ fn run(command: u32, log: &[u8], settings: &Settings, part: &Part<'_>) -> Result
     }
     let bytes = output.output_copy(ending.output_len);
     let fault = match (code, ending.missing) {
-        (ffi::OK, ffi::OK) => return Ok(Output { bytes, messages: ending.messages, refused: ending.refused }),
+        (ffi::OK, ffi::OK) => {
+            return Ok(Output { bytes, status: ending.status, messages: ending.messages, refused: ending.refused });
+        }
         (ffi::OK, ffi::OUT_OF_RANGE) => return Err(LogError::NoRecord),
         (ffi::OK, _) => return Err(LogError::NotOpen),
         (ffi::CUT, _) => LogFault::Cut,

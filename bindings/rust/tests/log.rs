@@ -1,4 +1,5 @@
-use laspidru::log::{check, convert, explain, normalise, replay, replay_part, trace, LogError, LogFault, Part, Settings};
+use laspidru::log::{check, compare, convert, explain, normalise, replay, replay_part, trace};
+use laspidru::log::{LogError, LogFault, Part, Settings};
 use laspidru::{BadLimit, Limits};
 
 const STALE: &[u8] = include_bytes!("../../../examples/stale-version.log");
@@ -12,7 +13,7 @@ fn commands_write_what_lspsync_does() -> Result<(), LogError> {
     let settings = Settings::default();
     let checked = check(STALE, &settings)?;
     assert_eq!(checked.bytes, b"1 reply\n2 changed\n3 refused S5\n4 refused S4\n5 changed\n");
-    assert_eq!((checked.messages, checked.refused), (5, 2));
+    assert_eq!((checked.status, checked.messages, checked.refused), (1, 5, 2));
     let lenient = Settings { limits: Limits { lenient: true, ..Limits::default() }, ..settings };
     assert_eq!(check(STALE, &lenient)?.bytes, b"1 reply\n2 changed\n3 changed\n4 refused S4\n5 changed\n");
     assert_eq!(convert(TYPING, &settings)?.bytes, WITH_REPLIES);
@@ -28,6 +29,7 @@ fn commands_write_what_lspsync_does() -> Result<(), LogError> {
 fn commands_have_the_options_of_lspsync() -> Result<(), LogError> {
     let settings = Settings::default();
     assert!(explain(STALE, &settings)?.bytes.starts_with(b"1 reply\n2 changed\n3 refused S5 of "));
+    assert!(explain(STALE, &Settings { brief: true, ..settings })?.bytes.starts_with(b"3 refused S5 of "));
     let traced = |texts, bodies| trace(STALE, &Settings { texts, bodies, ..settings }).map(|output| output.bytes.len());
     let plain = traced(false, false)?;
     assert!(plain < traced(true, false)? && plain < traced(false, true)?);
@@ -38,6 +40,18 @@ fn commands_have_the_options_of_lspsync() -> Result<(), LogError> {
     assert_eq!(part(None, Some("file:///none")), Err(LogError::NotOpen));
     let documents = Settings { documents: true, ..settings };
     assert!(normalise(SAVES, &documents)?.bytes.len() <= normalise(SAVES, &settings)?.bytes.len());
+    Ok(())
+}
+
+#[test]
+fn a_saved_text_is_compared() -> Result<(), LogError> {
+    let settings = Settings::default();
+    let same = compare(STALE, "aXc", None, &settings)?;
+    assert_eq!((same.bytes, same.status), (b"\"file:///a\" after message 5: the text is the file's\n".to_vec(), 0));
+    let other = compare(STALE, "abc", Some("/a"), &settings)?;
+    let text = String::from_utf8_lossy(&other.bytes);
+    assert!(text.contains("\nline 1 (made by message 5): \"aXc\"\n") && other.status == 1, "{text}");
+    assert_eq!(compare(STALE, "", Some("/b"), &settings), Err(LogError::NotOpen));
     Ok(())
 }
 

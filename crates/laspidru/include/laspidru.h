@@ -238,13 +238,15 @@ typedef struct laspidru_log_settings {
     laspidru_bool texts;       /* TRACE: the document's text, where it was opened or changed */
     laspidru_bool bodies;      /* TRACE: each body */
     laspidru_bool has_uri;     /* REPLAY: the text of the document of `uri`, byte for byte; else `uri` is ignored */
+    laspidru_bool brief;       /* EXPLAIN: only lines with a reason or notes */
+    laspidru_bool all;         /* EXPLAIN: each note on its line, also where its kind comes often */
 } laspidru_log_settings;
 
-#define LASPIDRU_LOG_SETTINGS_DEFAULT {16777216, 16777216, 1024, 65536, 0, LASPIDRU_UTF16, 0, 0, 0, 0, 0, 0}
+#define LASPIDRU_LOG_SETTINGS_DEFAULT {16777216, 16777216, 1024, 65536, 0, LASPIDRU_UTF16, 0, 0, 0, 0, 0, 0, 0, 0}
 
 /* How a command on a log ended. A member that isn't of the code is 0. */
 typedef struct laspidru_ending {
-    laspidru_u32 status;     /* OK: 1 where something was refused or is missing, else 0 */
+    laspidru_u32 status;     /* OK: 1 where something was refused or is missing, or texts differ; else 0 */
     laspidru_u32 frame;      /* BAD_FRAME: 1 to 7, for F1 to F7 of docs/PROTOCOL.md */
     laspidru_u32 missing;    /* OK: OUT_OF_RANGE where there is no record `at`, NOT_OPEN where `uri` was never open, else 0 */
     laspidru_u64 messages;   /* OK: how many messages were handled */
@@ -451,6 +453,14 @@ laspidru_u32 laspidru_log_run(laspidru_handle *output, laspidru_u32 command, con
     const unsigned char *uri, laspidru_size uri_len, const unsigned char *log, laspidru_size log_len,
     laspidru_ending *ending);
 
+/* Whether the last text of a document of a log is `saved`, the text that its editor saved, and else which message made each
+   line that differs: the output of lspsync compare. The document is the one whose URI ends as `uri`, or the only one where
+   that has no bytes. Where two end so, the output names both; where none does, NOT_OPEN is `missing`. The status is 0 only for
+   equal bytes, whatever was refused. Of the settings it takes the limits and the encoding. */
+laspidru_u32 laspidru_log_compare(laspidru_handle *output, const laspidru_log_settings *settings,
+    const unsigned char *uri, laspidru_size uri_len, const unsigned char *saved, laspidru_size saved_len,
+    const unsigned char *log, laspidru_size log_len, laspidru_ending *ending);
+
 /* Copies the bytes of the output from `start` on, as many as `out` holds, and says how many. */
 laspidru_u32 laspidru_output_copy(laspidru_handle *output, laspidru_size start,
     unsigned char *out, laspidru_size out_len, laspidru_size *copied);
@@ -481,6 +491,7 @@ laspidru_u32 laspidru_output_copy(laspidru_handle *output, laspidru_size start,
    document_position: INSIDE_CHARACTER, also for an offset between CR and LF or past the end
    framer_feed: FAILED; OUT_OF_MEMORY, or BAD_FRAME
    framer_new: IN_USE, BAD_MAX_BODY; OUT_OF_MEMORY
+   log_compare: IN_USE; NOT_UTF8 of the URI or the saved text; those of log_run from BAD_ENCODING on, without BODY_TOO_LONG
    log_run: IN_USE; OUT_OF_RANGE of the command; NOT_UTF8 of the URI; BAD_ENCODING, BAD_MAX_BODY, BAD_MAX_TEXT,
       BAD_MAX_DOCS, BAD_MAX_CHANGES; OUT_OF_MEMORY, or the fault: CUT, BAD_FRAME, BAD_LOG, of normalise also
       BODY_TOO_LONG; TOO_MANY_TURNS is for more than 2^64-1 reads and writes

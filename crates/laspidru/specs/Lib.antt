@@ -10,6 +10,7 @@ pub mod Clients
 pub mod Ends
 pub mod Taking
 pub mod Logs
+pub mod Comparisons
 pub mod Messages
 pub mod Texts
 pub mod laws

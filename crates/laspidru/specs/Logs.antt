@@ -11,8 +11,9 @@ use Rattle.lsp_replay.specs.declared.commands.parts.Part.{Part}
 use Rattle.lsp_replay.specs.declared.outcome.Missing.{Missing}
 use Rattle.lsp_replay.specs.declared.outcome.Missing.TheVariants as missing
 use Rattle.lsp_replay.specs.declared.outcome.Outcome.{Outcome}
+use Rattle.lsp_replay.specs.Compared.{compare_engine}
 use Rattle.lsp_replay.specs.Documents.{WritesDocuments, documents_engine}
-use Rattle.lsp_replay.specs.Explained.{default_listing, explain_engine}
+use Rattle.lsp_replay.specs.Explained.{explain_engine}
 use Rattle.lsp_replay.specs.Parts.{part_engine}
 use Rattle.lsp_replay.specs.Run.{Engine, IsEngineRun, WritesLog, check_engine, convert_engine, normalise_engine, replay_engine}
 use Rattle.lsp_replay.specs.Trace.{trace_engine}
@@ -98,7 +99,8 @@ normalise_if false = command.Normalise
 -- The command of a name, with what the settings have of it.
 abbrev pub IsCommand : CommandName → LogSettings → List ℕ → Command → Type 0
 IsCommand Check settings uri it = it ≡ command.Check
-IsCommand Explain settings uri it = it ≡ command.Explain
+IsCommand Explain settings uri it =
+    it ≡ command.Explain (record { brief = settings.brief; all = settings.all })
 IsCommand Trace settings uri it =
     it ≡ command.Trace (record { texts = settings.texts; bodies = settings.bodies })
 IsCommand Replay settings uri it = IsReplay settings uri it
@@ -110,13 +112,14 @@ IsCommand Convert settings uri it = it ≡ command.Convert
 -- The engine of a command.
 abbrev pub command_engine : Command → Settings → Engine
 command_engine command.Check settings = check_engine settings
-command_engine command.Explain settings = explain_engine settings default_listing
+command_engine (command.Explain listing) settings = explain_engine settings listing
 command_engine (command.Trace details) settings = trace_engine settings details
 command_engine command.Replay settings = replay_engine settings
 command_engine (command.ReplayPart part) settings = part_engine settings part
 command_engine command.Normalise settings = normalise_engine settings
 command_engine command.NormaliseDocuments settings = documents_engine settings
 command_engine command.Convert settings = convert_engine settings
+command_engine (command.Compare comparison) settings = compare_engine settings comparison
 
 -- What `normalise` and `convert` write of a log is a log again, of which `replay` reports the same.
 abbrev pub IsLawful : Command → Settings → Ports → Ports → Result Outcome EngineFault → Type 0
@@ -231,11 +234,16 @@ IsEnded output answer code stored out
     = IsKept (ending_out (length output) answer) output code stored out
 
 -- A command ran over a log: C gets its result, and the handle has its output.
+pub record IsKeptRun (it : Command) (settings : Settings) (log : List ℕ) (code : ℕ)
+    (stored : Option Object) (out : Ending) : Type 0 where
+  pub output : List ℕ
+  pub answer : Result Outcome EngineFault
+  pub ran : RanOn it settings log output answer
+  pub ended : IsEnded output answer code stored out
+
+-- The same of the command of a name.
 pub record IsCommandRun (asked : RunAsked) (settings : LogSettings) (log : List ℕ) (code : ℕ)
     (stored : Option Object) (out : Ending) : Type 0 where
   pub it : Command
   pub is : IsCommand asked.name settings asked.uri it
-  pub output : List ℕ
-  pub answer : Result Outcome EngineFault
-  pub ran : RanOn it asked.settings log output answer
-  pub ended : IsEnded output answer code stored out
+  pub run : IsKeptRun it asked.settings log code stored out

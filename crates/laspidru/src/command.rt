@@ -9,8 +9,8 @@ ghost use Rattle.laspidru.specs.Logs.{name_numbered};
 use crate::endings::LogSettings;
 use crate::log_reader::LogReader;
 use lsp_replay::{
-    Details, EngineFault, Listing, Outcome, Part, Settings, Told, check, convert, explain,
-    normalise, normalise_documents, replay, replay_part, trace,
+    Comparison, Details, EngineFault, Listing, Outcome, Part, Settings, Told, check, compare,
+    convert, explain, normalise, normalise_documents, replay, replay_part, trace,
 };
 use std::alloc::{AllocError, Global};
 
@@ -26,12 +26,12 @@ pub enum CommandName {
 }
 
 /// A command on a log, with what it has beside the settings.
-#[derive(Debug, PartialEq, Eq, Drop)]
+#[derive(Drop)]
 pub enum Command {
     /// What a server answers to each record.
     Check,
     /// The same, with reasons and what is suspicious.
-    Explain,
+    Explain(Listing),
     /// All that is known of each record.
     Trace(Details),
     /// The documents that are open at the end.
@@ -44,6 +44,8 @@ pub enum Command {
     NormaliseDocuments,
     /// The log with the server's replies.
     Convert,
+    /// Whether a document's last text is a saved one.
+    Compare(Comparison),
 }
 
 /// Returns the command of a number.
@@ -102,7 +104,10 @@ pub(crate) fn command_of(
 {
     match name {
         CommandName::Check => Ok(Command::Check),
-        CommandName::Explain => Ok(Command::Explain),
+        CommandName::Explain => Ok(Command::Explain(Listing {
+            brief: settings.brief,
+            all: settings.all,
+        })),
         CommandName::Trace => Ok(Command::Trace(Details {
             texts: settings.texts,
             bodies: settings.bodies,
@@ -142,14 +147,7 @@ fn run_between(
 {
     match command {
         Command::Check => check(alloc, reader, writer, settings, u64::MAX),
-        Command::Explain => explain(
-            alloc,
-            reader,
-            writer,
-            settings,
-            Listing::default(),
-            u64::MAX,
-        ),
+        Command::Explain(listing) => explain(alloc, reader, writer, settings, listing, u64::MAX),
         Command::Trace(details) => trace(alloc, reader, writer, settings, details, u64::MAX),
         Command::Replay => replay(alloc, reader, writer, settings, u64::MAX),
         Command::ReplayPart(part) => replay_part(alloc, reader, writer, settings, part, u64::MAX),
@@ -158,6 +156,9 @@ fn run_between(
             normalise_documents(alloc, reader, writer, settings, u64::MAX)
         }
         Command::Convert => convert(alloc, reader, writer, settings, u64::MAX),
+        Command::Compare(comparison) => {
+            compare(alloc, reader, writer, settings, comparison, u64::MAX)
+        }
     }
 }
 

@@ -37,13 +37,17 @@ pub struct LogSettings {
     pub bodies: bool,
     /// `replay`: whether the text of one document is written, that of the URI.
     pub has_uri: bool,
+    /// `explain`: whether only lines with a reason or notes are written.
+    pub brief: bool,
+    /// `explain`: whether each note is on its line, also if its kind comes often.
+    pub all: bool,
 }
 
 /// The ending of a command on a log. A member that isn't of the code is 0.
 #[repr(C)]
 #[derive(Clone, Copy, Debug, PartialEq, Eq)]
 pub struct Ending {
-    /// OK: 1 if something was refused or is missing, else 0.
+    /// OK: 1 if something was refused or is missing, or texts differ; else 0.
     pub status: u32,
     /// BAD_FRAME: the number of the fault, 1 to 7 for F1 to F7.
     pub frame: u32,

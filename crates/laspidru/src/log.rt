@@ -2,13 +2,15 @@
 
 ghost use Rattle.std.specs.Prelude.{◌≡◌, ◌≢◌, ◌⊎◌, None};
 ghost use Rattle.laspidru.specs.Codes.{IsAnswer, IsAnswerOrNoMemory, unless};
-ghost use Rattle.laspidru.specs.Logs.{IsCommandRun, IsEnded, IsUnlessEnded, RunAsked, as_output};
-ghost use Rattle.laspidru.specs.Logs.{run_asked};
+ghost use Rattle.laspidru.specs.Logs.{IsCommandRun, IsEnded, IsKeptRun, IsUnlessEnded, RunAsked};
+ghost use Rattle.laspidru.specs.Logs.{as_output, run_asked};
 ghost use Rattle.laspidru.specs.Objects.{IsCopy, in_handle, in_use, rest_asked};
+
+mod compared;
 
 use crate::bytes::{checked_text, copy_from};
 use crate::codes::{IN_USE, OK, OUT_OF_MEMORY, OUT_OF_RANGE, or_return};
-use crate::command::{CommandName, CommandRun, command_named, command_of, run_command};
+use crate::command::{Command, CommandName, CommandRun, command_named, command_of, run_command};
 use crate::endings::{Ending, LogSettings, ending_of, log_settings_of};
 use crate::handle::{Handle, with_object};
 use crate::object::Object;
@@ -33,9 +35,29 @@ fn keep(alloc: Global, handle: &mut Handle, run: CommandRun, out: &mut Ending) -
     code
 }
 
-/// Runs a command by its name, and puts its output into an empty handle.
-#[tactic(auto, using(crate::proofs::Runs::command_ran))]
+/// Runs a command, and puts its output into an empty handle.
+#[tactic(auto, using(crate::proofs::Runs::ran_and_kept))]
 fn run_into(
+    alloc: Global,
+    handle: &mut Handle,
+    command: Command,
+    settings: Settings,
+    log: &[u8],
+    out: &mut Ending,
+) -> u32
+    requires { handle.old.value ≡ None }
+    ensures answer { (result ≡ OUT_OF_MEMORY)
+        ⊎ IsKeptRun command settings log.now result handle.new.value out.new }
+    ensures unchanged { IsUnlessEnded result
+        ((handle.new.value ≡ handle.old.value) × (out.new ≡ out.old)) }
+{
+    let run = run_command(alloc, command, settings, log);
+    keep(alloc, handle, run, out)
+}
+
+/// Runs the command of a name, and puts its output into an empty handle.
+#[tactic(auto, using(crate::proofs::Runs::command_ran))]
+fn run_named(
     alloc: Global,
     handle: &mut Handle,
     name: CommandName,
@@ -56,8 +78,7 @@ fn run_into(
     let Ok(command) = command_of(alloc, name, settings, uri) else {
         return OUT_OF_MEMORY;
     };
-    let run = run_command(alloc, command, taken, log);
-    keep(alloc, handle, run, out)
+    run_into(alloc, handle, command, taken, log, out)
 }
 
 /// Runs a command over the bytes of a log, and puts its output into an empty handle: of
@@ -94,7 +115,7 @@ pub extern "C" fn laspidru_log_run(
     };
     let uri = or_return!(checked_text(uri));
     let taken = or_return!(log_settings_of(settings));
-    run_into(alloc, handle, name, taken, settings, uri, log, out)
+    run_named(alloc, handle, name, taken, settings, uri, log, out)
 }
 
 /// Copies the bytes of a command's output, or of a canonical message's frame, from `start` on, as

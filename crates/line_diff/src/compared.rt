@@ -1,9 +1,10 @@
 //! A file, and the document of a session that is compared with it.
 
-ghost use Rattle.std.specs.Prelude.{◌≡◌, ◌++◌, IfOk, OnOk, Option, option_map, string_bytes};
-ghost use Rattle.std.specs.Str.{bytes_eq};
-ghost use Rattle.line_diff.specs.Compared.{choice_words, followed_words, ends_so, equality, followed_after, new_comparison};
-ghost use Rattle.line_diff.specs.Compared.{comparison_words, second_after, taken};
+ghost use Rattle.std.specs.Prelude.{◌≡◌, ◌++◌, IfOk, OnErr, OnOk, Some, option_map, string_bytes};
+ghost use Rattle.std.specs.Option.{unwrap_or};
+ghost use Rattle.line_diff.specs.Tracked.{opened_by};
+ghost use Rattle.line_diff.specs.Compared.{choice_words, followed_words, ends_so, equality, new_comparison};
+ghost use Rattle.line_diff.specs.Compared.{comparison_words, taken, text_after};
 
 use crate::report::push_words;
 use crate::shown::push_shown;
@@ -52,6 +53,41 @@ impl Model for Followed {
     ghost view = { λ d. record { uri = string_bytes d.uri; text = d.text } };
 }
 
+impl Followed {
+    /// Starts with the text that the message of this number has given to a document.
+    fn new(alloc: Global, number: u64, uri: &str, text: String) -> Result<Followed, AllocError>
+        ensures { IfOk result (λ document. document ≡ record {
+          uri = uri.now;
+          text = opened_by number (string_bytes text);
+        }) }
+    {
+        Ok(Followed {
+            uri: String::from_str(alloc, uri)?,
+            text: TrackedText::new(alloc, number, text)?,
+        })
+    }
+
+    /// Takes the text that the message of this number has given to the document.
+    fn take(
+        &mut self,
+        alloc: Global,
+        number: u64,
+        text: String,
+        opens: bool,
+    ) -> Result<(), AllocError>
+        ensures taken { OnOk result (self.new ≡ record self.old {
+          text = text_after number (string_bytes text) opens self.old.text;
+        }) }
+        ensures unchanged { OnErr result (self.new ≡ self.old) }
+    {
+        if !opens {
+            return self.text.change(alloc, number, text);
+        }
+        self.text = TrackedText::new(alloc, number, text)?;
+        Ok(())
+    }
+}
+
 impl Comparison {
     /// Starts without a document. It is to be one whose URI ends so.
     pub fn new(ending: String, file: String) -> Comparison
@@ -73,7 +109,7 @@ impl Comparison {
     }
 
     /// Takes the text that the message of this number has given to a document, which it `opens` or
-    /// changes. Fails only where memory runs out; then the document may be lost. Linear in the texts
+    /// changes. Fails only where memory runs out; then nothing has changed. Linear in the texts
     /// before and after.
     pub fn take(
         &mut self,
@@ -83,42 +119,47 @@ impl Comparison {
         text: String,
         opens: bool,
     ) -> Result<(), AllocError>
-        ensures { OnOk result
+        ensures taken { OnOk result
             (self.new ≡ taken number uri.now (string_bytes text) opens self.old) }
+        ensures unchanged { OnErr result (self.new ≡ self.old) }
     {
-        self.keep_second(alloc, uri)?;
-        let before = self.document.take();
-        let document = followed_after(alloc, number, uri, text, opens, before)?;
-        self.document = Some(document);
-        Ok(())
+        let Some(document) = &mut self.document else {
+            self.document = Some(Followed::new(alloc, number, uri, text)?);
+            return Ok(());
+        };
+        if document.uri.as_str() == uri {
+            return document.take(alloc, number, text, opens);
+        }
+        self.keep_second(alloc, uri)
     }
 
     /// Keeps the URI of another document than the first one.
     fn keep_second(&mut self, alloc: Global, uri: &str) -> Result<(), AllocError>
-        ensures { OnOk result (self.new ≡ record self.old {
-          second = second_after uri.now self.old.document self.old.second;
+        ensures kept { OnOk result (self.new ≡ record self.old {
+          second = Some (unwrap_or self.old.second uri.now);
         }) }
+        ensures unchanged { OnErr result (self.new ≡ self.old) }
     {
-        let Some(document) = &self.document else {
-            return Ok(());
-        };
-        if self.second.is_none() && document.uri.as_str() != uri {
+        if self.second.is_none() {
             self.second = Some(String::from_str(alloc, uri)?);
         }
         Ok(())
     }
 
-    /// Writes whether the document's text is the file's, and else how they differ; nothing where no
-    /// document was taken. Fails only where memory runs out.
+    /// Appends whether the document's text is the file's, and else how they differ; nothing where no
+    /// document was taken. Fails only where memory runs out, and then the bytes are unchanged.
     #[tactic(auto, unfolding(crate::specs::Compared::comparison_words))]
     pub fn push_report(&self, alloc: Global, buffer: &mut Vec<u8>) -> Result<(), AllocError>
-        ensures { OnOk result (buffer.new.items ≡ buffer.old.items ++ comparison_words self.now) }
+        ensures report { OnOk result
+            (buffer.new.items ≡ buffer.old.items ++ comparison_words self.now) }
+        ensures unchanged { OnErr result (buffer.new.items ≡ buffer.old.items) }
     {
-        match (&self.document, &self.second) {
-            (None, _) => Ok(()),
-            (Some(document), Some(second)) => push_choice(buffer, &document.uri, second),
-            (Some(document), None) => push_document(alloc, buffer, document, &self.file),
-        }
+        let report = match (&self.document, &self.second) {
+            (None, _) => Vec::new(alloc),
+            (Some(document), Some(second)) => choice_report(alloc, &document.uri, second)?,
+            (Some(document), None) => document_report(alloc, document, &self.file)?,
+        };
+        buffer.extend_from_slice(&report)
     }
 
     /// Returns whether the text of the one document that was taken is the file's, byte for byte; not
@@ -134,64 +175,29 @@ impl Comparison {
     }
 }
 
-/// Returns the document that is compared, after the message of this number has given this text to
-/// one. The first one stays.
-fn followed_after(
-    alloc: Global,
-    number: u64,
-    uri: &str,
-    text: String,
-    opens: bool,
-    before: Option<Followed>,
-) -> Result<Followed, AllocError>
-    ensures { IfOk result (λ document. document
-        ≡ followed_after number uri.now (string_bytes text) opens before) }
+/// Returns that two documents end so, in words.
+fn choice_report(alloc: Global, first: &str, second: &str) -> Result<Vec<u8>, AllocError>
+    ensures { IfOk result (λ report. report.items ≡ choice_words first.now second.now) }
 {
-    let Some(mut document) = before else {
-        return Ok(Followed {
-            uri: String::from_str(alloc, uri)?,
-            text: TrackedText::new(alloc, number, text)?,
-        });
-    };
-    if document.uri.as_str() != uri {
-        return Ok(document);
-    }
-    if opens {
-        document.text = TrackedText::new(alloc, number, text)?;
-    } else {
-        document.text.change(alloc, number, text)?;
-    }
-    Ok(document)
-}
-
-/// Writes that two documents end so.
-fn push_choice(buffer: &mut Vec<u8>, first: &str, second: &str) -> Result<(), AllocError>
-    ensures { OnOk result
-        (buffer.new.items ≡ buffer.old.items ++ choice_words first.now second.now) }
-{
+    let mut report = Vec::new(alloc);
     push_words(
-        buffer,
+        &mut report,
         "more than one document ends so; `--uri` names one:\n",
     )?;
-    push_shown(buffer, first)?;
-    push_words(buffer, "\n")?;
-    push_shown(buffer, second)?;
-    push_words(buffer, "\n")?;
-    Ok(())
+    push_shown(&mut report, first)?;
+    push_words(&mut report, "\n")?;
+    push_shown(&mut report, second)?;
+    push_words(&mut report, "\n")?;
+    Ok(report)
 }
 
-/// Writes whether a document's text is a file's, and else how they differ.
-fn push_document(
-    alloc: Global,
-    buffer: &mut Vec<u8>,
-    document: &Followed,
-    file: &str,
-) -> Result<(), AllocError>
-    ensures { OnOk result
-        (buffer.new.items ≡ buffer.old.items ++ followed_words document.now file.now) }
+/// Returns whether a document's text is a file's, and else how they differ, in words.
+fn document_report(alloc: Global, document: &Followed, file: &str) -> Result<Vec<u8>, AllocError>
+    ensures { IfOk result (λ report. report.items ≡ followed_words document.now file.now) }
 {
-    push_shown(buffer, &document.uri)?;
-    push_words(buffer, " ")?;
-    document.text.push_report(alloc, buffer, file)?;
-    Ok(())
+    let mut report = Vec::new(alloc);
+    push_shown(&mut report, &document.uri)?;
+    push_words(&mut report, " ")?;
+    document.text.push_report(alloc, &mut report, file)?;
+    Ok(report)
 }

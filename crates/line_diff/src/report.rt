@@ -281,7 +281,8 @@ fn push_first_end(buffer: &mut Vec<u8>, known: bool, last: u64) -> Result<(), Al
     }
     push_words(buffer, ", the first of them made by message ")?;
     push_number(buffer, last)?;
-    push_words(buffer, "\n")
+    push_words(buffer, "\n")?;
+    Ok(())
 }
 
 /// Writes that line ends differ, unless they are the same; and by which change the first one does, if

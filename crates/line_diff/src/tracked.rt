@@ -85,9 +85,9 @@ impl TrackedText {
         self.text.as_str()
     }
 
-    /// Writes whether the text is a file's, and else how they differ: by line ends, the last line
+    /// Appends whether the text is a file's, and else how they differ: by line ends, the last line
     /// end or a byte order mark alone, or by which lines, with the changes by which each does. Fails
-    /// only where memory runs out. Linear where the texts are near.
+    /// only where memory runs out, and then the bytes are unchanged. Linear where the texts are near.
     #[tactic(auto, unfolding(crate::specs::Report::report_words))]
     pub fn push_report(
         &self,
@@ -95,12 +95,16 @@ impl TrackedText {
         buffer: &mut Vec<u8>,
         file: &str,
     ) -> Result<(), AllocError>
-        ensures { OnOk result (buffer.new.items ≡ buffer.old.items ++ report_words self.now file.now) }
+        ensures report { OnOk result
+            (buffer.new.items ≡ buffer.old.items ++ report_words self.now file.now) }
+        ensures unchanged { OnErr result (buffer.new.items ≡ buffer.old.items) }
     {
         let numbers = Numbers {
             owners: &self.owners,
             places: &self.places,
         };
-        push_report(alloc, buffer, &self.text, self.made, numbers, file)
+        let mut report = Vec::new(alloc);
+        push_report(alloc, &mut report, &self.text, self.made, numbers, file)?;
+        buffer.extend_from_slice(&report)
     }
 }

@@ -24,7 +24,7 @@ use std::ffi::c_void;
 #[repr(C)] #[derive(Clone, Copy, Debug, Default)] pub struct Opened { pub version: i32, pub bytes: usize }
 #[repr(C)] #[derive(Clone, Copy, Debug, Default)] pub struct LogSettings { pub max_body: usize, pub max_text: usize,
     pub max_docs: usize, pub max_changes: usize, pub at: u64, pub encoding: u32, pub lenient: bool, pub squash: bool,
-    pub documents: bool, pub texts: bool, pub bodies: bool, pub has_uri: bool }
+    pub documents: bool, pub texts: bool, pub bodies: bool, pub has_uri: bool, pub brief: bool, pub all: bool }
 #[repr(C)] #[derive(Clone, Copy, Debug, Default)] pub struct Ending { pub status: u32, pub frame: u32, pub missing: u32,
     pub messages: u64, pub refused: u64, pub offset: u64, pub output_len: usize }
 pub const OK: u32 = 0;
@@ -141,6 +141,8 @@ extern "C" {
         frame_len: *mut usize) -> u32;
     pub fn laspidru_log_run(output: *mut Raw, command: u32, settings: *const LogSettings, uri: *const u8, uri_len: usize,
         log: *const u8, log_len: usize, ending: *mut Ending) -> u32;
+    pub fn laspidru_log_compare(output: *mut Raw, settings: *const LogSettings, uri: *const u8, uri_len: usize, saved: *const u8,
+        saved_len: usize, log: *const u8, log_len: usize, ending: *mut Ending) -> u32;
     pub fn laspidru_output_copy(output: *mut Raw, start: usize, out: *mut u8, out_len: usize, copied: *mut usize) -> u32;
 }
 // end of declared

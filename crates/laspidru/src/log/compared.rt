@@ -1,0 +1,85 @@
+//! The function that compares a log with a saved text.
+
+ghost use Rattle.std.specs.Prelude.{◌≡◌, ◌⊎◌, IfOk, None};
+ghost use Rattle.line_diff.specs.Compared.{new_comparison};
+ghost use Rattle.laspidru.specs.Codes.{IsAnswerOrNoMemory, unless};
+ghost use Rattle.laspidru.specs.Comparisons.{ComparisonAsked, IsCompared, comparison_asked};
+ghost use Rattle.laspidru.specs.Logs.{IsUnlessEnded};
+ghost use Rattle.laspidru.specs.Objects.{in_use};
+
+use crate::bytes::checked_text;
+use crate::codes::{IN_USE, OUT_OF_MEMORY, or_return};
+use crate::command::Command;
+use crate::endings::{Ending, LogSettings, log_settings_of};
+use crate::handle::Handle;
+use crate::log::run_into;
+use lsp_replay::{Comparison, Settings};
+use std::alloc::{AllocError, Global};
+
+/// Returns a comparison with a saved text, before the log was read.
+fn comparison_of(alloc: Global, uri: &str, saved: &str) -> Result<Comparison, AllocError>
+    ensures { IfOk result (λ comparison. comparison ≡ new_comparison uri.now saved.now) }
+{
+    let uri = uri.to_string(alloc)?;
+    let saved = saved.to_string(alloc)?;
+    Ok(Comparison::new(uri, saved))
+}
+
+/// Compares a log with a saved text, and puts the output into an empty handle.
+fn compare_into(
+    alloc: Global,
+    handle: &mut Handle,
+    taken: Settings,
+    uri: &str,
+    saved: &str,
+    log: &[u8],
+    out: &mut Ending,
+) -> u32
+    requires { handle.old.value ≡ None }
+    ensures answer { let asked : ComparisonAsked =
+        record { uri = uri.now; saved = saved.now; settings = taken } in
+        (result ≡ OUT_OF_MEMORY)
+        ⊎ IsCompared asked log.now result handle.new.value out.new }
+    ensures unchanged { IsUnlessEnded result
+        ((handle.new.value ≡ handle.old.value) × (out.new ≡ out.old)) }
+{
+    let Ok(comparison) = comparison_of(alloc, uri, saved) else {
+        return OUT_OF_MEMORY;
+    };
+    let command = Command::Compare(comparison);
+    run_into(alloc, handle, command, taken, log, out)
+}
+
+/// Compares the last text of a document of a log with a saved one, and puts the output of
+/// [`lsp_replay::compare`] into an empty handle. The document is the one whose URI ends as `uri`,
+/// and the only one if that has no bytes. After a fault of the log the output has no bytes.
+///
+/// Codes, in this order: IN_USE; NOT_UTF8 of the URI or the saved text; BAD_ENCODING, BAD_MAX_BODY,
+/// BAD_MAX_TEXT, BAD_MAX_DOCS, BAD_MAX_CHANGES; OUT_OF_MEMORY, or the fault: CUT, BAD_FRAME,
+/// BAD_LOG; TOO_MANY_TURNS as of [`laspidru_log_run`](crate::log::laspidru_log_run). Costs that call,
+/// and copies the saved text.
+#[unsafe(no_mangle)]
+pub extern "C" fn laspidru_log_compare(
+    alloc: Global,
+    handle: &mut Handle,
+    settings: &LogSettings,
+    uri: &[u8],
+    saved: &[u8],
+    log: &[u8],
+    out: &mut Ending,
+) -> u32
+    ensures answer { let asked =
+        unless (in_use handle.old.value) (comparison_asked settings.now uri.now saved.now) in
+        IsAnswerOrNoMemory asked result (λ asked.
+        IsCompared asked log.now result handle.new.value out.new) }
+    ensures unchanged { IsUnlessEnded result
+        ((handle.new.value ≡ handle.old.value) × (out.new ≡ out.old)) }
+{
+    if handle.is_full(alloc) {
+        return IN_USE;
+    }
+    let uri = or_return!(checked_text(uri));
+    let saved = or_return!(checked_text(saved));
+    let taken = or_return!(log_settings_of(settings));
+    compare_into(alloc, handle, taken, uri, saved, log, out)
+}
