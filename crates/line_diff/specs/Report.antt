@@ -76,15 +76,15 @@ hunk_words rows lines others hunk =
     ++ words_from (file_line_at others) (hunk.other_end - hunk.other_start) hunk.other_start
 
 -- What follows.
-abbrev pub advice : List ℕ
-advice = codes "For each line, a message named is wrong, or a later one that was to change what it made is missing or wrong.\n"
+abbrev pub last_words : List ℕ
+last_words = codes "For each line, a message named is wrong, or a later one that was to change what it made is missing or wrong.\n"
 
 -- How they differ, line by line. The next common line is sought in 2,000 lines of both.
 unfoldable pub difference_words : List ℕ → List ℕ → List (List ℕ) → List (List ℕ) → List ℕ
 difference_words owners places lines others =
     codes "not the file's:\n"
     ++ flat_map (hunk_words (number_rows owners places lines) lines others)
-    (hunks_of 2000 lines others) ++ advice
+    (hunks_of 2000 lines others) ++ last_words
 
 -- ---- texts that are alike
 

@@ -20,7 +20,7 @@ use std::alloc::{AllocError, Global};
 const FARTHEST: usize = 2_000;
 
 /// What follows from a report.
-const ADVICE: &str =
+const LAST_WORDS: &str =
     "For each line, a message named is wrong, or a later one that was to change what \
 it made is missing or wrong.\n";
 
@@ -246,7 +246,7 @@ fn push_differences(
     let found = hunks_of(alloc, FARTHEST, &lines, &others)?;
     push_words(buffer, "not the file's:\n")?;
     push_hunks(buffer, &rows, &lines, &others, &found)?;
-    push_words(buffer, ADVICE)?;
+    push_words(buffer, LAST_WORDS)?;
     Ok(())
 }
 

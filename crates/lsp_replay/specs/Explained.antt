@@ -111,7 +111,7 @@ abbrev pub first_advice : ℕ → Bool → List ℕ
 first_advice refusals suspicious =
     if refusals == 0 then (if suspicious then
     codes "Nothing was refused; see the notes. `lspsync replay --at N`: the texts after message N.\n"
-    else codes "Nothing was refused. Compare `lspsync replay --uri URI` with the editor's text.\n")
+    else codes "Nothing was refused. `lspsync compare SAVED LOG` says where a saved file differs, and by which messages.\n")
     else
     codes "Refused messages change nothing. `lspsync replay --at N`: the texts after message N.\n"
 

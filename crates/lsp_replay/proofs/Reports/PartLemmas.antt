@@ -101,6 +101,7 @@ module _ (part : PartData) (s t : Session) (r : Record) (verdict : Verdict) (is_
       let opens = opened_at s r verdict is_judged uri opened (uri_is ∙ ap open_read is_read) opened_is in
       ap (refreshed t.server.table) (new_is ∙ ap (found_if part.uri opened) kept_is)
       ∙ found_alike t.server.table old.several (kept_after closed old.text) before part.uri opened old.uri same
-      ∙ ap (λ (o : Option (List ℕ)). refreshed t.server.table (found_if part.uri o (refreshed s.server.table old))) opens
+      ∙ ap (λ (o : Option (List ℕ)). refreshed t.server.table (found_if part.uri o (refreshed s.server.table old)))
+      opens
       ∙ ap (λ (u : Session). refreshed u.server.table (found_if part.uri (opened_in r (judge s r))
       (refreshed s.server.table old))) session

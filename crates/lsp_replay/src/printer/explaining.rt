@@ -313,7 +313,7 @@ fn first_advice(refusals: u64, suspicious: bool) -> &'static str
     if suspicious {
         "Nothing was refused; see the notes. `lspsync replay --at N`: the texts after message N.\n"
     } else {
-        "Nothing was refused. Compare `lspsync replay --uri URI` with the editor's text.\n"
+        "Nothing was refused. `lspsync compare SAVED LOG` says where a saved file differs, and by which messages.\n"
     }
 }
 

@@ -57,7 +57,7 @@ static ROWS: [(&[&str], &str, End, &str); 9] = [
         &[INITIALIZE, THREE_LINES, SECOND_LINE],
         "zero\none\n",
         Ended(1, 3, 0),
-        "\"file:///a\" after message 3: the text is not the file's:\nafter line 0 (made by message 2):\n  the file has: \"zero\\n\"\nline 2 (made by message 3): \"2\\t\\n\"\nline 3 (made by messages 2 and 3): \"three\\n\"\nFor each line, a message named is wrong, or a later one that was to change what it made is missing or wrong.\n",
+        "\"file:///a\" after message 3: the text is not the file's:\nafter line 0 (made by message 2):\n  the file has: \"zero\\n\"\nline 2 (made by message 3): \"2\\t\\n\"\nline 3 (made by message 2): \"three\\n\"\nFor each line, a message named is wrong, or a later one that was to change what it made is missing or wrong.\n",
     ),
     // It was opened again, so each line is of that message.
     (

@@ -88,7 +88,7 @@ const SEE: &str =
 const THREE: &str = "messages of the editor: 3, changed documents: 2\n";
 
 const COMPARE: &str =
-    "Nothing was refused. Compare `lspsync replay --uri URI` with the editor's text.\n";
+    "Nothing was refused. `lspsync compare SAVED LOG` says where a saved file differs, and by which messages.\n";
 
 /// Some notes, with `between` between two of them.
 fn joined(alloc: Global, notes: &[&str], between: &str) -> Result<String, AllocError> {

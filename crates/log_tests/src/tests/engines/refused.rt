@@ -99,7 +99,7 @@ impl Wanted {
     }
 }
 
-static RUNS: [Wanted; 16] = [
+static RUNS: [Wanted; 17] = [
     Wanted {
         command: Command::Serve,
         input: Bytes::Frames(&[SHORT]),
