@@ -289,7 +289,7 @@ fn is_saved_often(alloc: Global) -> Result<bool, Fail> {
     )?;
     let run = run_with(alloc, Command::Explain, &input, settings()?, SMOOTH)?;
     let lines =
-        "messages of the editor: 5, changed documents: 1\nnoted another text saved: 2, first message 4\n";
+        "messages of the editor: 5, changed documents: 1\ndropped: 1, first message 1\nnoted another text saved: 2, first message 4\n";
     let output = format!(in alloc;
         "1 dropped\n2 reply\n3 changed\n4 {OTHER_SAVED} 1 first\n5 ignored\n{lines}{SEE}{HABIT}"
     )?;
