@@ -111,6 +111,7 @@ def codes_said(comment):
     text = "; ".join(it.rstrip(".") for it in kept if not it.startswith(("After ", "With ", "Costs ")))
     text = re.sub(r"(?<=; )(?:[Tt]hen |([A-Z])(?=[a-z ]))", lambda it: (it[1] or "").lower(), text)
     text = text.replace(", which change nothing", "").replace("2^64 - 1", "2^64-1")
+    text = re.sub(r"\[(`\w+`)\]\([^)]*\)", r"\1", text)  # a link of its name alone
     return re.sub(r"those of \[?`laspidru_(\w+)`\]?", r"those of `\1`", text).replace("`laspidru_", "`")
 
 

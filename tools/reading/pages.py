@@ -6,6 +6,8 @@ from .closures import Closure, Target, Unknown, definition_named, target_named
 from .tokens import Token
 
 OTHERS = ("tokens", "users", "inside")
+# A name in docs/PROVED.md, and how long its page is said to be
+LENGTHS = re.compile(r"`([^`]+)`(?::| \() ?([\d,]+ lines, [\d,]+ in all)\)")
 
 
 def words_of(text):
@@ -124,6 +126,11 @@ class Pages:
                 yield f"tools/pages: no point under \"In short\" of docs/PROVED.md begins with \"{sentence}\""
             elif (wanted := f"(`{page.of[0]}`: {page.most} lines, {self.size_in_all(page):,} in all)") not in points[sentence]:
                 yield f"docs/PROVED.md doesn't say \"{wanted}\" at \"{sentence}\""
+        for name, lines in LENGTHS.findall(" ".join(proved.split())):
+            if not (page := self.page_of(name)):
+                yield f"docs/PROVED.md says how long the page of `{name}` is, and there is none"
+            elif lines != (wanted := f"{self.closure_of(page).size} lines, {self.size_in_all(page):,} in all"):
+                yield f"docs/PROVED.md says \"{lines}\" of `{name}`: {wanted}"
 
     def faults_of(self, page):
         closure = self.closure_of(page)

@@ -491,7 +491,8 @@ laspidru_u32 laspidru_output_copy(laspidru_handle *output, laspidru_size start,
    document_position: INSIDE_CHARACTER, also for an offset between CR and LF or past the end
    framer_feed: FAILED; OUT_OF_MEMORY, or BAD_FRAME
    framer_new: IN_USE, BAD_MAX_BODY; OUT_OF_MEMORY
-   log_compare: IN_USE; NOT_UTF8 of the URI or the saved text; those of log_run from BAD_ENCODING on, without BODY_TOO_LONG
+   log_compare: IN_USE; NOT_UTF8 of the URI or the saved text; BAD_ENCODING, BAD_MAX_BODY, BAD_MAX_TEXT, BAD_MAX_DOCS,
+      BAD_MAX_CHANGES; OUT_OF_MEMORY, or the fault: CUT, BAD_FRAME, BAD_LOG; TOO_MANY_TURNS as of log_run
    log_run: IN_USE; OUT_OF_RANGE of the command; NOT_UTF8 of the URI; BAD_ENCODING, BAD_MAX_BODY, BAD_MAX_TEXT,
       BAD_MAX_DOCS, BAD_MAX_CHANGES; OUT_OF_MEMORY, or the fault: CUT, BAD_FRAME, BAD_LOG, of normalise also
       BODY_TOO_LONG; TOO_MANY_TURNS is for more than 2^64-1 reads and writes
