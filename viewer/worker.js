@@ -88,24 +88,30 @@ function linesOf(gathered) {
   };
 }
 
-/** The program's standard input, which is the log, and its outputs. A browser reads few long pieces faster than many short ones. */
-function systemOf(log, gathered, take, said) {
-  const reader = new FileReaderSync(), refuse = () => { throw Object.assign(new Error("no file"), { code: "ENOENT" }); };
-  let piece = new Uint8Array();
+/** The files that the program can open, by their names, of which `log` is read piece by piece; and its outputs. A browser reads few long pieces
+ * faster than many short ones. */
+function systemOf(files, log, gathered, take, said) {
+  const reader = new FileReaderSync(), opened = [];
   return {
-    read(file, bytes) {
-      if (!piece.length) piece = new Uint8Array(reader.readAsArrayBuffer(log.slice(gathered.read, gathered.read + LONGEST_PIECE)));
-      const part = piece.subarray(0, bytes.length);
+    open(name) {
+      if (!files.has(name)) throw Object.assign(new Error("no file"), { code: "ENOENT" });
+      return opened.push({ name, read: 0, piece: new Uint8Array() }) + 2; // (0 to 2 are the standard ones)
+    },
+    read(number, bytes) {
+      const file = opened[number - 3];
+      if (!file.piece.length) file.piece = new Uint8Array(reader.readAsArrayBuffer(files.get(file.name).slice(file.read, file.read + LONGEST_PIECE)));
+      const part = file.piece.subarray(0, bytes.length);
       bytes.set(part);
-      piece = piece.subarray(part.length);
-      gathered.read += part.length;
+      file.piece = file.piece.subarray(part.length);
+      file.read += part.length;
+      if (file.name === log) gathered.read = file.read;
       return part.length;
     },
-    write(file, bytes) {
-      if (file === 1) take(bytes); else said.push(bytes.slice());
+    write(number, bytes) {
+      if (number === 1) take(bytes); else said.push(bytes.slice());
       return bytes.length;
     },
-    open: refuse, close: refuse, isTerminal: () => false,
+    close() {}, isTerminal: () => false,
   };
 }
 
@@ -123,12 +129,15 @@ async function compiled(engine) {
   }
 }
 
-onmessage = async ({ data: { engine, words, log, isTrace } }) => {
+onmessage = async ({ data: { engine, words, files, isTrace } }) => {
   const gathered = new Gathered(), said = [], take = isTrace ? linesOf(gathered) : piece => gathered.add(piece.slice(), piece.length);
+  const log = words.at(-1);
   try {
-    const blob = typeof log === "string" ? await unpacked(log).blob() : log;
-    postMessage({ log: blob });
-    const status = runProgram(await compiled(engine), ["lspsync", ...words], systemOf(blob, gathered, take, said));
+    if (typeof files.get(log) === "string") {
+      files.set(log, await unpacked(files.get(log)).blob());
+      postMessage({ log: files.get(log) });
+    }
+    const status = runProgram(await compiled(engine), ["lspsync", ...words], systemOf(files, log, gathered, take, said));
     gathered.post();
     postMessage({ status: gathered.fault ? -1 : status, said: gathered.fault || await new Blob(said).text() });
   } catch (error) {
