@@ -2,6 +2,8 @@
 // What the page's worker does: it runs lspsync, a WebAssembly module, on a log. viewer/page puts bindings/node/program.js before this.
 
 const LONGEST_BODY = 20000, SHORTENED_BODY = 2000, MOST_BODIES = 2e8, MOST_GATHERED = 1 << 18, LONGEST_PIECE = 1 << 20, BETWEEN_POSTS = 50;
+// How many bytes of the page's memory all records may take, of which a browser has 4 GB, and about how many one takes besides its texts.
+const MOST_KEPT = 2.5e9, OF_A_RECORD = 1000;
 const SIMD = Uint8Array.of(0, 97, 115, 109, 1, 0, 0, 0, 1, 5, 1, 96, 0, 1, 123, 3, 2, 1, 0, 10, 10, 1, 8, 0, 65, 0, 253, 15, 253, 98, 11);
 const LACKS = "This browser's WebAssembly has no vectors of 128 bits (SIMD). Chrome and Edge 97, Firefox 102, Safari 16.4 and newer ones do.";
 
@@ -31,14 +33,16 @@ function leaveOut(changes, text) {
 }
 
 /** Makes a line of the trace what the page keeps: of a text what differs from the one before, of `canonical` the changes. `kept` has the texts,
- * and how long the bodies are together that concern no document: past a bound all long ones are shortened. */
+ * about how many bytes all takes, and how long the bodies are together that concern no document: past a bound all long ones are shortened. */
 function shorten(record, kept) {
   const { text, uri, body, canonical } = record, changes = canonical?.params?.contentChanges, params = body?.params;
   delete record.text;
   delete record.canonical;
+  kept.size += OF_A_RECORD;
   if (Array.isArray(changes)) record.canonical = changes;
   if (text !== undefined) {
     record.delta = delta(kept.texts.get(uri) ?? "", text);
+    kept.size += 3 * record.delta[2].length; // (`canonical` and `body` may have it too)
     kept.texts.set(uri, text);
     for (const list of [changes, params?.contentChanges, [params?.textDocument]]) leaveOut(list, text);
   } else if (record.method === "textDocument/didSave") {
@@ -46,6 +50,7 @@ function shorten(record, kept) {
   } else if (uri === undefined && body !== undefined) {
     const written = JSON.stringify(body), isLong = written.length > (kept.bodies > MOST_BODIES ? SHORTENED_BODY : LONGEST_BODY);
     kept.bodies += isLong ? SHORTENED_BODY : written.length;
+    kept.size += isLong ? SHORTENED_BODY : written.length;
     if (isLong) record.body = `${written.slice(0, SHORTENED_BODY)} … (${written.length} characters in all)`;
   }
   return record;
@@ -64,14 +69,14 @@ class Gathered {
   }
 
   post() {
-    postMessage({ parts: this.parts, read: this.read });
+    postMessage({ parts: this.parts, read: this.read }, this.parts.filter(ArrayBuffer.isView).map(({ buffer }) => buffer));
     Object.assign(this, { parts: [], size: 0, posted: performance.now() });
   }
 }
 
 /** Takes the trace piece by piece, and gives its lines as records, up to one that is none. */
 function linesOf(gathered) {
-  const kept = { texts: new Map(), bodies: 0 }, decoder = new TextDecoder("utf-8", { ignoreBOM: true });
+  const kept = { texts: new Map(), bodies: 0, size: 0 }, decoder = new TextDecoder("utf-8", { ignoreBOM: true });
   let line = "", count = 0;
   return piece => {
     for (let end; !gathered.fault && (end = piece.indexOf(10)) >= 0; piece = piece.subarray(end + 1)) {
@@ -80,7 +85,10 @@ function linesOf(gathered) {
       try {
         gathered.add(shorten(JSON.parse(line), kept), line.length);
       } catch {
-        gathered.fault = `Line ${count} of what the program wrote is no line of a trace.`; // (program.js takes what is thrown for a failed write)
+        gathered.fault = `Line ${count} of what the program wrote is no line of a trace.`;
+      }
+      if (kept.size > MOST_KEPT) {
+        gathered.fault = `The log is too large to be shown whole: these are its first ${count} messages. The commands above read all of it.`;
       }
       line = "";
     }
@@ -109,6 +117,7 @@ function systemOf(files, log, gathered, take, said) {
     },
     write(number, bytes) {
       if (number === 1) take(bytes); else said.push(bytes.slice());
+      if (gathered.fault) throw new Error(gathered.fault); // (which is a failed write to the program: it ends)
       return bytes.length;
     },
     close() {}, isTerminal: () => false,
@@ -121,9 +130,13 @@ function unpacked(text) {
   return new Response(new Blob([bytes]).stream().pipeThrough(new DecompressionStream("gzip")));
 }
 
+/** The module, which a browser's later workers take as the first one has compiled it. */
 async function compiled(engine) {
+  if (typeof engine !== "string") return engine;
   try {
-    return await WebAssembly.compile(await unpacked(engine).arrayBuffer());
+    const module = await WebAssembly.compile(await unpacked(engine).arrayBuffer());
+    postMessage({ engine: module });
+    return module;
   } catch (error) {
     throw globalThis.WebAssembly?.validate(SIMD) ? error : new Error(LACKS);
   }
