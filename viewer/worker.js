@@ -1,7 +1,7 @@
 "use strict";
 // What the page's worker does: it runs lspsync, a WebAssembly module, on a log. viewer/page puts bindings/node/program.js before this.
 
-const LONGEST_BODY = 20000, SHORTENED_BODY = 2000, MOST_BODIES = 2e8, MOST_GATHERED = 1 << 18, LONGEST_PIECE = 1 << 20, BETWEEN_POSTS = 50;
+const LONGEST_BODY = 20000, SHORTENED_BODY = 2000, MOST_BODIES = 2e8, MOST_GATHERED = 1 << 18, LONGEST_PIECE = 1 << 23, BETWEEN_POSTS = 50;
 // How many bytes of the page's memory all records may take, of which a browser has 4 GB, and about how many one takes besides its texts.
 const MOST_KEPT = 2.5e9, OF_A_RECORD = 1000;
 const SIMD = Uint8Array.of(0, 97, 115, 109, 1, 0, 0, 0, 1, 5, 1, 96, 0, 1, 123, 3, 2, 1, 0, 10, 10, 1, 8, 0, 65, 0, 253, 15, 253, 98, 11);
