@@ -1,7 +1,9 @@
 "use strict";
 // What the page's worker does: it runs lspsync, a WebAssembly module, on a log. viewer/page puts bindings/node/program.js before this.
 
-const LONGEST_BODY = 20000, SHORTENED_BODY = 2000, MOST_BODIES = 2e8, MOST_GATHERED = 1 << 18, LONGEST_PIECE = 1 << 20, BETWEEN_POSTS = 50;
+const LONGEST_BODY = 20000, SHORTENED_BODY = 2000, MOST_BODIES = 2e8, MOST_GATHERED = 1 << 18, LONGEST_PIECE = 1 << 23, BETWEEN_POSTS = 50;
+// How many bytes of the page's memory all records may take, of which a browser has 4 GB, and about how many one takes besides its texts.
+const MOST_KEPT = 2.5e9, OF_A_RECORD = 1000;
 const SIMD = Uint8Array.of(0, 97, 115, 109, 1, 0, 0, 0, 1, 5, 1, 96, 0, 1, 123, 3, 2, 1, 0, 10, 10, 1, 8, 0, 65, 0, 253, 15, 253, 98, 11);
 const LACKS = "This browser's WebAssembly has no vectors of 128 bits (SIMD). Chrome and Edge 97, Firefox 102, Safari 16.4 and newer ones do.";
 
@@ -31,14 +33,16 @@ function leaveOut(changes, text) {
 }
 
 /** Makes a line of the trace what the page keeps: of a text what differs from the one before, of `canonical` the changes. `kept` has the texts,
- * and how long the bodies are together that concern no document: past a bound all long ones are shortened. */
+ * about how many bytes all takes, and how long the bodies are together that concern no document: past a bound all long ones are shortened. */
 function shorten(record, kept) {
   const { text, uri, body, canonical } = record, changes = canonical?.params?.contentChanges, params = body?.params;
   delete record.text;
   delete record.canonical;
+  kept.size += OF_A_RECORD;
   if (Array.isArray(changes)) record.canonical = changes;
   if (text !== undefined) {
     record.delta = delta(kept.texts.get(uri) ?? "", text);
+    kept.size += 3 * record.delta[2].length; // (`canonical` and `body` may have it too)
     kept.texts.set(uri, text);
     for (const list of [changes, params?.contentChanges, [params?.textDocument]]) leaveOut(list, text);
   } else if (record.method === "textDocument/didSave") {
@@ -46,6 +50,7 @@ function shorten(record, kept) {
   } else if (uri === undefined && body !== undefined) {
     const written = JSON.stringify(body), isLong = written.length > (kept.bodies > MOST_BODIES ? SHORTENED_BODY : LONGEST_BODY);
     kept.bodies += isLong ? SHORTENED_BODY : written.length;
+    kept.size += isLong ? SHORTENED_BODY : written.length;
     if (isLong) record.body = `${written.slice(0, SHORTENED_BODY)} … (${written.length} characters in all)`;
   }
   return record;
@@ -64,14 +69,14 @@ class Gathered {
   }
 
   post() {
-    postMessage({ parts: this.parts, read: this.read });
+    postMessage({ parts: this.parts, read: this.read }, this.parts.filter(ArrayBuffer.isView).map(({ buffer }) => buffer));
     Object.assign(this, { parts: [], size: 0, posted: performance.now() });
   }
 }
 
 /** Takes the trace piece by piece, and gives its lines as records, up to one that is none. */
 function linesOf(gathered) {
-  const kept = { texts: new Map(), bodies: 0 }, decoder = new TextDecoder("utf-8", { ignoreBOM: true });
+  const kept = { texts: new Map(), bodies: 0, size: 0 }, decoder = new TextDecoder("utf-8", { ignoreBOM: true });
   let line = "", count = 0;
   return piece => {
     for (let end; !gathered.fault && (end = piece.indexOf(10)) >= 0; piece = piece.subarray(end + 1)) {
@@ -80,7 +85,10 @@ function linesOf(gathered) {
       try {
         gathered.add(shorten(JSON.parse(line), kept), line.length);
       } catch {
-        gathered.fault = `Line ${count} of what the program wrote is no line of a trace.`; // (program.js takes what is thrown for a failed write)
+        gathered.fault = `Line ${count} of what the program wrote is no line of a trace.`;
+      }
+      if (kept.size > MOST_KEPT) {
+        gathered.fault = `The log is too large to be shown whole: these are its first ${count} messages. The commands above read all of it.`;
       }
       line = "";
     }
@@ -88,24 +96,31 @@ function linesOf(gathered) {
   };
 }
 
-/** The program's standard input, which is the log, and its outputs. A browser reads few long pieces faster than many short ones. */
-function systemOf(log, gathered, take, said) {
-  const reader = new FileReaderSync(), refuse = () => { throw Object.assign(new Error("no file"), { code: "ENOENT" }); };
-  let piece = new Uint8Array();
+/** The files that the program can open, by their names, of which `log` is read piece by piece; and its outputs. A browser reads few long pieces
+ * faster than many short ones. */
+function systemOf(files, log, gathered, take, said) {
+  const reader = new FileReaderSync(), opened = [];
   return {
-    read(file, bytes) {
-      if (!piece.length) piece = new Uint8Array(reader.readAsArrayBuffer(log.slice(gathered.read, gathered.read + LONGEST_PIECE)));
-      const part = piece.subarray(0, bytes.length);
+    open(name) {
+      if (!files.has(name)) throw Object.assign(new Error("no file"), { code: "ENOENT" });
+      return opened.push({ name, read: 0, piece: new Uint8Array() }) + 2; // (0 to 2 are the standard ones)
+    },
+    read(number, bytes) {
+      const file = opened[number - 3];
+      if (!file.piece.length) file.piece = new Uint8Array(reader.readAsArrayBuffer(files.get(file.name).slice(file.read, file.read + LONGEST_PIECE)));
+      const part = file.piece.subarray(0, bytes.length);
       bytes.set(part);
-      piece = piece.subarray(part.length);
-      gathered.read += part.length;
+      file.piece = file.piece.subarray(part.length);
+      file.read += part.length;
+      if (file.name === log) gathered.read = file.read;
       return part.length;
     },
-    write(file, bytes) {
-      if (file === 1) take(bytes); else said.push(bytes.slice());
+    write(number, bytes) {
+      if (number === 1) take(bytes); else said.push(bytes.slice());
+      if (gathered.fault) throw new Error(gathered.fault); // (which is a failed write to the program: it ends)
       return bytes.length;
     },
-    open: refuse, close: refuse, isTerminal: () => false,
+    close() {}, isTerminal: () => false,
   };
 }
 
@@ -115,20 +130,27 @@ function unpacked(text) {
   return new Response(new Blob([bytes]).stream().pipeThrough(new DecompressionStream("gzip")));
 }
 
+/** The module, which a browser's later workers take as the first one has compiled it. */
 async function compiled(engine) {
+  if (typeof engine !== "string") return engine;
   try {
-    return await WebAssembly.compile(await unpacked(engine).arrayBuffer());
+    const module = await WebAssembly.compile(await unpacked(engine).arrayBuffer());
+    postMessage({ engine: module });
+    return module;
   } catch (error) {
     throw globalThis.WebAssembly?.validate(SIMD) ? error : new Error(LACKS);
   }
 }
 
-onmessage = async ({ data: { engine, words, log, isTrace } }) => {
+onmessage = async ({ data: { engine, words, files, isTrace } }) => {
   const gathered = new Gathered(), said = [], take = isTrace ? linesOf(gathered) : piece => gathered.add(piece.slice(), piece.length);
+  const log = words.at(-1);
   try {
-    const blob = typeof log === "string" ? await unpacked(log).blob() : log;
-    postMessage({ log: blob });
-    const status = runProgram(await compiled(engine), ["lspsync", ...words], systemOf(blob, gathered, take, said));
+    if (typeof files.get(log) === "string") {
+      files.set(log, await unpacked(files.get(log)).blob());
+      postMessage({ log: files.get(log) });
+    }
+    const status = runProgram(await compiled(engine), ["lspsync", ...words], systemOf(files, log, gathered, take, said));
     gathered.post();
     postMessage({ status: gathered.fault ? -1 : status, said: gathered.fault || await new Blob(said).text() });
   } catch (error) {

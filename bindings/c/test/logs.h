@@ -208,11 +208,12 @@ static void test_compare(void) {
     CHECK(compares("/a", "!ab\nXYd", log, LASPIDRU_OK, "\"file:///a\" after message 4: the text is the file's\n", &ending));
     CHECK(is_outcome(ending, 0, 4, 0));
     CHECK(compares("", "!ab\r\nXYd", log, LASPIDRU_OK,
-                   "\"file:///a\" after message 4: the text is the file's, but for\n  line ends\n", &ending));
+                   "\"file:///a\" after message 4: the text is the file's, but for\n  line ends, the first of them made by message 2\n", &ending));
     CHECK(is_outcome(ending, 1, 4, 0));
     CHECK(compares("file:///a", "!ab\nXY", log, LASPIDRU_OK,
-                   "\"file:///a\" after message 4: the text is not the file's:\nline 2 (made by message 3): \"XYd\"\n"
-                   "  the file has: \"XY\"\nOf each line the message that is named is wrong, or after it one is missing.\n", &ending));
+                   "\"file:///a\" after message 4: the text is not the file's:\nline 2 (made by messages 2 and 3): \"XYd\"\n"
+                   "  the file has: \"XY\"\n"
+                   "For each line, a message named is wrong, or a later one that was to change what it made is missing or wrong.\n", &ending));
     CHECK(is_outcome(ending, 1, 4, 0));
     CHECK(compares("a", "ab\nXYd", log_of(stale), LASPIDRU_OK, "\"file:///a\" after message 3: the text is the file's\n", &ending));
     CHECK(is_outcome(ending, 0, 4, 1));
