@@ -10,7 +10,7 @@ use Rattle.clap.specs.declared.error.kind.ErrorKind.{ErrorKind}
 use Rattle.clap.specs.declared.error.kind.ErrorKind.TheVariants as kind
 use Rattle.lsp_stream.specs.declared.fault.EngineFault.{EngineFault}
 use Rattle.lsp_stream.specs.declared.fault.EngineFault.TheVariants.{Read, Write, NoMemory, TooManyTurns}
-use Rattle.lsp_stream.specs.Ports.{Ports, ReaderState, WriterState, ports}
+use Rattle.lsp_stream.specs.Ports.{Ports, ReaderState, WriterState, ports, uncounted}
 use Rattle.lsp_program.specs.Output.{IsFlushed, IsPrinted, IsTextPrinted, Streams, allowed_turns}
 use Rattle.lsp_replay.specs.declared.outcome.Missing.{Missing}
 use Rattle.lsp_replay.specs.declared.outcome.Missing.TheVariants as missing
@@ -172,7 +172,8 @@ IsFileEnding name (Err fault) before after ending =
 
 -- What is known of a file that was opened, of which these bytes may be known.
 abbrev pub file_opened : Option (List ℕ) → ReaderState
-file_opened left = record { left = left; failed = false; calls = 0; ended = false }
+file_opened left =
+    record { left = left; failed = false; calls = 0; calls_left = uncounted 0; ended = false }
 
 -- The engine of a call ran over a file from its beginning on. Of its bytes this may be known.
 pub record IsFileRun (asked : Call) (name : List ℕ) (known : Option (List ℕ))
