@@ -137,7 +137,8 @@ returns-in_err-end-clause-run g c =
             rose_more _ _ _ c.pieces.invariant.spent.writes failed.1,
           )) (λ _ error. (c.pieces.invariant.at_end (c.pieces.invariant.ended.0 error), c.pieces.invariant.rose)));
       few = rw (p.1, p.2) (few_fault _ _ _ c.pieces.invariant.few_reads
-          (λ other. more_writes _ _ _ c.pieces.invariant.few_writes
+          (λ other. more_writes (g.W.Sink.seen c.args.ends.now.writer.now)
+          (g.W.Sink.seen c.pieces.ends.writer.now) (g.W.Sink.seen c.take_piece.new.writer) c.pieces.invariant.few_writes
           ((rw c.writer.ensures.value at c.in_err-end.ensures.few.error) other)));
       none_passed_over = rw (
         p.1,
@@ -176,7 +177,8 @@ returns-in-Some-clause-run g c =
           }) (g.H.Handler.run_output c.args.handler.now) (g.W.Sink.seen c.args.ends.now.writer.now).written input w))
           c.pieces.invariant.runs;
       called = search rules;
-      few = few_ok _ _ _ c.pieces.invariant.few_reads (more_writes _ _ _ c.pieces.invariant.few_writes
+      few = few_ok _ _ _ c.pieces.invariant.few_reads (more_writes (g.W.Sink.seen c.args.ends.now.writer.now)
+          (g.W.Sink.seen c.pieces.ends.writer.now) (g.W.Sink.seen c.take_piece.new.writer) c.pieces.invariant.few_writes
           (rw c.writer.ensures.value at c.in_ok-end.ensures.few.ok));
       none_passed_over = search rules;
       all_flushed = λ holds _ _ before. (rw c.writer.ensures.value at c.in_ok-end.ensures.all_flushed.flushed) holds
@@ -218,8 +220,9 @@ returns-then-ended-clause-run g c =
           }) (g.H.Handler.run_output c.args.handler.now) (g.W.Sink.seen c.args.ends.now.writer.now).written input w))
           c.pieces.invariant.runs);
       called = search rules;
-      few = few_result _ _ _ c.finish_run.result c.pieces.invariant.few_reads
-          (more_writes _ _ _ c.pieces.invariant.few_writes
+      few = few_result _ _ (g.W.Sink.seen c.take_piece.new.writer) c.finish_run.result c.pieces.invariant.few_reads
+          (more_writes (g.W.Sink.seen c.args.ends.now.writer.now)
+          (g.W.Sink.seen c.pieces.ends.writer.now) (g.W.Sink.seen c.take_piece.new.writer) c.pieces.invariant.few_writes
           (rw c.writer.ensures.value at c.in_ok-end.ensures.few.ok))
           (rw c.writer-then-ended.ensures.value at c.finish_run.ensures.few.ok)
           (rw c.writer-then-ended.ensures.value at c.finish_run.ensures.few.error);
@@ -290,7 +293,8 @@ returns-in_err-to-clause-run g c =
       few = rw (p.1, p.2) (few_fault _ _ _ (more_reads _ _ _ c.pieces.invariant.few_reads
           (not_at_end (g.R.Source.seen c.pieces.ends.reader.now).ended c.pieces.ended c.pieces.invariant.ended.0
           c.if-ended.false) (rw c.reader-in-pieces.ensures.value at c.in_err-to.ensures.few))
-          (λ _. more_writes _ _ _ c.pieces.invariant.few_writes
+          (λ _. more_writes (g.W.Sink.seen c.args.ends.now.writer.now)
+          (g.W.Sink.seen c.pieces.ends.writer.now) (g.W.Sink.seen c.take_piece.new.writer) c.pieces.invariant.few_writes
           (rw c.writer.ensures.value at c.in_ok-end.ensures.few.ok)));
       none_passed_over = rw (
         p.1,
@@ -367,7 +371,8 @@ pieces-preserved g c =
       few_reads = more_reads _ _ _ c.pieces.invariant.few_reads
           (not_at_end (g.R.Source.seen c.pieces.ends.reader.now).ended c.pieces.ended c.pieces.invariant.ended.0
           c.if-ended.false) (rw c.reader-in-pieces.ensures.value at c.in_ok-to.ensures.few);
-      few_writes = more_writes _ _ _ c.pieces.invariant.few_writes
+      few_writes = more_writes (g.W.Sink.seen c.args.ends.now.writer.now)
+          (g.W.Sink.seen c.pieces.ends.writer.now) (g.W.Sink.seen c.take_piece.new.writer) c.pieces.invariant.few_writes
           (rw c.writer.ensures.value at c.in_ok-end.ensures.few.ok);
       spent = both_reads _ _ _ _ _ _ _ _ (both_writes _ _ _ _ _ _ _ _ c.pieces.invariant.spent
           (rw c.writer.ensures.value at c.in_ok-end.ensures.calls.spent))
