@@ -10,8 +10,8 @@ use crate::endings::LogSettings;
 use crate::log_reader::LogReader;
 use crate::log_writer::LogWriter;
 use lsp_replay::{
-    Details, EngineFault, Listing, Outcome, Part, Settings, check, convert, explain,
-    normalise, normalise_documents, replay, replay_part, trace,
+    Details, EngineFault, Listing, Outcome, Part, Settings, check, convert, explain, normalise,
+    normalise_documents, replay, replay_part, trace,
 };
 use std::alloc::{AllocError, Global};
 
