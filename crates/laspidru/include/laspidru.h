@@ -62,7 +62,7 @@ enum {
     LASPIDRU_BODY_TOO_LONG = 22, /* the canonical message of a change has a longer body than max_body */
     LASPIDRU_BAD_LOG = 23,       /* what is there belongs in no log, or for LASPIDRU_CONVERT in none of version 1 */
 
-    LASPIDRU_TOO_MANY_TURNS = 24, /* as many reads and writes as are allowed, 2^64 - 1; nothing has changed */
+    LASPIDRU_TOO_MANY_TURNS = 24, /* no call returns it: no log needs as many reads and writes */
     LASPIDRU_OVERLAP = 25,        /* two text edits overlap */
     LASPIDRU_FAILED = 26,         /* LASPIDRU_BAD_FRAME was returned of this stream before */
     LASPIDRU_NO_MESSAGE = 27,     /* no whole message is buffered */
@@ -494,7 +494,7 @@ laspidru_u32 laspidru_output_copy(laspidru_handle *output, laspidru_size start,
    log_compare: IN_USE; NOT_UTF8 of the URI or the saved text; those of log_run from BAD_ENCODING on, without BODY_TOO_LONG
    log_run: IN_USE; OUT_OF_RANGE of the command; NOT_UTF8 of the URI; BAD_ENCODING, BAD_MAX_BODY, BAD_MAX_TEXT,
       BAD_MAX_DOCS, BAD_MAX_CHANGES; OUT_OF_MEMORY, or the fault: CUT, BAD_FRAME, BAD_LOG, of normalise also
-      BODY_TOO_LONG; TOO_MANY_TURNS is for more than 2^64-1 reads and writes
+      BODY_TOO_LONG
    message_uri: OUT_OF_MEMORY; NO_DOCUMENT of any other body, OUT_OF_RANGE
    open_batch_of_edits: NOT_OPEN, TOO_LONG; OUT_OF_MEMORY, or the fault, as of document_batch_of_edits
    open_canonical_message: OUT_OF_MEMORY, or NOT_OPEN, STALE_VERSION, TOO_MANY_CHANGES, INSIDE_CHARACTER,

@@ -2,7 +2,7 @@
 use Rattle.std.specs.Prelude.{ℕ, ◌≡◌, true, false, [], List, Option, Some, option_map, Ok}
 use Rattle.std.specs.Io.KnownBytes.{Keeps}
 use Rattle.std.specs.String.{string_bytes}
-use Rattle.lsp_stream.specs.Ports.{ReaderState, WriterState, ports}
+use Rattle.lsp_stream.specs.Ports.{ReaderState, WriterState, ports, uncounted}
 use Rattle.lsp_program.specs.Output.{allowed_turns}
 use Rattle.lsp_replay.specs.declared.outcome.Missing.{Missing}
 use Rattle.lsp_replay.specs.declared.outcome.Missing.TheVariants as missing
@@ -23,11 +23,13 @@ IsWanted asked wanted = ⊥
 
 -- What is known of a file that was opened, of which these bytes may be known.
 abbrev pub file_opened : Option (List ℕ) → ReaderState
-file_opened left = record { left = left; failed = false; calls = 0; ended = false }
+file_opened left =
+    record { left = left; failed = false; calls = 0; calls_left = uncounted 0; ended = false }
 
 -- Nothing was written so far.
 abbrev pub nothing_written : WriterState
-nothing_written = record { written = Some []; failed = false; calls = 0; flushed = true }
+nothing_written =
+    record { written = Some []; failed = false; calls = 0; calls_left = uncounted 0; flushed = true }
 
 -- These words are the list of the documents of a file with these bytes, where they are known.
 pub record IsListOf (wanted : Wanted) (left : Option (List ℕ)) (words : List ℕ) : Type 0 where
