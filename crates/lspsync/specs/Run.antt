@@ -27,6 +27,7 @@ use Rattle.lspsync.specs.declared.command_line.Call.TheVariants as call
 use Rattle.lspsync.specs.declared.ends.Ending.{Ending}
 use Rattle.lspsync.specs.declared.command_line.Task.{Task}
 use Rattle.lspsync.specs.Call.{AreWordsReadAs, file_of, saved_of}
+use Rattle.lspsync.specs.Encodings.{IsHinted, file_opened}
 use Rattle.lspsync.specs.Loaded.{with_text}
 use Rattle.lspsync.specs.FaultText.{blame_text, fault_cause, fault_text}
 
@@ -170,10 +171,6 @@ IsFileEnding name (Err Read) before after ending =
 IsFileEnding name (Err fault) before after ending =
     IsBlamed name fault (fault_cause fault) before after ending
 
--- What is known of a file that was opened, of which these bytes may be known.
-abbrev pub file_opened : Option (List ℕ) → ReaderState
-file_opened left = record { left = left; failed = false; calls = 0; ended = false }
-
 -- The engine of a call ran over a file from its beginning on. Of its bytes this may be known.
 pub record IsFileRun (asked : Call) (name : List ℕ) (known : Option (List ℕ))
     (before after errors_before errors : WriterState) (ending : Ending) : Type 0 where
@@ -183,7 +180,11 @@ pub record IsFileRun (asked : Call) (name : List ℕ) (known : Option (List ℕ)
   pub file : ReaderState
   pub answer : Result Outcome EngineFault
   pub performed : IsPerformed asked (ports (file_opened left) before) (ports file after) answer
-  pub ends : IsFileEnding name answer errors_before errors ending
+  -- standard error and the ending before a hint
+  pub between : WriterState
+  pub one : Ending
+  pub ends : IsFileEnding name answer errors_before between one
+  pub hint : IsHinted asked name known between errors one ending
 
 -- The engine ran over a file; or the file couldn't be opened, and then nothing is written.
 abbrev pub IsFileDone : Call → List ℕ → Option (List ℕ) → WriterState → WriterState →

@@ -9,6 +9,7 @@ ghost use Rattle.lspsync.specs.Run.{status_of};
 
 use crate::beginning::hint;
 use crate::command_line::Call;
+use crate::encodings::Comparing;
 use crate::ends::{Ending, end_well, report, say, status_of};
 use crate::fault_text::{cause_of, text_of};
 use crate::run::perform;
@@ -32,6 +33,9 @@ pub trait Folder {
 
 /// How many bytes of a log's beginning are kept.
 const KEPT: usize = 64;
+
+/// The status of `compare` if the texts differ.
+const DIFFERS: u8 = 1;
 
 /// A log that is read from a file. It keeps what is said of a faulty one: the first bytes, and the
 /// last error of a read.
@@ -81,8 +85,15 @@ pub fn run_file<F: Folder, W: Sink, E: Sink>(
                 first: Vec::new(alloc),
                 error: None,
             });
+            let comparing = Comparing::of(alloc, &call);
             let answer = perform(alloc, call, &mut log, output);
-            end_file(alloc, name, &log.into_inner(), answer, errors)
+            let ending = end_file(alloc, name, &log.into_inner(), answer, errors);
+            match comparing {
+                Some(comparing) if ending.status == DIFFERS => {
+                    comparing.hint(alloc, name, folder, ending, errors)
+                }
+                _ => ending,
+            }
         }
         Err(error) => unreadable(alloc, name, error, errors),
     }

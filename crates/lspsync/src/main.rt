@@ -4,6 +4,7 @@
 //! - `run`: the program over any reader, folder and writers; the engines are those of `lsp_replay`.
 //! - `files`: files of logs, by their names.
 //! - `ends`: how a run ends, and what is said of it.
+//! - `encodings`: by which other encoding of positions a log gives a saved text.
 //! - `live`: the commands that may flush what they print before more is read.
 //! - `command_line`: the words that the program is called with.
 //! - `fault_text`: the text of a fault's line, and its cause.
@@ -13,6 +14,7 @@
 
 mod beginning;
 mod command_line;
+mod encodings;
 mod ends;
 mod fault_text;
 mod files;

@@ -3,7 +3,7 @@
 use super::*;
 use crate::process::Announced;
 use lsp_replay::CallEnd::{Fail as Fails, Take};
-use lsp_samples::bodies::{INITIALIZE, OPEN, WHOLE};
+use lsp_samples::bodies::{AFTER_ONE_UNIT, INITIALIZE, OPEN, OPEN_EMOJI, WHOLE};
 use lsp_samples::logs::log;
 use std::io::Read;
 use std::test::Fail;
@@ -41,14 +41,27 @@ const SAME: &str = "\"file:///a\" after message 3: the text is the file's\n";
 const OTHER: &str =
     "\"file:///a\" after message 3: the text is not the file's:\nline 1 (made by message 3): \"aXc\"\n  the file has: \"abc\\n\"\nOf each line the message that is named is wrong, or after it one is missing.\n";
 
+/// The change is refused in UTF-16, where it is inside the character, and in UTF-32 it isn't.
+const EMOJI: &str =
+    "\"file:///a\" after message 2: the text is not the file's:\nline 1 (made by message 2): \"😀\"\n  the file has: \"😀b\"\nOf each line the message that is named is wrong, or after it one is missing.\n";
+
+const BY_UTF_32: &str = "lspsync: emoji.log: with `--encoding utf-32` the texts are equal\n";
+
 const BYTES: &str = "lspsync: nvim.bin: stream did not contain valid UTF-8\n";
 
 const NO_SAVED: &str = "lspsync: gone.txt: entity not found\n";
 
 /// Words, the status, the output, and what is printed on standard error.
-static ROWS: [(&str, u8, &str, &str); 17] = [
+static ROWS: [(&str, u8, &str, &str); 19] = [
     ("lspsync compare a good.log", 0, SAME, ""),
     ("lspsync compare --uri=a saved.txt -", 1, OTHER, ""),
+    ("lspsync compare --uri=a saved.txt good.log", 1, OTHER, ""),
+    (
+        "lspsync compare --uri=a emoji.txt emoji.log",
+        1,
+        EMOJI,
+        BY_UTF_32,
+    ),
     ("lspsync compare nvim.bin good.log", 3, "", BYTES),
     ("lspsync compare gone.txt", 3, "", NO_SAVED),
     ("lspsync compare saved.txt good.log", 1, "", NO_URI),
@@ -77,12 +90,15 @@ fn is_answered(alloc: Global, row: &(&str, u8, &str, &str)) -> Result<bool, Allo
     let words: Vec<&str> = words.split(' ').collect(alloc)?;
     let good = log(alloc, &[INITIALIZE, OPEN, WHOLE])?;
     let cut = Vec::from_slice(alloc, good.get(..400).unwrap_or(&[]))?;
-    let files: [Held<'_>; 9] = [
+    let emoji = log(alloc, &[INITIALIZE, OPEN_EMOJI, AFTER_ONE_UNIT])?;
+    let files: [Held<'_>; 11] = [
         ("a", b"aXc", &[Take(1)]),
         ("saved.txt", b"abc\n", &[]),
         ("nvim.bin", b"a\xff", &[]),
         ("bare.log", b"Content-Length: 2\n\n{}", &[]),
         ("two.log", b"lsp-session-log 2\n>Content-Length: 2\r\n", &[]),
+        ("emoji.txt", "😀b".as_bytes(), &[]),
+        ("emoji.log", &emoji, &[]),
         ("good.log", &good, &[Take(1), Take(30)]),
         ("cut.log", &cut, &[]),
         ("broken.log", &good, &[Take(350), Fails]),
