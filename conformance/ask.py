@@ -129,7 +129,8 @@ def has_what(want, got):
 def is_right(expect, got):
     """Compares the members that both have, among which is the result. The documents of a session come in any order."""
     if "refused" in expect or "refused" in got:
-        return "refused" in expect and has_what(expect, {**got, "refused": expect["refused"]} if got.get("refused") is True else got)
+        why = expect.get("refused") if got.get("refused") is True else got.get("refused")
+        return "refused" in expect.keys() & got.keys() and has_what(expect, {**got, "refused": why})
     if not RESULTS & expect.keys() & got.keys():
         return False
     if "documents" in expect:

@@ -143,6 +143,7 @@ def messages():
         ("delete-line", "a\nb\nc", ch("", 1, 0, 0, 2), "A whole line with its line end."),
         ("multi-line", "abc\ndef\nghi", ch("X", 0, 1, 2, 2), "A range over several lines."),
         ("insert-lines", "ab", ch("1\n2\n3", 0, 1), "An inserted text may have line ends."),
+        ("delete-all", "a\nb\n", ch("", 0, 0, 0, 2), "The whole text is deleted with its last line end by a range to the empty line after that."),
         ("replace-crlf-by-lf", "a\r\nb", ch("\n", 0, 1, 0, 1), "Line ends are kept as they were sent, of each kind."),
     ]:
         one("line-ends/" + name, about, EOL, text, change)
@@ -163,6 +164,7 @@ def messages():
         ("bom-inserted", "ab", ch("\ufeff", 0, 0), "It may be inserted, and it stays."),
         ("nul", "a\0b", ch("X", 0, 2), "NUL is a character like others."),
         ("control", "a\x01\x1b\x7fb", ch("X", 0, 4), "So are control characters."),
+        ("control-inserted", "ab", ch("\t\x01\x1b\x7f", 0, 1), "They may be inserted, and they stay."),
         ("quotes", 'a"\\b', ch('"\\', 0, 3), "Quotes and backslashes are escaped in JSON, and are one unit each."),
         ("noncharacter", "\ufdd0ab", ch("X", 0, 2), "A noncharacter of Unicode is kept."),
         ("bidi", "\u202eabc", ch("X", 0, 2), "Marks of direction don't reorder positions."),
@@ -187,6 +189,7 @@ def messages():
         ("same-place", "ab", [ch("1", 0, 1), ch("2", 0, 2), ch("3", 0, 3)], "Typing in one message."),
         ("twice", "ab", [ch("X", 0, 1), ch("X", 0, 1)], "Two changes that are alike are two changes."),
         ("grow-lines", "a", [ch("\n\n", 0, 1), ch("X", 2, 0)], "A line that the first change made is there for the second."),
+        ("longer-line-before", "a\nb\nc", [ch("xyz", 0, 1), ch("X", 2, 0)], "What the first change put on a line moves those after it."),
         ("shrink-lines", "a\nb\nc", [ch("", 0, 1, 1, 1), ch("X", 1, 0)], "A line that the first change took away isn't counted any more."),
         ("longer-line", "ab", [ch("cdef", 0, 2), ch("X", 0, 6)], "The length of a line is that of the current text."),
         ("none", "abc", [], "A message without changes leaves the text."),
@@ -235,7 +238,7 @@ def text_edits():
     edits("none", "No edits change nothing.", "abc")
     edits("old-text", "All ranges count in the text before the edits.", "abc", ("1", 0, 0), ("2", 0, 1, 2))
     edits("unsorted", "Edits come in any order.", "abcd", ("4", 0, 3, 4), ("1", 0, 0, 1), ("2", 0, 1, 2))
-    edits("insertions", "Insertions at one position keep the order of the list.", "ab", ("1", 0, 1), ("2", 0, 1), ("3", 0, 1))
+    edits("insertions", "Insertions at one position keep the order of the list.", "ab", ("2", 0, 1), ("3", 0, 1), ("1", 0, 1))
     edits("insert-before-replace", "An insertion at the start of a later replacement comes before it.", "abc", ("1", 0, 1), ("2", 0, 1, 2))
     edits("insert-at-end", "An insertion at the end of a replacement comes after it.", "abc", ("1", 0, 1, 2), ("2", 0, 2))
     edits("touch", "Edits that touch don't overlap.", "abcd", ("1", 0, 0, 2), ("2", 0, 2, 4))
@@ -280,6 +283,7 @@ def sessions():
     session("ten", "Versions are compared as numbers: 10 is greater than 9.", VERSION, opened("a", 9), changed(10, ch("b", 0, 1)))
     session("greatest", "The greatest integer is a version.", VERSION, opened("a", 2147483646), changed(2147483647, ch("b", 0, 1)))
     session("least", "So is the least one.", VERSION, opened("a", -2147483648), changed(-2147483647, ch("b", 0, 1)))
+    session("widths", "Versions have 32 bits.", VERSION, opened("a", 127), *(changed(version, ch("b", 0, 1)) for near in (7, 8, 15, 16, 24) for version in (2 ** near, 2 ** near + 1)))
     session("no-changes", "A message without changes sets the version.", CHANGE, opened("a"), changed(2), changed(3, ch("b", 0, 1)))
     session("no-changes-last", "So it does where no other message follows.", CHANGE, opened("a"), changed(2))
     session("two", "Documents are apart.", OPEN, opened("a"), opened("x", uri="b"), changed(2, ch("b", 0, 1)), changed(2, ch("y", 0, 1), uri="b"))
@@ -287,6 +291,8 @@ def sessions():
     session("bom", "A byte order mark of an opened text is a character of it.", OPEN, opened("\ufeffab"), changed(2, ch("X", 0, 1)))
     session("bom-whole", "So is one of a whole text.", EVENT, opened("a"), changed(2, ch("\ufeffab")), changed(3, ch("X", 0, 2)))
     session("line-ends", "Line ends of an opened text stay as they came.", OPEN, opened("a\r\nb\rc\n"), changed(2, ch("X", 2, 0)))
+    session("far", "A character may be greater than 65,535, and a line than 255.", POSITION, opened(66000 * "a"), changed(2, ch("X", 0, 65990)),
+            changed(3, ch("", 0, 0, 65980)), opened(300 * "\n", uri="b"), changed(2, ch("X", 299, 0), uri="b"), changed(3, ch("", 0, 0, 0, 290), uri="b"))
     session("close", "A closed document isn't open any more.", CLOSE, opened("a"), opened("x", uri="b"), closed())
     session("schemes", "URIs of other schemes, queries and fragments name other documents.", OPEN, opened("a"), opened("b", scheme="git:/", uri="a?1"),
             opened("c", scheme="git:/", uri="a?2"), opened("d", scheme="cell:/", uri="a#1"), changed(2, ch("X", 0, 1), scheme="git:/", uri="a?1"), closed())
@@ -296,8 +302,11 @@ def sessions():
     session("utf8", "The encoding holds for the whole session.", KIND, opened("é"), changed(2, ch("a", 0, 2)), changed(3, ch("b", 0, 3)), encoding="utf-8")
     session("utf32", "The encoding holds for the whole session.", KIND, opened("😀"), changed(2, ch("a", 0, 1)), changed(3, ch("b", 0, 2)), encoding="utf-32")
     session("uri-as-sent", "URIs that differ in their bytes name two documents.", OPEN, opened("a", uri="x%3Ay"), opened("b", uri="x:y"), standard="open")
+    session("uri-case", "So do those that differ in a drive's letter, or in a last slash.", OPEN, opened("a", uri="C:/x"), opened("b", uri="c:/x"), opened("c", uri="c:/x/"),
+            standard="open")
     session("equal-version", "The version of the document again.", VERSION, opened("a"), changed(1, ch("b", 0, 1)), standard="open")
     session("lower-version", "A version below the current one.", VERSION, opened("a", 5), changed(4, ch("b", 0, 1)), changed(6, ch("c", 0, 1)), standard="open")
+    session("zero-after-one", "The version 0, which is below the current one.", VERSION, opened("a"), changed(0, ch("b", 0, 1)), standard="open")
     session("refused-then-whole", "After a refused message a whole text mends the copy.", CHANGE, opened("😀"), changed(2, ch("b", 0, 1)), changed(3, ch("c")), standard="open")
     session("refused-keeps-version", "A refused message leaves the version too.", CHANGE, opened("😀"), changed(3, ch("b", 0, 1)), changed(2, ch("c", 0, 2)), standard="open")
     session("open-twice", "An open document is opened again.", OPEN, opened("a"), opened("b", 2), standard="open")
@@ -327,19 +336,21 @@ def frames():
     frame("cut-header", "A part of a header at the end of the stream is no frame yet.", framed("{}") + "Content-Le")
     frame("cut-body", "A part of a body at the end of the stream is no frame yet.", framed("{}") + "Content-Length: 9\r\n\r\n{}")
     frame("hundred", "A hundred frames.", framed("[1]") * 100)
-    frame("long", "A body may be longer than what is read at once.", framed('"' + 5000 * "x" + '"') + framed("{}"))
+    frame("long", "A body may be longer than what is read at once.", framed('"' + 10000 * "x" + '"') + framed("{}"))
     frame("no-blank", "No blank after the colon.", "Content-Length:2\r\n\r\n{}", "open")
-    frame("zeroes", "A length with leading zeroes.", "Content-Length: 0002\r\n\r\n{}", "open")
+    frame("blanks", "A tab before a length, and a blank after it.", "Content-Length:\t2 \r\n\r\n{}", "open")
+    frame("zeroes", "A length with leading zeroes.", 'Content-Length: 0010\r\n\r\n"tenbytes"', "open")
     frame("lf", "Lines that end in LF alone.", "Content-Length: 2\n\n{}", "open")
     frame("no-length", "A header without a length.", "Content-Type: application/vscode-jsonrpc\r\n\r\n{}", "open")
-    frame("empty-header", "A header without fields.", framed("{}") + "\r\n\r\n{}", "open")
+    frame("empty-header", "A header without fields.", framed("{}") + "\r\n" + framed("[]"), "open")
     frame("twice", "Two lengths that are equal.", "Content-Length: 2\r\nContent-Length: 2\r\n\r\n{}", "open")
     frame("two-lengths", "Two lengths that differ.", "Content-Length: 2\r\nContent-Length: 4\r\n\r\n{}[]", "open")
     frame("negative", "A negative length.", "Content-Length: -2\r\n\r\n{}", "open")
-    frame("words", "A length that is no number.", "Content-Length: two\r\n\r\n{}", "open")
+    frame("words", "A length that isn't only a number.", "Content-Length: 2 bytes\r\n\r\n{}", "open")
     frame("too-long", "A length above the default limit of 16 MiB.", "Content-Length: 16777217\r\n\r\n{}", "open")
     frame("charset", "Another charset.", head("{}") + "Content-Type: application/vscode-jsonrpc; charset=latin-1\r\n\r\n{}", "open")
-    frame("other-field", "A field that the protocol doesn't name.", "X-Trace: 1\r\n" + head("{}") + "\r\n{}", "open")
+    frame("charset-quoted", "The charset in quotes.", head("{}") + 'Content-Type: application/vscode-jsonrpc; charset="utf-8"\r\n\r\n{}', "open")
+    frame("other-field", "Fields that the protocol doesn't name, one without a value.", "X-Trace: 1\r\nX-Empty:\r\n" + head("{}") + "\r\n{}", "open")
     frame("almost-length", "Fields whose names end, or begin, as that of the length.", "X-Content-Length: 9\r\n" + head("{}") + "Content-Length-X: 7\r\n\r\n{}", "open")
     frame("log-line", "Text of a log among the frames.", framed("{}") + "starting up\r\n" + framed("{}"), "open")
 

@@ -23,6 +23,7 @@ MISTAKES = {
     "one-past-the-end": "a character past the line's end is clamped behind the line end",
     "no-final-line": "the empty line after the last line end doesn't count",
     "stale-lines": "the line table isn't computed anew where CR and LF meet",
+    "short-characters": "a character is kept in 16 bits",
     "old-text": "all changes of a message count in the text before it",
     "last-change": "only the last change of a message is applied",
     "first-change": "only the first change of a message is applied",
@@ -33,6 +34,7 @@ MISTAKES = {
     "drop-bom": "a byte order mark at the start of a text is dropped",
     "open-bom": "a byte order mark is dropped where a document is opened",
     "strip-inserted": "blanks around an inserted text are dropped",
+    "no-controls": "control characters of an inserted text are dropped",
     "own-line-ends": "inserted line ends become the first one of the document",
     "template": "an inserted text is taken for a template of a replace function",
     "no-twins": "a change that is like the one before is dropped",
@@ -52,6 +54,7 @@ MISTAKES = {
     "old-version": "the version of a document stays the one that it was opened with",
     "no-zero": "the version 0 counts as a missing one",
     "versions-as-words": "versions are compared as words: 10 is less than 9",
+    "short-versions": "versions are compared in 16 bits",
     "unsigned": "versions are compared as numbers without a sign",
     "idle-version": "a message without changes leaves the version",
     "versions-after-close": "a document that is opened again needs a greater version",
@@ -65,7 +68,7 @@ MISTAKES = {
     "whole-headers": "a header that comes in two reads is lost",
     "two-reads": "a body's rest is in the next read",
     "texts-of-reads": "each read is decoded by itself, also where it ends inside a character",
-    "small-buffer": "a body has at most 4,096 bytes",
+    "small-buffer": "a body has at most 8,192 bytes",
 }
 
 
@@ -108,6 +111,8 @@ class Plain:
         for number in (line, character):
             if isinstance(number, bool) or not isinstance(number, int) or not 0 <= number < 2 ** 32:
                 raise Refused("invalid-params")
+        if self.mistake == "short-characters":
+            character %= 65536
         lines = lines or self.lines(text)
         if line >= len(lines):
             return lines[-1][1] if self.mistake == "no-final-line" else len(text)
@@ -185,6 +190,8 @@ class Plain:
         """What a change puts in."""
         if self.mistake == "strip-inserted":
             return new.strip(" ")
+        if self.mistake == "no-controls":
+            return "".join(c for c in new if c >= " " or c in "\t\r\n")
         if self.mistake == "own-line-ends" and (end := re.search("\r\n|\r|\n", text)):
             return re.sub("\r\n|\r|\n", end.group(), new)
         if self.mistake == "template":
@@ -292,6 +299,8 @@ class Plain:
             return version != held + 1
         if self.mistake == "versions-as-words":
             return str(version) <= str(held)
+        if self.mistake == "short-versions":
+            return (version + 32768) % 65536 <= (held + 32768) % 65536
         if self.mistake == "unsigned":
             return version % 2 ** 32 <= held % 2 ** 32
         return version <= held
@@ -329,7 +338,7 @@ class Plain:
         if self.mistake == "length-in-characters":
             length = len(rest.decode("utf-8", "replace")[:length].encode())
         if self.mistake == "small-buffer":
-            length = min(length, 4096)
+            length = min(length, 8192)
         if len(rest) < length and not (self.mistake == "two-reads" and reads > 1):
             return None
         return rest[:length], rest[length:]

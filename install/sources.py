@@ -18,8 +18,8 @@ CODES = {
     "OUT_OF_MEMORY": "F9, M3, S9, V2, C3, P6", "TOO_LONG": "S3, S8", "INSIDE_CHARACTER": "E1", "REVERSED_RANGE": "E2",
     "BAD_ENCODING": "BadEncoding", "ENDED": "V1", "NOT_OPEN": "S4", "ALREADY_OPEN": "S1", "TOO_MANY_DOCUMENTS": "S2", "STALE_VERSION": "S5",
     "TOO_MANY_CHANGES": "S6", "INVALID_PARAMS": "M4", "CUT": "P4", "BAD_FRAME": "F1 to F7, P3", "BODY_TOO_LONG": "P5", "BAD_LOG": "P8",
-    "TOO_MANY_TURNS": "P7", "FAILED": "F8", "WRONG_PHASE": "C1", "NOT_AN_ANSWER": "NotAnAnswer", "ERROR_ANSWER": "ErrorAnswer",
-    "NO_SYNC": "NoSync",
+    "TOO_MANY_TURNS": "P7; no call returns it", "FAILED": "F8", "WRONG_PHASE": "C1", "NOT_AN_ANSWER": "NotAnAnswer",
+    "ERROR_ANSWER": "ErrorAnswer", "NO_SYNC": "NoSync",
 }
 # The codes that each call on a full handle may return first, in this order
 FIRST = ["NOT_UTF8", "BAD_ENCODING", "BAD_LENGTH", "IN_USE", "EMPTY", "OTHER_KIND"]

@@ -142,7 +142,12 @@ async function compiled(engine) {
   }
 }
 
+let compiling;
+
+/** Runs the program on a log, or without one only compiles it, for the first run. */
 onmessage = async ({ data: { engine, words, files, isTrace } }) => {
+  compiling ??= compiled(engine);
+  if (!words) return compiling.catch(() => {}); // (the first run says why)
   const gathered = new Gathered(), said = [], take = isTrace ? linesOf(gathered) : piece => gathered.add(piece.slice(), piece.length);
   const log = words.at(-1);
   try {
@@ -150,7 +155,7 @@ onmessage = async ({ data: { engine, words, files, isTrace } }) => {
       files.set(log, await unpacked(files.get(log)).blob());
       postMessage({ log: files.get(log) });
     }
-    const status = runProgram(await compiled(engine), ["lspsync", ...words], systemOf(files, log, gathered, take, said));
+    const status = runProgram(await compiling, ["lspsync", ...words], systemOf(files, log, gathered, take, said));
     gathered.post();
     postMessage({ status: gathered.fault ? -1 : status, said: gathered.fault || await new Blob(said).text() });
   } catch (error) {

@@ -30,7 +30,7 @@ export interface TextEdit {
  * - `EMPTY`: the document is closed.
  * - `TOO_LONG`: a text has more than 1,073,741,824 bytes of UTF-8.
  * - `OUT_OF_MEMORY`
- * - `BAD_MAX_BODY` to `BAD_MAX_CHANGES`, `BAD_ENCODING`: of the ends, and of the commands on logs; `TOO_MANY_TURNS`: of those commands.
+ * - `BAD_MAX_BODY` to `BAD_MAX_CHANGES`, `BAD_ENCODING`: of the ends, and of the commands on logs.
  * - `WRONG_PHASE`, `ENDED`: of an end that is not, or no more, in the phase for the call; `FAILED`: after a faulty frame.
  * - `NOT_OPEN` to `STALE_VERSION`: of a client's calls on documents.
  */
@@ -48,7 +48,6 @@ export interface Refusal extends RangeError {
     | 'BAD_MAX_DOCS'
     | 'BAD_MAX_CHANGES'
     | 'BAD_ENCODING'
-    | 'TOO_MANY_TURNS'
     | 'WRONG_PHASE'
     | 'ENDED'
     | 'FAILED'

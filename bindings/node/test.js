@@ -229,8 +229,6 @@ function below(bound) {
 }
 const LETTERS = ['a', '\r', '\n', '\r\n', '\u00e9', '\u2028', '\u{1F600}'];
 const someText = (most) => Array.from({ length: below(most) }, () => LETTERS[below(LETTERS.length)]).join('');
-const somePlace = () => at(below(4), below(6));
-const someChange = () => (below(8) ? change(somePlace(), somePlace(), someText(4)) : { text: someText(4) });
 
 /** The index of a position, or undefined inside a character: LSP 3.17 as a plain program. */
 function denoted(text, { line, character }) {
@@ -261,90 +259,6 @@ test('offsets and positions are those of the plain program, after each of some c
       }
       TextDocument.update(document, [{ text: someText(12) }], version);
     }
-  }
-});
-
-// Both ends, and the bytes between them.
-const URIS = ['file:///a', 'file:///b', ''];
-class Pair {
-  constructor() {
-    this.server = new Server({ encoding: ['utf-8', 'utf-16', 'utf-32'][below(3)], isFull: below(4) === 0 });
-    this.client = new Client({ utf8: below(2) === 0, utf32: below(2) === 0 });
-    this.toServer = Buffer.alloc(0);
-    this.toClient = Buffer.alloc(0);
-    this.kinds = [];
-  }
-
-  send(frame) {
-    this.toServer = Buffer.concat([this.toServer, frame]);
-  }
-
-  serve(count) {
-    const piece = this.toServer.subarray(0, count);
-    this.toServer = this.toServer.subarray(count);
-    for (const { kind, frame } of below(2) ? this.server.messages(piece) : this.server.receive(piece)) {
-      this.kinds.push(kind);
-      if (frame) this.toClient = Buffer.concat([this.toClient, frame]);
-    }
-  }
-
-  hear(count) {
-    const piece = this.toClient.subarray(0, count);
-    this.toClient = this.toClient.subarray(count);
-    for (const { kind, frame } of this.client.receive(piece)) {
-      this.kinds.push(kind);
-      if (frame) this.send(frame);
-    }
-  }
-
-  carryAll() {
-    while (this.toServer.length || this.toClient.length) {
-      this.serve(this.toServer.length);
-      this.hear(this.toClient.length);
-    }
-  }
-
-  /** A call of an editor; a refused one leaves all as it was. */
-  call() {
-    const uri = URIS[below(3)];
-    const before = documentsOf(this.client);
-    const version = (this.client.version(uri) ?? 0) + below(4);
-    const which = below(8);
-    try {
-      if (which === 0) this.send(this.client.open(uri, 'c', version, someText(12)));
-      else if (which === 1) this.send(this.client.close(uri));
-      else this.send(this.client.edit(uri, version, Array.from({ length: below(4) }, someChange)));
-    } catch (error) {
-      assert(error instanceof RangeError);
-      assert.deepStrictEqual(documentsOf(this.client), before);
-    }
-  }
-}
-
-const documentsOf = (end) => [...URIS.map((uri) => [end.version(uri), end.text(uri)]), end.documentCount];
-
-test('random sessions with late deliveries', () => {
-  for (let count = 0; count < (process.env.LASPIDRU_SESSIONS ?? 200); count++) {
-    const pair = new Pair();
-    pair.send(pair.client.start());
-    while (pair.client.phase !== 'ready') {
-      pair.serve(below(40));
-      pair.hear(below(40));
-    }
-    for (let steps = below(30); steps > 0; steps--) {
-      const step = below(4);
-      if (step === 0) pair.serve(below(300));
-      else if (step === 1) pair.hear(below(300));
-      else pair.call();
-    }
-    pair.carryAll();
-    assert.deepStrictEqual(documentsOf(pair.client), documentsOf(pair.server));
-    pair.send(pair.client.shutdown());
-    pair.carryAll();
-    pair.send(pair.client.exit());
-    pair.carryAll();
-    assert.deepStrictEqual([pair.client.phase, pair.kinds.at(-1)], ['done', 'exited']);
-    assert(!pair.kinds.some((kind) => ['refused', 'dropped', 'bad-server'].includes(kind)));
   }
 });
 

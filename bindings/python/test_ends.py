@@ -8,9 +8,11 @@ import unittest
 import laspidru
 from laspidru import Client, Document, FrameFault, Framer, LaspidruError, Server
 from test_choices import each_of
-from test_laspidru import ENCODINGS, LETTERS, at, change, random_change
+from test_laspidru import at, change
 
 URIS = ["file:///a", "file:///b", ""]
+ENCODINGS = ["utf-16", "utf-8", "utf-32"]
+LETTERS = ["a", "\r", "\n", "\r\n", "\u00e9", "\u2028", "\U0001F600"]
 
 
 def frame(body):
@@ -35,6 +37,16 @@ def outcome(call, *arguments):
         return call(*arguments)
     except LaspidruError as error:
         return error.code
+
+
+def random_place(choices):
+    return at(choices.below(4), choices.below(6))
+
+
+def random_change(choices):
+    if choices.is_one_in(10):
+        return {"text": choices.text(LETTERS, 4)}
+    return change(random_place(choices), random_place(choices), choices.text(LETTERS, 4))
 
 
 def random_session(choices):

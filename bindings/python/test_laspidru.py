@@ -1,7 +1,6 @@
 """The test of the binding for Python."""
 import io
 import os
-import random
 import re
 import tempfile
 import threading
@@ -11,11 +10,7 @@ import urllib.parse
 
 import laspidru
 from laspidru import Document, EditsFault, LaspidruError, LogFault, TextDocument, check, compare, convert, normalise, replay, trace
-from test_choices import each_of
 
-BATCHES = int(os.environ.get("LASPIDRU_BATCHES", "2000"))
-ENCODINGS = ["utf-16", "utf-8", "utf-32"]
-LETTERS = ["a", "\r", "\n", "\r\n", "\u00e9", "\u2028", "\U0001F600"]
 EXAMPLES = os.path.join(os.path.dirname(os.path.abspath(__file__)), "..", "..", "examples")
 
 
@@ -32,123 +27,8 @@ def change(start, end, text):
     return {"range": {"start": start, "end": end}, "text": text}
 
 
-def units(character, encoding):
-    return len(character.encode(encoding + "-le" if encoding != "utf-8" else encoding)) // {"utf-8": 1, "utf-16": 2, "utf-32": 4}[encoding]
-
-
-def line_starts(text):
-    """The indexes at which lines start, by a plain search."""
-    return [0] + [end.end() for end in re.finditer("\r\n|\r|\n", text)]
-
-
-def denoted(text, position, encoding):
-    """The index that a position denotes, or None: LSP 3.17 as a plain program."""
-    starts = line_starts(text)
-    if position["line"] >= len(starts):
-        return len(text)
-    index, count = starts[position["line"]], 0
-    while index < len(text) and text[index] not in "\r\n" and count < position["character"]:
-        count += units(text[index], encoding)
-        index += 1
-    return index if count <= position["character"] else None
-
-
-def positions(text, encoding):
-    """The exact position of each index of the text, or None inside a CRLF: LSP 3.17 as a plain program."""
-    found, line, character = [], 0, 0
-    for index, one in enumerate(text + "$"):
-        is_inside = one == "\n" and text[:index].endswith("\r")
-        found.append(None if is_inside else at(line, character))
-        character += units(one, encoding)
-        if one == "\n" or one == "\r" and text[index + 1:index + 2] != "\n":
-            line, character = line + 1, 0
-    return found
-
-
-def changed(text, changes, encoding):
-    """What the changes leave of a text, or the number of the first faulty one."""
-    for number, one in enumerate(changes):
-        if "range" not in one:
-            text = one["text"]
-            continue
-        start = denoted(text, one["range"]["start"], encoding)
-        end = denoted(text, one["range"]["end"], encoding)
-        if start is None or end is None or start > end:
-            return number
-        text = text[:start] + one["text"] + text[end:]
-    return text
-
-
 def edit(start, end, text):
     return {"range": {"start": start, "end": end}, "newText": text}
-
-
-def edited(text, edits, encoding):
-    """What text edits leave of a text, or the numbers of the faulty ones: LSP 3.17 as a plain program."""
-    placed = []
-    for number, one in enumerate(edits):
-        start = denoted(text, one["range"]["start"], encoding)
-        end = denoted(text, one["range"]["end"], encoding)
-        if start is None or end is None or start > end:
-            return number, None
-        placed.append((start, number, end, one["newText"]))
-    out, low, last = "", 0, None
-    for start, number, end, new in sorted(placed, key=lambda it: it[0]):
-        if start < low:
-            return last, number
-        out, low, last = out + text[low:start] + new, end, number
-    return out + text[low:]
-
-
-def random_place(choices):
-    return at(choices.below(4), choices.below(6))
-
-
-def random_batch(choices):
-    """An encoding, a text, up to three changes of it, and a position."""
-    head, *changes, place = choices
-    return (head.of(ENCODINGS), head.text(LETTERS, 10), [random_change(it) for it in changes if it.is_one_in(2)], random_place(place))
-
-
-def random_change(choices):
-    if choices.is_one_in(10):
-        return {"text": choices.text(LETTERS, 4)}
-    return change(random_place(choices), random_place(choices), choices.text(LETTERS, 4))
-
-
-def random_edits(choices):
-    """An encoding, a text, and up to three text edits of it."""
-    head, *edits = choices
-    return head.of(ENCODINGS), head.text(LETTERS, 10), [random_edit(it) for it in edits if it.is_one_in(2)]
-
-
-def random_edit(choices):
-    start = random_place(choices)
-    return edit(start, random_place(choices) if choices.is_one_in(2) else start, choices.text(LETTERS, 4))
-
-
-def blocks_of(choices, width):
-    """A text of 20,000 letters whose lines have about WIDTH of them, and batches of up to three changes."""
-    head, *changes = choices
-    chance, lines = random.Random(head.below(65536)), 20000 // width + 1
-    text = random_text(chance, 20000, width)
-    made = [block_change(it, lines, width) for it in changes if not it.is_one_in(2)]
-    return text, [made[number:number + 1 + number % 3] for number in range(0, len(made), 3)]
-
-
-def random_text(chance, count, width):
-    letters = "abcdefgh" * 4 + "\u00e9\u2028\U0001F600"
-    return "".join(chance.choice(["\r", "\n", "\r\n"]) if chance.random() < 1 / width else chance.choice(letters) for _ in range(count))
-
-
-def block_change(choices, lines, width):
-    start = at(choices.below(lines + 1), choices.below(width))
-    end = dict(start)
-    if choices.is_one_in(10):
-        end = at(start["line"] + choices.below(lines // 10 + 1), choices.below(width))
-    elif choices.is_one_in(2):
-        end["character"] += choices.below(9)
-    return change(start, end, random_text(random.Random(choices.below(256)), choices.of([0, 1, 5, 1000]), width))
 
 
 class Tests(unittest.TestCase):
@@ -243,7 +123,8 @@ class Tests(unittest.TestCase):
         document.apply_change({"text": "\U0001F600x"})
         self.assertEqual((document.source, document.offset_at_position(at(0, 2))), ("\U0001F600x", 1))
         self.assertEqual((str(document), document.path, document.filename, document.version), ("file:///a", "/a", "a", 1))
-        self.assertEqual(TextDocument("file:///a%20b/c.py", "").path, "/a b/c.py")
+        paths = {"file:///a%20b/c.py": "/a b/c.py", "file:///C%3A/a.py": "c:/a.py", "file://host/a.py": "//host/a.py"}
+        self.assertEqual({uri: TextDocument(uri, "").path for uri in paths}, paths)
         self.assertEqual(TextDocument("untitled:1", "").filename, "1")
 
     def test_words(self):
@@ -310,86 +191,6 @@ class Tests(unittest.TestCase):
         codec = types.SimpleNamespace(encoding="utf-32")
         document = TextDocument("file:///a", "\U0001F600x", None, None, True, 2, codec)
         self.assertEqual((document.offset_at_position(at(0, 1)), document.position_codec), (1, codec))
-
-    def test_random(self):
-        """Random batches against the plain program, in three encodings; as many as LASPIDRU_BATCHES says."""
-        each_of(BATCHES, [12, 10, 10, 10, 2], random_batch, self.batch_is_right)
-
-    def batch_is_right(self, case):
-        encoding, old, changes, place = case
-        document = Document(old, encoding)
-        wanted = self.changes_plainly(document, old, changes, encoding)
-        lines = [document.line(number) for number in range(document.line_count)]
-        self.assertEqual(lines, re.split("\r\n|\r|\n", wanted))
-        self.has_places(document, wanted, place, encoding)
-
-    def changes_plainly(self, document, old, changes, encoding):
-        """Changes a document of the old text, compares it and the canonical batch with the plain program, and returns its text."""
-        wanted = changed(old, changes, encoding)
-        if not isinstance(wanted, str):
-            with self.assertRaises(LaspidruError) as raised:
-                document.change(changes)
-            self.assertEqual((raised.exception.change, document.text), (wanted, old))
-            return old
-        canonical = document.canonical(changes)
-        document.change(changes)
-        self.assertEqual(document.text, wanted)
-        self.assertEqual(changed(old, canonical, encoding), wanted)
-        return wanted
-
-    def test_random_in_blocks(self):
-        """Random batches, one after another, on texts of 20,000 letters against the plain program, in three encodings.
-
-        The library keeps such a text in blocks. Lines are short, long, or longer than a block."""
-        for encoding in ENCODINGS:
-            for width in (10, 60, 2000, 9000):
-                with self.subTest(encoding=encoding, width=width):
-                    each_of(1, [2, *[12] * 60], lambda choices: (encoding, width, *blocks_of(choices, width)), self.blocks_are_right, width)
-
-    def blocks_are_right(self, case):
-        encoding, width, old, batches = case
-        document = Document(old, encoding)
-        for changes in batches:
-            old = self.changes_plainly(document, old, changes, encoding)
-            self.assertEqual(document.line_count, len(line_starts(old)))
-            for place in (at(document.line_count // 2, width // 2), at(document.line_count, 0)):
-                self.has_offset(document, old, place, encoding)
-
-    def has_offset(self, document, text, place, encoding):
-        index = denoted(text, place, encoding)
-        if index is None:
-            self.refuses("INSIDE_CHARACTER", document.byte_offset, place)
-        else:
-            self.assertEqual(document.byte_offset(place), len(text[:index].encode()))
-
-    def has_places(self, document, text, place, encoding):
-        """Compares the offset of a position, and the position of each offset, with the plain program."""
-        self.has_offset(document, text, place, encoding)
-        wanted = {len(text[:index].encode()): position for index, position in enumerate(positions(text, encoding)) if position}
-        for offset in range(len(text.encode()) + 2):
-            if offset in wanted:
-                self.assertEqual(document.position(offset), wanted[offset])
-                self.assertEqual(document.byte_offset(wanted[offset]), offset)
-            else:
-                self.refuses("INSIDE_CHARACTER", document.position, offset)
-
-    def test_random_edits(self):
-        """Random text edits against the plain program, in three encodings; as many as LASPIDRU_BATCHES says."""
-        each_of(BATCHES, [12, 10, 10, 10], random_edits, self.edits_are_right, 2)
-
-    def edits_are_right(self, case):
-        encoding, old, edits = case
-        wanted, document = edited(old, edits, encoding), Document(old, encoding)
-        if isinstance(wanted, str):
-            batch = document.batch_of_edits(edits)
-            self.assertEqual((changed(old, batch, encoding), document.text), (wanted, old))
-            self.assertEqual(document.canonical(batch), batch)
-            document.apply_edits(edits)
-            self.assertEqual(document.text, wanted)
-        else:
-            with self.assertRaises(EditsFault) as raised:
-                document.apply_edits(edits)
-            self.assertEqual((raised.exception.edit, raised.exception.other, document.text), wanted + (old,))
 
     def test_logs(self):
         stale = check(example("stale-version"))

@@ -76,18 +76,24 @@ def lookup(own, lines):
 
 
 # AArch64's own vector instructions that the kit's library asks for, as functions in terms of each other processor.
-SUMS = ("<16 x i8> %a, <16 x i8> %b", [
+SUMS = [
     f"  %e = shufflevector <16 x i8> %a, <16 x i8> %b, {numbers(range(0, 32, 2))}",
     f"  %o = shufflevector <16 x i8> %a, <16 x i8> %b, {numbers(range(1, 32, 2))}",
-    "  %r = add <16 x i8> %e, %o", "  ret <16 x i8> %r", "}"])
-TABLE = "<16 x i8> %t, <16 x i8> %i"
-VECTORS = {
+    "  %r = add <16 x i8> %e, %o", "  ret <16 x i8> %r", "}"]
+NARROW = "<16 x i8> @llvm.wasm.narrow.unsigned.v16i8.v8i16(<8 x i16>"
+# (an engine has shuffles of two vectors slower)
+SUMS_OF_WASM = [
+    line.replace("_", it) for it in "ab" for line in (
+        "  %_16 = bitcast <16 x i8> %_ to <8 x i16>", "  %_o = lshr <8 x i16> %_16, splat (i16 8)",
+        "  %_s = add <8 x i16> %_16, %_o", "  %_r = and <8 x i16> %_s, splat (i16 255)")
+] + [f"  %r = call {NARROW} %ar, <8 x i16> %br)", "  ret <16 x i8> %r", "}", "", f"declare {NARROW}, <8 x i16>)"]
+LOOKUP = {
     # (of pshufb's numbers the highest bit says 0)
     "x86_64": lookup("llvm.x86.ssse3.pshuf.b.128", [
         "  %out = icmp ugt <16 x i8> %i, splat (i8 15)", "  %n = select <16 x i1> %out, <16 x i8> splat (i8 -1), <16 x i8> %i"]),
     "wasm32": lookup("llvm.wasm.swizzle", ["  %n = or <16 x i8> %i, zeroinitializer"]),
 }
-VECTORS["wasm64"] = VECTORS["wasm32"]
+LOOKUP["wasm64"] = LOOKUP["wasm32"]
 
 
 def intrinsic(line, target):
@@ -96,7 +102,8 @@ def intrinsic(line, target):
     arch = architecture(target)
     if arch == "aarch64":
         return [line]
-    bodies = {"llvm.aarch64.neon.addp.v16i8": SUMS, "llvm.aarch64.neon.tbl1.v16i8": (TABLE, VECTORS[arch])}
+    sums = SUMS_OF_WASM if arch in LAYOUTS else SUMS
+    bodies = {"llvm.aarch64.neon.addp.v16i8": ("%a, <16 x i8> %b", sums), "llvm.aarch64.neon.tbl1.v16i8": ("%t, <16 x i8> %i", LOOKUP[arch])}
     name = re.search(r"@(llvm\.aarch64\.[\w.]+)", line)[1]
     if name not in bodies:
         raise Refused("an instruction of one processor")
@@ -104,7 +111,7 @@ def intrinsic(line, target):
     if not line.startswith("declare "):
         return [line.replace(f"@{name}(", f"@{own}(")]
     parameters, body = bodies[name]
-    return [f"define internal <16 x i8> @{own}({parameters}) alwaysinline nounwind {{", *body]
+    return [f"define internal <16 x i8> @{own}(<16 x i8> {parameters}) alwaysinline nounwind {{", *body]
 
 
 def pair(line):

@@ -6,8 +6,8 @@ from .closures import Closure, Target, Unknown, definition_named, target_named
 from .tokens import Token
 
 OTHERS = ("tokens", "users", "inside")
-# A name in docs/PROVED.md, and how long its page is said to be
-LENGTHS = re.compile(r"`([^`]+)`(?::| \() ?([\d,]+ lines, [\d,]+ in all)\)")
+# A row under "In short" of docs/PROVED.md: what is said, its clause, and how long the clause's page is, alone and with those below it
+LENGTHS = re.compile(r"(?m)^\| ([^|]+) \| `([^`|]+)` \| ([\d,]+) \| ([\d,]+) \|$")
 
 
 def words_of(text):
@@ -118,19 +118,19 @@ class Pages:
             yield from self.faults_of(page)
         yield from self.faults_of_users()
         points, said = points_of(proved), {it.sentence: it for it in self.pages if it.sentence}
-        for sentence in points:
-            if sentence not in said:
-                yield f"docs/PROVED.md says under \"In short\" \"{sentence}\", and no page has it as its sentence"
+        rows = {what: name for what, name, _, _ in LENGTHS.findall(proved)}
+        for sentence in points - said.keys():
+            yield f"docs/PROVED.md says under \"In short\" \"{sentence}\", and no page has it as its sentence"
+        for sentence in said.keys() - points:
+            yield f"tools/pages: no point under \"In short\" of docs/PROVED.md begins with \"{sentence}\""
         for sentence, page in said.items():
-            if sentence not in points:
-                yield f"tools/pages: no point under \"In short\" of docs/PROVED.md begins with \"{sentence}\""
-            elif (wanted := f"(`{page.of[0]}`: {page.most} lines, {self.size_in_all(page):,} in all)") not in points[sentence]:
-                yield f"docs/PROVED.md doesn't say \"{wanted}\" at \"{sentence}\""
-        for name, lines in LENGTHS.findall(" ".join(proved.split())):
+            if rows.get(sentence) != page.of[0]:
+                yield f"docs/PROVED.md has no row \"{sentence}\" with `{page.of[0]}`"
+        for _, name, *lines in LENGTHS.findall(proved):
             if not (page := self.page_of(name)):
                 yield f"docs/PROVED.md says how long the page of `{name}` is, and there is none"
-            elif lines != (wanted := f"{self.closure_of(page).size} lines, {self.size_in_all(page):,} in all"):
-                yield f"docs/PROVED.md says \"{lines}\" of `{name}`: {wanted}"
+            elif lines != (wanted := [f"{self.closure_of(page).size:,}", f"{self.size_in_all(page):,}"]):
+                yield f"docs/PROVED.md says {' and '.join(lines)} lines of `{name}`: {' and '.join(wanted)}"
 
     def faults_of(self, page):
         closure = self.closure_of(page)
@@ -161,7 +161,6 @@ class Pages:
 
 
 def points_of(proved):
-    """Returns the points under "In short", each by its bold beginning."""
+    """Returns the bold beginnings of the points under "In short"."""
     part = proved.partition("\n## In short\n")[2].partition("\n## ")[0]
-    points = [" ".join(it.split()) for it in re.split(r"(?m)^- ", part)[1:]]
-    return {bold[1].rstrip(",.:"): it for it in points if (bold := re.match(r"\*\*(.*?)\*\*", it))}
+    return {it.rstrip(",.:") for it in re.findall(r"(?m)^- \*\*(.*?)\*\*", part)}

@@ -184,10 +184,14 @@ WORD_START, WORD_END = re.compile("[A-Za-z_0-9]*$"), re.compile("^[A-Za-z_0-9]*"
 
 
 def _path(uri: str) -> str:
-    """The path of a file's URI."""
+    """The path of a file's URI, as pygls has it: `c:/a` for `file:///C:/a`, on Windows with backslashes."""
     parts = urllib.parse.urlsplit(uri)
     path = urllib.parse.unquote(parts.path)
-    return f"//{parts.netloc}{path}" if parts.scheme == "file" and parts.netloc and path else path
+    if parts.scheme == "file" and parts.netloc and path:
+        path = f"//{parts.netloc}{path}"
+    elif re.match("/[A-Za-z]:", path):
+        path = path[1].lower() + path[2:]
+    return path.replace("/", os.sep)
 
 
 def _file_text(path: str) -> str:

@@ -20,13 +20,14 @@
 //!
 //! # The library
 //!
-//! `liblaspidru.a` is for Linux on x86-64. For another system the build ends, and says so. The first of these that is there is linked:
+//! The first `liblaspidru.a` of these is linked:
 //!
-//! 1. the one in the folder that the variable `LASPIDRU_LIB_DIR` names by an absolute path, for any system;
-//! 2. the one in the folder `lib` of this package, which the crate has and the repository doesn't;
+//! 1. the one in the folder that the variable `LASPIDRU_LIB_DIR` names by an absolute path;
+//! 2. if this package has a folder `lib`, as the crate has and the repository hasn't, the target's in it;
 //! 3. the installed one, which `pkg-config` finds.
 //!
-//! Where there is none, cargo warns of that before the linker fails.
+//! If `lib` has none for the target, the build ends, and names the targets that it has. Where there is no archive at all, cargo warns
+//! of that before the linker fails.
 
 #![deny(unsafe_code)]
 #![warn(missing_docs)]

@@ -59,8 +59,6 @@ pub enum LogError {
     NoRecord,
     /// The document was never open.
     NotOpen,
-    /// More than 2^64 - 1 reads and writes would be needed.
-    TooManyTurns,
     /// The log has a fault at a byte offset; `output` is what was written up to it.
     Fault {
         /// What is wrong.
@@ -93,7 +91,6 @@ impl fmt::Display for LogError {
             LogError::BadLimit(limit) => write!(f, "{limit}"),
             LogError::NoRecord => write!(f, "the log has no record of this number"),
             LogError::NotOpen => write!(f, "the document was never open"),
-            LogError::TooManyTurns => write!(f, "too many reads and writes"),
             LogError::Fault { fault: LogFault::Cut, offset, .. } => write!(f, "truncated at byte offset {offset}"),
             LogError::Fault { fault: LogFault::BadFrame(number), offset, .. } => {
                 write!(f, "{}", Error::Frame { number: *number, offset: *offset })
@@ -207,7 +204,6 @@ fn run_with(
     if !output.is_full() {
         return Err(match code {
             ffi::OUT_OF_MEMORY => LogError::OutOfMemory,
-            ffi::TOO_MANY_TURNS => LogError::TooManyTurns,
             code => LogError::BadLimit(BadLimit::of(code).expect("an empty handle and valid arguments")),
         });
     }

@@ -1,35 +1,9 @@
 //! A client and a server that talk.
 
 use laspidru::client::{Client, Delivered, Phase, Reason};
-use laspidru::server::{Answer, ChangeForm, EncodingChoice, Server};
+use laspidru::server::{Answer, EncodingChoice, Server};
 use laspidru::{client, server, BadLimit, Change, Document, Encoding, Error, Framer, Limits, Position, Range, Refusal};
 use std::collections::VecDeque;
-
-/// Numbers that look random.
-struct Chance(u64);
-
-impl Chance {
-    fn below(&mut self, bound: u64) -> u64 {
-        self.0 ^= self.0 << 13;
-        self.0 ^= self.0 >> 7;
-        self.0 ^= self.0 << 17;
-        (self.0 >> 11) % bound
-    }
-
-    fn text(&mut self, most: u64) -> String {
-        let letters = ["a", "\r", "\n", "\r\n", "\u{e9}", "\u{2028}", "\u{1F600}"];
-        (0..self.below(most)).map(|_| letters[self.below(7) as usize]).collect()
-    }
-
-    fn position(&mut self) -> Position {
-        Position { line: self.below(4) as u32, character: self.below(6) as u32 }
-    }
-
-    fn change(&mut self) -> Change {
-        let range = Range { start: self.position(), end: self.position() };
-        Change { range: (self.below(8) > 0).then_some(range), text: self.text(4) }
-    }
-}
 
 /// Both ends, and the bytes between them.
 struct Pair {
@@ -40,15 +14,6 @@ struct Pair {
 }
 
 impl Pair {
-    fn new(chance: &mut Chance) -> Self {
-        let prefer = [Encoding::Utf8, Encoding::Utf16, Encoding::Utf32][chance.below(3) as usize];
-        let sync = if chance.below(4) == 0 { ChangeForm::Full } else { ChangeForm::Incremental };
-        let server = server::Settings { choice: EncodingChoice::Negotiated { prefer }, sync, ..Default::default() };
-        let client = client::Settings { utf8: chance.below(2) == 0, utf32: chance.below(2) == 0, ..Default::default() };
-        let (client, server) = (Client::new(&client).unwrap(), Server::new(&server).unwrap());
-        Pair { client, server, to_server: VecDeque::new(), to_client: VecDeque::new() }
-    }
-
     fn send(&mut self, frame: Vec<u8>) {
         self.to_server.extend(frame);
     }
@@ -84,62 +49,6 @@ impl Pair {
             self.serve(self.to_server.len());
             self.hear(self.to_client.len());
         }
-    }
-}
-
-const URIS: [&str; 3] = ["file:///a", "file:///b", ""];
-
-/// A call of an editor; refused calls leave all as it was.
-fn call(pair: &mut Pair, chance: &mut Chance) {
-    let uri = URIS[chance.below(3) as usize];
-    let before = (pair.client.version(uri), pair.client.text(uri));
-    let version = before.0.unwrap_or(0) + chance.below(4) as i32;
-    let found = match chance.below(8) {
-        0 => pair.client.open(uri, "c", version, &chance.text(12)),
-        1 => pair.client.close(uri),
-        _ => {
-            let changes: Vec<Change> = (0..chance.below(4)).map(|_| chance.change()).collect();
-            pair.client.edit(uri, version, &changes)
-        }
-    };
-    match found {
-        Ok(frame) => pair.send(frame),
-        Err(_) => assert_eq!((pair.client.version(uri), pair.client.text(uri)), before),
-    }
-}
-
-#[test]
-fn random_sessions_agree() {
-    let sessions = std::env::var("LASPIDRU_SESSIONS").map_or(300, |count| count.parse().unwrap());
-    let mut chance = Chance(0x9E37_79B9_7F4A_7C15);
-    for _ in 0..sessions {
-        let mut pair = Pair::new(&mut chance);
-        let start = pair.client.start().unwrap();
-        pair.send(start);
-        while pair.client.phase() != Phase::Ready {
-            pair.serve(chance.below(40) as usize);
-            pair.hear(chance.below(40) as usize);
-        }
-        for _ in 0..chance.below(30) {
-            match chance.below(4) {
-                0 => pair.serve(chance.below(300) as usize),
-                1 => pair.hear(chance.below(300) as usize),
-                _ => call(&mut pair, &mut chance),
-            }
-        }
-        pair.carry_all();
-        for uri in URIS {
-            assert_eq!(pair.client.version(uri), pair.server.version(uri));
-            assert_eq!(pair.client.text(uri), pair.server.text(uri));
-        }
-        assert_eq!(pair.client.document_count(), pair.server.document_count());
-        let shutdown = pair.client.shutdown().unwrap();
-        pair.send(shutdown);
-        pair.carry_all();
-        let exit = pair.client.exit().unwrap();
-        pair.send(exit);
-        pair.carry_all();
-        assert!(pair.client.phase() == Phase::Done && pair.server.is_at_rest());
     }
 }
 

@@ -7,9 +7,7 @@
    returns a code. Pointers, lengths and bools are yours (CODES.md). Where the code isn't LASPIDRU_OK nothing has changed;
    only after the four faults of a log, 20 to 23, the output up to the fault is kept, after LASPIDRU_BAD_FRAME no more of a
    stream is taken, and laspidru_take releases the message of before, and may have taken one that it couldn't handle yet.
-   Memory is taken last: LASPIDRU_OUT_OF_MEMORY is returned only where the arguments are not refused. A client's calls on
-   documents, and laspidru_open_canonical_message, take memory earlier: they may return it also where the documents would
-   refuse the call.
+   LASPIDRU_OUT_OF_MEMORY may come in place of LASPIDRU_OK, and of each code after it in the call's row.
    A handle of zeroes is empty. It is given to one call at a time, and never copied while it is full; it may be used
    by any thread. What a handle holds is freed by laspidru_close. Pointers are never null, also where a length is 0. */
 #ifndef LASPIDRU_H
@@ -62,7 +60,7 @@ enum {
     LASPIDRU_BODY_TOO_LONG = 22, /* the canonical message of a change has a longer body than max_body */
     LASPIDRU_BAD_LOG = 23,       /* what is there belongs in no log, or for LASPIDRU_CONVERT in none of version 1 */
 
-    LASPIDRU_TOO_MANY_TURNS = 24, /* as many reads and writes as are allowed, 2^64 - 1; nothing has changed */
+    LASPIDRU_TOO_MANY_TURNS = 24, /* no call returns it: no log needs as many reads and writes */
     LASPIDRU_OVERLAP = 25,        /* two text edits overlap */
     LASPIDRU_FAILED = 26,         /* LASPIDRU_BAD_FRAME was returned of this stream before */
     LASPIDRU_NO_MESSAGE = 27,     /* no whole message is buffered */
@@ -453,8 +451,8 @@ laspidru_u32 laspidru_log_run(laspidru_handle *output, laspidru_u32 command, con
     const unsigned char *uri, laspidru_size uri_len, const unsigned char *log, laspidru_size log_len,
     laspidru_ending *ending);
 
-/* Whether the last text of a document of a log is `saved`, the text that its editor saved, and else which message made each
-   line that differs: the output of lspsync compare. The document is the one whose URI ends as `uri`, or the only one where
+/* Whether the last text of a document of a log is `saved`, the text that its editor saved, and else which messages made each
+   line that differs, and which about the document were refused: the output of lspsync compare. The document is the one whose URI ends as `uri`, or the only one where
    that has no bytes. Where two end so, the output names both; where none does, NOT_OPEN is `missing`. The status is 0 only for
    equal bytes, whatever was refused. Of the settings it takes the limits and the encoding. */
 laspidru_u32 laspidru_log_compare(laspidru_handle *output, const laspidru_log_settings *settings,
@@ -492,10 +490,10 @@ laspidru_u32 laspidru_output_copy(laspidru_handle *output, laspidru_size start,
    framer_feed: FAILED; OUT_OF_MEMORY, or BAD_FRAME
    framer_new: IN_USE, BAD_MAX_BODY; OUT_OF_MEMORY
    log_compare: IN_USE; NOT_UTF8 of the URI or the saved text; BAD_ENCODING, BAD_MAX_BODY, BAD_MAX_TEXT, BAD_MAX_DOCS,
-      BAD_MAX_CHANGES; OUT_OF_MEMORY, or the fault: CUT, BAD_FRAME, BAD_LOG; TOO_MANY_TURNS as of log_run
+      BAD_MAX_CHANGES; OUT_OF_MEMORY, or the fault: CUT, BAD_FRAME, BAD_LOG
    log_run: IN_USE; OUT_OF_RANGE of the command; NOT_UTF8 of the URI; BAD_ENCODING, BAD_MAX_BODY, BAD_MAX_TEXT,
       BAD_MAX_DOCS, BAD_MAX_CHANGES; OUT_OF_MEMORY, or the fault: CUT, BAD_FRAME, BAD_LOG, of normalise also
-      BODY_TOO_LONG; TOO_MANY_TURNS is for more than 2^64-1 reads and writes
+      BODY_TOO_LONG
    message_uri: OUT_OF_MEMORY; NO_DOCUMENT of any other body, OUT_OF_RANGE
    open_batch_of_edits: NOT_OPEN, TOO_LONG; OUT_OF_MEMORY, or the fault, as of document_batch_of_edits
    open_canonical_message: OUT_OF_MEMORY, or NOT_OPEN, STALE_VERSION, TOO_MANY_CHANGES, INSIDE_CHARACTER,

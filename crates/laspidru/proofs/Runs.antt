@@ -1,14 +1,17 @@
 -- A command on a log.
-use Rattle.std.proofs.Common.{◌≡◌, ◌⊎◌, ℕ, List, Option, Result, inl, inr}
+use Rattle.std.proofs.Common.{◌≡◌, ◌<◌, ◌^◌, ◌⊎◌, ℕ, Bool, false, true, List, [], length, Option, Result, Err, inl, inr, sym, ◌∙◌, arith}
+use Rattle.std.specs.Prelude.{◌≢◌}
 use Rattle.lsp_stream.specs.declared.fault.EngineFault.{EngineFault}
+use Rattle.lsp_stream.specs.declared.fault.EngineFault.TheVariants.{TooManyTurns, Write}
 use Rattle.lsp_replay.specs.declared.commands.Settings.{Settings}
+use Rattle.lsp_replay.specs.Run.{IsEngineRun}
 use Rattle.lsp_replay.specs.declared.outcome.Outcome.{Outcome}
 use Rattle.laspidru.specs.declared.codes.TheConstants.{OUT_OF_MEMORY}
 use Rattle.laspidru.specs.declared.command.Command.{Command}
 use Rattle.laspidru.specs.declared.endings.Ending.{Ending}
 use Rattle.laspidru.specs.declared.endings.LogSettings.{LogSettings}
 use Rattle.laspidru.specs.declared.object.Object.{Object}
-use Rattle.laspidru.specs.Logs.{IsCommand, IsCommandRun, IsEnded, IsKeptRun, RanOn, RunAsked}
+use Rattle.laspidru.specs.Logs.{IsCommand, IsCommandRun, IsEnded, IsKeptRun, RanOn, RunAsked, command_engine, command_turns, log_ports}
 
 -- It ran, and its output was kept, or out of memory.
 pub ran_and_kept : (it : Command) (settings : Settings) (log output : List ℕ) (answer : Result Outcome EngineFault)
@@ -28,3 +31,17 @@ pub command_ran : (asked : RunAsked) (settings : LogSettings) (log : List ℕ) (
     → (code ≡ OUT_OF_MEMORY) ⊎ IsCommandRun asked settings log code stored out
 command_ran asked settings log it code stored out is (inl none) = inl none
 command_ran asked settings log it code stored out is (inr run) = inr (record { it = it; is = is; run = run })
+
+not_write : (answer : Result Outcome EngineFault) → answer ≡ Err TooManyTurns → answer ≢ Err Write
+not_write answer is write = let two : ◌≡◌ {A = Result Outcome EngineFault} (Err TooManyTurns) (Err Write) =
+    sym is ∙ write in cc
+
+-- As many reads and writes as are needed are allowed.
+pub enough_turns : (it : Command) (settings : Settings) (log left output : List ℕ) (reads : ℕ) (ended failed : Bool)
+    (writes : ℕ) (flushed : Bool) (answer : Result Outcome EngineFault)
+    → IsEngineRun (command_engine it settings) command_turns (log_ports log 0 false [] false 0 true)
+    (log_ports left reads ended output failed writes flushed) answer → length log < 2 ^ 63 → answer ≢ Err TooManyTurns
+enough_turns it settings log left output reads ended failed writes flushed answer run small is =
+    let read = run.few.reads in
+    let written = run.few.writes (not_write answer is) in
+    omega (arith, small, read, written, run.called.too_many is (omega (arith, small, read)) (omega (arith, written)))

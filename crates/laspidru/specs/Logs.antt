@@ -1,6 +1,6 @@
 -- A command on a log that C asks for, and the result that C gets.
 use Rattle.std.specs.Option.{ok_or}
-use Rattle.std.specs.Prelude.{ℕ, ◌≡◌, ◌≢◌, ◌||◌, not, nat_eq, if◌then◌else◌, Bool, true, false, List, [], length, option_map, string_bytes, Option, Some, None, Result, Ok, Err}
+use Rattle.std.specs.Prelude.{ℕ, ◌+◌, ◌-◌, ◌*◌, ◌^◌, ◌≡◌, ◌≢◌, ◌||◌, not, nat_eq, if◌then◌else◌, Bool, true, false, List, [], length, option_map, string_bytes, Option, Some, None, Result, Ok, Err}
 use Rattle.lsp_frame.specs.declared.fault.FrameFault.{FrameFault}
 use Rattle.lsp_frame.specs.declared.fault.FrameFault.TheVariants as frame
 use Rattle.lsp_stream.specs.declared.fault.EngineFault.{EngineFault}
@@ -18,7 +18,7 @@ use Rattle.lsp_replay.specs.Parts.{part_engine}
 use Rattle.lsp_replay.specs.Run.{Engine, IsEngineRun, WritesLog, check_engine, convert_engine, normalise_engine, replay_engine}
 use Rattle.lsp_replay.specs.Trace.{trace_engine}
 use Rattle.lsp_replay.specs.laws.Written.{IsConverted, IsCanonicalLog, IsSquashed}
-use Rattle.laspidru.specs.declared.codes.TheConstants.{BAD_FRAME, BAD_LOG, BODY_TOO_LONG, CUT, NOT_OPEN, OK, OTHER_KIND, OUT_OF_MEMORY, OUT_OF_RANGE, TOO_MANY_TURNS}
+use Rattle.laspidru.specs.declared.codes.TheConstants.{BAD_FRAME, BAD_LOG, BODY_TOO_LONG, CUT, NOT_OPEN, OK, OTHER_KIND, OUT_OF_MEMORY, OUT_OF_RANGE}
 use Rattle.laspidru.specs.declared.command.Command.{Command}
 use Rattle.laspidru.specs.declared.command.Command.TheVariants as command
 use Rattle.laspidru.specs.declared.command.CommandName.{CommandName}
@@ -136,12 +136,32 @@ IsLawful other settings before after answer = Unit {0}
 abbrev pub command_turns : ℕ
 command_turns = 18446744073709551615
 
+-- How many bytes an output has at most.
+abbrev pub max_output : ℕ
+max_output = 2 ^ 61
+
+-- How many more writes and flushes an output of so many bytes can take, flushed or not.
+abbrev pub writes_left : ℕ → Bool → ℕ
+writes_left len flushed = 2 * (max_output - len) + (if flushed then 0 else 1)
+
 -- A log in memory, of which no read fails, and its output in memory.
 abbrev pub log_ports : (left : List ℕ) (reads : ℕ) (ended : Bool) (written : List ℕ)
     (failed : Bool) (writes : ℕ) (flushed : Bool) → Ports
 log_ports left reads ended written failed writes flushed = record {
-  reader = record { left = Some left; failed = false; calls = reads; ended = ended };
-  writer = record { written = Some written; failed = failed; calls = writes; flushed = flushed };
+  reader = record {
+    left = Some left;
+    failed = false;
+    calls = reads;
+    calls_left = length left;
+    ended = ended;
+  };
+  writer = record {
+    written = Some written;
+    failed = failed;
+    calls = writes;
+    calls_left = writes_left (length written) flushed;
+    flushed = flushed;
+  };
 }
 
 -- A command ran from the first byte of a log, with this output and this result.
@@ -159,6 +179,8 @@ pub record RanOn (it : Command) (settings : Settings) (log output : List ℕ)
       (log_ports left reads ended output failed writes flushed) answer
   pub lawful : IsLawful it settings (log_ports log 0 false [] false 0 true)
       (log_ports left reads ended output failed writes flushed) answer
+  -- As many reads and writes as it needs are allowed.
+  pub enough : answer ≢ Err TooManyTurns
 
 -- ---- the result that C gets
 
@@ -209,7 +231,6 @@ ending_out len (Err (Frame fault)) = Ok (BAD_FRAME, frame_fault_out len fault)
 ending_out len (Err (Truncated place)) = Ok (CUT, fault_out len place)
 ending_out len (Err (BodyTooLong place)) = Ok (BODY_TOO_LONG, fault_out len place)
 ending_out len (Err (BadLog place)) = Ok (BAD_LOG, fault_out len place)
-ending_out len (Err TooManyTurns) = Err TOO_MANY_TURNS
 ending_out len (Err fault) = Err OUT_OF_MEMORY
 
 -- This holds, unless the code is of an outcome or of a fault of the log.

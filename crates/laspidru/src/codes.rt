@@ -52,7 +52,7 @@ pub const BAD_FRAME: u32 = 21;
 pub const BODY_TOO_LONG: u32 = 22;
 /// What is there belongs in no log, or for the command `convert` in none of version 1.
 pub const BAD_LOG: u32 = 23;
-/// As many reads and writes were made as are allowed, 2^64 - 1. Nothing has changed.
+/// No call returns it: no log needs as many reads and writes.
 pub const TOO_MANY_TURNS: u32 = 24;
 /// Two text edits overlap.
 pub const OVERLAP: u32 = 25;

@@ -8,9 +8,10 @@ ghost use Rattle.laspidru.specs.Logs.{name_numbered};
 
 use crate::endings::LogSettings;
 use crate::log_reader::LogReader;
+use crate::log_writer::LogWriter;
 use lsp_replay::{
-    Comparison, Details, EngineFault, Listing, Outcome, Part, Settings, Told, check, compare,
-    convert, explain, normalise, normalise_documents, replay, replay_part, trace,
+    Comparison, Details, EngineFault, Listing, Outcome, Part, Settings, check, compare, convert,
+    explain, normalise, normalise_documents, replay, replay_part, trace,
 };
 use std::alloc::{AllocError, Global};
 
@@ -132,17 +133,17 @@ fn run_between(
     command: Command,
     settings: Settings,
     reader: &mut LogReader,
-    writer: &mut Told<Vec<u8>>,
+    writer: &mut LogWriter,
 ) -> Result<Outcome, EngineFault>
     ensures ran { IsEngineRun (command_engine command settings) command_turns
-        (log_ports reader.old.rest.now reader.old.calls reader.old.ended writer.old.inner.items
+        (log_ports reader.old.rest.now reader.old.calls reader.old.ended writer.old.bytes.items
         writer.old.failed writer.old.calls writer.old.flushed)
-        (log_ports reader.new.rest.now reader.new.calls reader.new.ended writer.new.inner.items
+        (log_ports reader.new.rest.now reader.new.calls reader.new.ended writer.new.bytes.items
         writer.new.failed writer.new.calls writer.new.flushed) result }
     ensures lawful { IsLawful command settings
-        (log_ports reader.old.rest.now reader.old.calls reader.old.ended writer.old.inner.items
+        (log_ports reader.old.rest.now reader.old.calls reader.old.ended writer.old.bytes.items
         writer.old.failed writer.old.calls writer.old.flushed)
-        (log_ports reader.new.rest.now reader.new.calls reader.new.ended writer.new.inner.items
+        (log_ports reader.new.rest.now reader.new.calls reader.new.ended writer.new.bytes.items
         writer.new.failed writer.new.calls writer.new.flushed) result }
 {
     match command {
@@ -163,6 +164,7 @@ fn run_between(
 }
 
 /// Runs a command over the bytes of a log.
+#[tactic(auto, using(crate::proofs::Runs::enough_turns))]
 pub(crate) fn run_command(
     alloc: Global,
     command: Command,
@@ -172,10 +174,10 @@ pub(crate) fn run_command(
     ensures { RanOn command settings log.now result.output.items result.answer }
 {
     let mut reader = LogReader::new(log);
-    let mut writer = Told::new(Vec::new(alloc));
+    let mut writer = LogWriter::new(alloc);
     let answer = run_between(alloc, command, settings, &mut reader, &mut writer);
     CommandRun {
         answer,
-        output: writer.into_inner(),
+        output: writer.into_bytes(),
     }
 }

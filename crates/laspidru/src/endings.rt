@@ -8,7 +8,6 @@ use crate::answers::limits_in;
 use crate::changes::encoding_of;
 use crate::codes::{
     BAD_FRAME, BAD_LOG, BODY_TOO_LONG, CUT, NOT_OPEN, OK, OUT_OF_MEMORY, OUT_OF_RANGE,
-    TOO_MANY_TURNS,
 };
 use lsp_frame::FrameFault;
 use lsp_replay::{EngineFault, Missing, Outcome, Settings};
@@ -154,8 +153,12 @@ pub(crate) fn ending_of(
             Ok((BODY_TOO_LONG, fault_ending(output_len, place)))
         }
         Err(EngineFault::BadLog { place }) => Ok((BAD_LOG, fault_ending(output_len, place))),
-        Err(EngineFault::TooManyTurns) => Err(TOO_MANY_TURNS),
-        // No read fails, and a write into memory fails only if out of memory.
-        Err(EngineFault::NoMemory | EngineFault::Read | EngineFault::Write) => Err(OUT_OF_MEMORY),
+        // No read fails, a write into memory fails only if out of memory, and turns don't run out.
+        Err(
+            EngineFault::NoMemory
+            | EngineFault::Read
+            | EngineFault::Write
+            | EngineFault::TooManyTurns,
+        ) => Err(OUT_OF_MEMORY),
     }
 }

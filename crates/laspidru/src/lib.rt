@@ -24,7 +24,8 @@
 //!   or gets; `positions`: positions, byte offsets and lines of a text.
 //! - `answers`: a server's settings, and what C gets of an end; `reports`: a client's; `taken`:
 //!   what is taken of a stream; `endings`: the settings of a command on a log, and its ending.
-//! - `command`: the commands over bytes; `log_reader`: a log in memory, as a command reads it.
+//! - `command`: the commands over bytes; `log_reader`: a log in memory, as a command reads it;
+//!   `log_writer`: a command's output.
 #![tactic(auto)]
 
 mod answers;
@@ -45,6 +46,7 @@ mod handle;
 mod laws;
 mod log;
 mod log_reader;
+mod log_writer;
 mod object;
 mod party;
 mod positions;

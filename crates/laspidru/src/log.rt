@@ -88,8 +88,8 @@ fn run_named(
 ///
 /// Codes, in this order: IN_USE; OUT_OF_RANGE of the command; NOT_UTF8 of the URI; BAD_ENCODING,
 /// BAD_MAX_BODY, BAD_MAX_TEXT, BAD_MAX_DOCS, BAD_MAX_CHANGES; OUT_OF_MEMORY, or the fault: CUT,
-/// BAD_FRAME, BAD_LOG, of `normalise` also BODY_TOO_LONG. TOO_MANY_TURNS is for more than 2^64 - 1
-/// reads and writes. Costs that call, and keeps the output in memory.
+/// BAD_FRAME, BAD_LOG, of `normalise` also BODY_TOO_LONG. Costs that call, and keeps the output in
+/// memory.
 #[unsafe(no_mangle)]
 pub extern "C" fn laspidru_log_run(
     alloc: Global,

@@ -1,6 +1,6 @@
 //! A log in memory, as a command reads it.
 
-ghost use Rattle.std.specs.Prelude.{◌≡◌, Some, false};
+ghost use Rattle.std.specs.Prelude.{◌≡◌, Some, false, length};
 
 use lsp_stream::Source;
 use std::io;
@@ -34,6 +34,7 @@ impl Source for LogReader<'_> {
           left = Some reader.rest.now;
           failed = false;
           calls = reader.calls;
+          calls_left = length reader.rest.now;
           ended = reader.ended;
         } };
 

@@ -3,15 +3,15 @@ use Rattle.std.proofs.Common.{◌≡◌, ℕ, suc, ◌+◌, ◌-◌, ◌<◌, ma
 use Rattle.std.proofs.lemmas.List.{drop_more, get_or-map, length-map}
 use Rattle.line_diff.specs.Makers.{greatest, number_at, rows_of}
 
-pub row_first : (lines : List (Bor (List ℕ))) (d : Bor (List ℕ)) (i : ℕ) (rest : List ℕ) → i < length lines
-    → rows_of rest (drop i (map (λ line. line.now) lines))
-    ≡ take (length (get_or lines i d).now) rest
-    ∷ rows_of (drop (length (get_or lines i d).now) rest) (drop (i + 1) (map (λ line. line.now) lines))
-row_first lines d i rest within =
+pub row_first : (more : ℕ) (lines : List (Bor (List ℕ))) (d : Bor (List ℕ)) (i : ℕ) (rest : List ℕ) → i < length lines
+    → rows_of more rest (drop i (map (λ line. line.now) lines))
+    ≡ take (length (get_or lines i d).now + more) rest
+    ∷ rows_of more (drop (length (get_or lines i d).now) rest) (drop (i + 1) (map (λ line. line.now) lines))
+row_first more lines d i rest within =
     let shown = map (λ (line : Bor (List ℕ)). line.now) lines in
-    let more = drop_more shown i [] (rw (length-map lines (λ line. line.now)) within) in
+    let dropped = drop_more shown i [] (rw (length-map lines (λ line. line.now)) within) in
     let line = get_or-map (λ (line : Bor (List ℕ)). line.now) lines i d [] within in
-    rw (more, line) refl
+    rw (dropped, line) refl
 
 turned : (a n m : ℕ) → max a (max n m) ≡ max (max n a) m
 turned a n m = omega arith

@@ -1,14 +1,18 @@
 -- A file, and the document of a session that is compared with it.
-use Rattle.std.specs.Prelude.{ℕ, ◌-◌, Bool, false, if◌then◌else◌, length, drop, List, [], ◌++◌, Option, Some, None, codes}
+use Rattle.std.specs.Prelude.{ℕ, ◌-◌, ◌+◌, Bool, false, not, ◌&&◌, min, nat_lt, if◌then◌else◌, length, drop, List, [], ◌++◌, Option, Some, None, codes, decimal}
 use Rattle.std.specs.Str.{bytes_eq}
 use Rattle.line_diff.specs.Report.{report_words}
 use Rattle.line_diff.specs.Shown.{shown}
 use Rattle.line_diff.specs.Tracked.{Tracked, changed_by, opened_by}
+use Rattle.line_diff.specs.declared.owners.Splice.{Splice}
 
 -- The document that is compared.
 pub record Followed : Type 0 where
   pub uri : List ℕ
   pub text : Tracked
+  -- since it was opened, the first messages about it that were refused, in words, and how many were
+  pub refused : List ℕ
+  pub refusals : ℕ
 
 -- A comparison, after some messages.
 pub record ComparisonData : Type 0 where
@@ -32,18 +36,23 @@ new_comparison ending file = record {
   second = None;
 }
 
--- ---- after a message, which has given a text to a document: it opens or changes it
+-- ---- after a message, which has given a text to a document: by splices, or as it opened it
 
--- The text of the document.
-abbrev pub text_after : ℕ → List ℕ → Bool → Tracked → Tracked
-text_after number text opens before =
-    if opens then opened_by number text else changed_by number text before
+-- The document that a message opens.
+abbrev pub opened_as : ℕ → List ℕ → List ℕ → Followed
+opened_as number uri text =
+    record { uri = uri; text = opened_by number text; refused = []; refusals = 0 }
+
+-- The document that was open before.
+abbrev pub given : ℕ → List ℕ → Option (List Splice) → Followed → Followed
+given number text None d = opened_as number d.uri text
+given number text (Some splices) d = record d { text = changed_by number text splices d.text }
 
 -- The document. The first one stays.
-abbrev pub followed_after : ℕ → List ℕ → List ℕ → Bool → Option Followed → Followed
-followed_after number uri text opens None = record { uri = uri; text = opened_by number text }
-followed_after number uri text opens (Some d) =
-    if bytes_eq d.uri uri then record d { text = text_after number text opens d.text } else d
+abbrev pub followed_after : ℕ → List ℕ → List ℕ → Option (List Splice) → Option Followed → Followed
+followed_after number uri text splices None = opened_as number uri text
+followed_after number uri text splices (Some d) =
+    if bytes_eq d.uri uri then given number text splices d else d
 
 -- The URI of another document.
 abbrev pub second_after : List ℕ → Option Followed → Option (List ℕ) → Option (List ℕ)
@@ -51,11 +60,34 @@ second_after uri document (Some second) = Some second
 second_after uri None None = None
 second_after uri (Some d) None = if bytes_eq d.uri uri then None else Some uri
 
-abbrev pub taken : ℕ → List ℕ → List ℕ → Bool → ComparisonData → ComparisonData
-taken number uri text opens c = record c {
-  document = Some (followed_after number uri text opens c.document);
+abbrev pub taken : ℕ → List ℕ → List ℕ → Option (List Splice) → ComparisonData → ComparisonData
+taken number uri text splices c = record c {
+  document = Some (followed_after number uri text splices c.document);
   second = second_after uri c.document c.second;
 }
+
+-- ---- after a message about a document that was refused with this code
+
+-- The message, after another one or not.
+abbrev pub refused_message : Bool → ℕ → List ℕ → List ℕ
+refused_message is_later number code =
+    (if is_later then codes ", " else codes " ") ++ decimal number ++ codes " (" ++ code ++ codes ")"
+
+-- The first 5 are named.
+abbrev pub refused_of : ℕ → List ℕ → Followed → Followed
+refused_of number code d = record d {
+  refused = (if nat_lt d.refusals 5 then d.refused ++ refused_message (nat_lt 0 d.refusals) number code
+      else d.refused);
+  refusals = min (d.refusals + 1) 18446744073709551615;
+}
+
+abbrev pub refused_in : ℕ → List ℕ → List ℕ → Option Followed → Option Followed
+refused_in number uri code None = None
+refused_in number uri code (Some d) =
+    Some (if bytes_eq d.uri uri then refused_of number code d else d)
+
+abbrev pub refused_by : ℕ → List ℕ → List ℕ → ComparisonData → ComparisonData
+refused_by number uri code c = record c { document = refused_in number uri code c.document }
 
 -- ---- at the end
 
@@ -65,9 +97,22 @@ choice_words first second =
     codes "more than one document ends so; `--uri` names one:\n" ++ shown first ++ codes "\n"
     ++ shown second ++ codes "\n"
 
--- Whether the document's text is the file's, and else how they differ.
+-- How many refused messages aren't named.
+unfoldable pub unnamed_words : ℕ → List ℕ
+unnamed_words refusals = if nat_lt 5 refusals then codes " and " ++ decimal (refusals - 5) ++ codes " more"
+    else []
+
+-- Which messages were refused, of so many.
+abbrev pub refusals_words : List ℕ → ℕ → List ℕ
+refusals_words refused refusals =
+    codes "Refused, so without effect:" ++ refused ++ unnamed_words refusals ++ codes "\n"
+
+-- Whether the document's text is the file's, and else how they differ, and what was refused.
 abbrev pub followed_words : Followed → List ℕ → List ℕ
-followed_words d file = shown d.uri ++ codes " " ++ report_words d.text file
+followed_words d file =
+    shown d.uri ++ codes " " ++ report_words d.text file
+    ++ (if not (bytes_eq d.text.text file) && nat_lt 0 d.refusals
+    then refusals_words d.refused d.refusals else [])
 
 -- Nothing is written of a document that was never open.
 abbrev pub words_of : Option Followed → Option (List ℕ) → List ℕ → List ℕ

@@ -77,7 +77,7 @@ hunk_words rows lines others hunk =
 
 -- What follows.
 abbrev pub last_words : List ℕ
-last_words = codes "For each line, a message named is wrong, or a later one that was to change what it made is missing or wrong.\n"
+last_words = codes "For each line, a message named is wrong, a later one is missing or wrong, or an earlier mistake led it to the wrong line. Look at the lowest numbers first.\n"
 
 -- How they differ, line by line. The next common line is sought in 2,000 lines of both.
 unfoldable pub difference_words : List ℕ → List ℕ → List (List ℕ) → List (List ℕ) → List ℕ

@@ -1,7 +1,7 @@
 -- A text, and which change made each of its bytes.
 use Rattle.std.specs.Prelude.{ℕ, ◌+◌, length, replicate, List}
-use Rattle.line_diff.specs.Common.{common_back, common_front}
-use Rattle.line_diff.specs.Owners.{numbers_kept}
+use Rattle.line_diff.specs.Owners.{all_spliced, fitted}
+use Rattle.line_diff.specs.declared.owners.Splice.{Splice}
 
 -- A text after several numbered changes.
 pub record Tracked : Type 0 where
@@ -22,18 +22,11 @@ opened_by number text = record {
   places = replicate (length text + 1) number;
 }
 
--- A text that a change has made of the one before: all but so many bytes at the front and at the
--- back, with the places at both ends of it.
-abbrev pub changed_between : ℕ → ℕ → ℕ → List ℕ → Tracked → Tracked
-changed_between front back number text t = record {
+-- A text that a change has made of the one before, by these splices.
+abbrev pub changed_by : ℕ → List ℕ → List Splice → Tracked → Tracked
+changed_by number text splices t = record {
   text = text;
   made = number;
-  owners = numbers_kept front back t.owners (length t.text) (length text) number;
-  places = numbers_kept front back t.places (length t.text + 1) (length text + 1) number;
+  owners = fitted (length text) number (all_spliced 0 number splices t.owners);
+  places = fitted (length text + 1) number (all_spliced 1 number splices t.places);
 }
-
--- The same, where what is equal at the front and at the back is kept.
-abbrev pub changed_by : ℕ → List ℕ → Tracked → Tracked
-changed_by number text t =
-    changed_between (common_front t.text text)
-    (common_back (common_front t.text text) t.text text) number text t

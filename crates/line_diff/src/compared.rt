@@ -2,15 +2,18 @@
 
 ghost use Rattle.std.specs.Prelude.{◌≡◌, ◌++◌, IfOk, OnErr, OnOk, Some, option_map, string_bytes};
 ghost use Rattle.std.specs.Option.{unwrap_or};
-ghost use Rattle.line_diff.specs.Tracked.{opened_by};
 ghost use Rattle.line_diff.specs.Compared.{choice_words, followed_words, ends_so, equality, new_comparison};
-ghost use Rattle.line_diff.specs.Compared.{comparison_words, taken, text_after};
+ghost use Rattle.line_diff.specs.Compared.{comparison_words, given, unnamed_words, opened_as, refused_by, refused_message, refused_of, refusals_words, taken};
 
-use crate::report::push_words;
+use crate::owners::Splice;
+use crate::report::{push_number, push_words};
 use crate::shown::push_shown;
 use crate::tracked::TrackedText;
 use std::alloc::{AllocError, Global};
 use std::marker::Model;
+
+/// So many refused messages are named.
+const NAMED: u64 = 5;
 
 /// A file's text, and the text of a document that is to be the same. The document is the first one
 /// that is taken.
@@ -42,6 +45,9 @@ impl Model for Comparison {
 struct Followed {
     uri: String,
     text: TrackedText,
+    // The first messages about it that were refused, in words, and how many were.
+    refused: Vec<u8>,
+    refusals: u64,
 }
 
 impl Model for Followed {
@@ -50,40 +56,60 @@ impl Model for Followed {
 
     ghost Value = { spec.Followed };
 
-    ghost view = { λ d. record { uri = string_bytes d.uri; text = d.text } };
+    ghost view = { λ d. record {
+      uri = string_bytes d.uri;
+      text = d.text;
+      refused = d.refused.items;
+      refusals = d.refusals;
+    } };
 }
 
 impl Followed {
     /// Starts with the text that the message of this number has given to a document.
     fn new(alloc: Global, number: u64, uri: &str, text: String) -> Result<Followed, AllocError>
-        ensures { IfOk result (λ document. document ≡ record {
-          uri = uri.now;
-          text = opened_by number (string_bytes text);
-        }) }
+        ensures { IfOk result
+            (λ document. document ≡ opened_as number uri.now (string_bytes text)) }
     {
         Ok(Followed {
             uri: String::from_str(alloc, uri)?,
             text: TrackedText::new(alloc, number, text)?,
+            refused: Vec::new(alloc),
+            refusals: 0,
         })
     }
 
-    /// Takes the text that the message of this number has given to the document.
+    /// Takes the text that the message of this number has given to the document, by splices or as
+    /// it opened it.
     fn take(
         &mut self,
         alloc: Global,
         number: u64,
         text: String,
-        opens: bool,
+        splices: Option<&[Splice]>,
     ) -> Result<(), AllocError>
-        ensures taken { OnOk result (self.new ≡ record self.old {
-          text = text_after number (string_bytes text) opens self.old.text;
-        }) }
+        ensures taken { OnOk result (self.new ≡ given number (string_bytes text)
+            (option_map (λ splices. splices.now) splices.entry) self.old) }
         ensures unchanged { OnErr result (self.new ≡ self.old) }
     {
-        if !opens {
-            return self.text.change(alloc, number, text);
+        if let Some(splices) = splices {
+            return self.text.change(alloc, number, text, splices);
         }
         self.text = TrackedText::new(alloc, number, text)?;
+        self.refused.clear();
+        self.refusals = 0;
+        Ok(())
+    }
+
+    /// Names a message that was refused with this code, if it is one of the first.
+    fn refuse(&mut self, alloc: Global, number: u64, code: &str) -> Result<(), AllocError>
+        ensures refused { OnOk result (self.new ≡ refused_of number code.now self.old) }
+        ensures unchanged { OnErr result (self.new ≡ self.old) }
+    {
+        if self.refusals < NAMED {
+            let words = refused_message(alloc, self.refusals > 0, number, code)?;
+            self.refused.extend_from_slice(&words)?;
+        }
+        self.refusals = self.refusals.saturating_add(1);
         Ok(())
     }
 }
@@ -108,19 +134,19 @@ impl Comparison {
         uri.as_bytes().ends_with(self.ending.as_bytes())
     }
 
-    /// Takes the text that the message of this number has given to a document, which it `opens` or
-    /// changes. Fails only where memory runs out; then nothing has changed. Linear in the texts
-    /// before and after.
+    /// Takes the text that the message of this number has given to a document, by splices or as it
+    /// opened it. Fails only where memory runs out; then nothing has changed. Linear in the texts
+    /// before and after for each splice.
     pub fn take(
         &mut self,
         alloc: Global,
         number: u64,
         uri: &str,
         text: String,
-        opens: bool,
+        splices: Option<&[Splice]>,
     ) -> Result<(), AllocError>
-        ensures taken { OnOk result
-            (self.new ≡ taken number uri.now (string_bytes text) opens self.old) }
+        ensures taken { OnOk result (self.new ≡ taken number uri.now (string_bytes text)
+            (option_map (λ splices. splices.now) splices.entry) self.old) }
         ensures unchanged { OnErr result (self.new ≡ self.old) }
     {
         let Some(document) = &mut self.document else {
@@ -128,9 +154,27 @@ impl Comparison {
             return Ok(());
         };
         if document.uri.as_str() == uri {
-            return document.take(alloc, number, text, opens);
+            return document.take(alloc, number, text, splices);
         }
         self.keep_second(alloc, uri)
+    }
+
+    /// Takes that the message of this number about a document was refused with this code. Fails only
+    /// where memory runs out; then nothing has changed.
+    pub fn refuse(
+        &mut self,
+        alloc: Global,
+        number: u64,
+        uri: &str,
+        code: &str,
+    ) -> Result<(), AllocError>
+        ensures refused { OnOk result (self.new ≡ refused_by number uri.now code.now self.old) }
+        ensures unchanged { OnErr result (self.new ≡ self.old) }
+    {
+        match &mut self.document {
+            Some(document) if document.uri.as_str() == uri => document.refuse(alloc, number, code),
+            _ => Ok(()),
+        }
     }
 
     /// Keeps the URI of another document than the first one.
@@ -199,5 +243,52 @@ fn document_report(alloc: Global, document: &Followed, file: &str) -> Result<Vec
     push_shown(&mut report, &document.uri)?;
     push_words(&mut report, " ")?;
     document.text.push_report(alloc, &mut report, file)?;
+    if document.text.text() != file && document.refusals > 0 {
+        push_refused(&mut report, &document.refused, document.refusals)?;
+    }
     Ok(report)
+}
+
+/// Returns a message that was refused with this code in words, after another one or not.
+fn refused_message(
+    alloc: Global,
+    is_later: bool,
+    number: u64,
+    code: &str,
+) -> Result<Vec<u8>, AllocError>
+    ensures { IfOk result (λ words. words.items ≡ refused_message is_later number code.now) }
+{
+    let mut words = Vec::new(alloc);
+    push_words(&mut words, if is_later { ", " } else { " " })?;
+    push_number(&mut words, number)?;
+    push_words(&mut words, " (")?;
+    push_words(&mut words, code)?;
+    push_words(&mut words, ")")?;
+    Ok(words)
+}
+
+/// Writes which messages were refused, of so many.
+fn push_refused(buffer: &mut Vec<u8>, refused: &[u8], refusals: u64) -> Result<(), AllocError>
+    ensures { OnOk result
+        (buffer.new.items ≡ buffer.old.items ++ refusals_words refused.now refusals) }
+{
+    push_words(buffer, "Refused, so without effect:")?;
+    buffer.extend_from_slice(refused)?;
+    push_more(buffer, refusals)?;
+    push_words(buffer, "\n")?;
+    Ok(())
+}
+
+/// Writes how many of so many aren't named.
+#[tactic(auto, unfolding(crate::specs::Compared::unnamed_words))]
+fn push_more(buffer: &mut Vec<u8>, refusals: u64) -> Result<(), AllocError>
+    ensures { OnOk result (buffer.new.items ≡ buffer.old.items ++ unnamed_words refusals) }
+{
+    if refusals <= NAMED {
+        return Ok(());
+    }
+    push_words(buffer, " and ")?;
+    push_number(buffer, refusals - NAMED)?;
+    push_words(buffer, " more")?;
+    Ok(())
 }

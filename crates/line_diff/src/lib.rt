@@ -1,7 +1,8 @@
 //! Which of several numbered changes made each byte of a text so, and how it differs from a file's.
 //!
 //! - `compared`: `Comparison`, a file and the document of a session that is compared with it.
-//! - `tracked`: `TrackedText`, a text and which change made each of its bytes; `owners` is how.
+//! - `tracked`: `TrackedText`, a text and which change made each of its bytes. `owners` is how:
+//!   `Splice` is a part that a change replaced.
 //! - `report`: how the text and a file differ, in words.
 //! - `makers`: by which changes a line differs.
 //! - `lines`: the lines of a text. `hunks`: where two texts have other lines.
@@ -20,4 +21,5 @@ mod shown;
 mod tracked;
 
 pub use compared::Comparison;
+pub use owners::Splice;
 pub use tracked::TrackedText;

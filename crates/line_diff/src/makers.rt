@@ -1,6 +1,6 @@
 //! By which changes a line differs from another one.
 
-ghost use Rattle.std.specs.Prelude.{◌≡◌, ◌-◌, IfOk, drop, map, take};
+ghost use Rattle.std.specs.Prelude.{◌≡◌, ◌≤◌, ◌+◌, ◌-◌, IfOk, drop, map, take};
 ghost use Rattle.line_diff.specs.Makers.{greatest, makers_of, number_at, number_rows, row_at, rows_of};
 
 use crate::owners::{common_back, common_front};
@@ -14,7 +14,7 @@ pub struct Numbers<'a> {
     pub places: &'a [u64],
 }
 
-/// The same, in a row for each line.
+/// The same, in a row for each line. A line's places are those before its bytes and at its end.
 #[derive(Drop)]
 pub struct Rows<'a> {
     pub owners: Vec<&'a [u64]>,
@@ -42,7 +42,7 @@ pub struct Makers {
 }
 
 /// Returns the first numbers, so many or all.
-fn first_of(numbers: &[u64], count: usize) -> &[u64]
+pub(crate) fn first_of(numbers: &[u64], count: usize) -> &[u64]
     ensures { result.now ≡ take count numbers.now }
 {
     if count < numbers.len() {
@@ -53,7 +53,7 @@ fn first_of(numbers: &[u64], count: usize) -> &[u64]
 }
 
 /// Returns the numbers after so many, or none.
-fn after(numbers: &[u64], count: usize) -> &[u64]
+pub(crate) fn after(numbers: &[u64], count: usize) -> &[u64]
     ensures { result.now ≡ drop count numbers.now }
 {
     if count < numbers.len() {
@@ -63,20 +63,22 @@ fn after(numbers: &[u64], count: usize) -> &[u64]
     }
 }
 
-/// Returns numbers in a row for each line, of as many as it has bytes, and a last row of those that
-/// are left. Fails only where memory runs out.
+/// Returns numbers in a row for each line, of as many as it has bytes and `more`, and a last row of
+/// those that are after its bytes. Fails only where memory runs out.
 fn rows_of<'a>(
     alloc: Global,
+    more: usize,
     numbers: &'a [u64],
     lines: &[&str],
 ) -> Result<Vec<&'a [u64]>, AllocError>
+    requires { more ≤ 1 }
     ensures { IfOk result (λ rows. map (λ row. row.now) rows.items
-        ≡ rows_of numbers.now (map (λ line. line.now) lines.entry.now)) }
+        ≡ rows_of more numbers.now (map (λ line. line.now) lines.entry.now)) }
 {
     let mut rows = Vec::new(alloc);
     let mut rest = numbers;
     for line in lines {
-        rows.push(first_of(rest, line.len()))?;
+        rows.push(first_of(rest, line.len() + more))?;
         rest = after(rest, line.len());
     }
     rows.push(rest)?;
@@ -91,8 +93,8 @@ impl<'a> Numbers<'a> {
             self.entry.places.now (map (λ line. line.now) lines.entry.now)) }
     {
         Ok(Rows {
-            owners: rows_of(alloc, self.owners, lines)?,
-            places: rows_of(alloc, self.places, lines)?,
+            owners: rows_of(alloc, 0, self.owners, lines)?,
+            places: rows_of(alloc, 1, self.places, lines)?,
         })
     }
 }
@@ -135,7 +137,9 @@ pub fn makers_of(owners: &[u64], places: &[u64], line: &[u8], other: &[u8]) -> M
 {
     let front = common_front(line, other);
     let end = line.len() - common_back(front, line, other);
-    let last = greatest(places, front, end + 1);
+    // What differs may begin earlier: of letters that are alike, any may be the one too many.
+    let low = front.min(line.len() - common_back(0, line, other));
+    let last = greatest(places, low, end + 1);
     if front == end {
         Makers { first: last, last }
     } else {

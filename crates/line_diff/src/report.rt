@@ -21,8 +21,8 @@ const FARTHEST: usize = 2_000;
 
 /// What follows from a report.
 const LAST_WORDS: &str =
-    "For each line, a message named is wrong, or a later one that was to change what \
-it made is missing or wrong.\n";
+    "For each line, a message named is wrong, a later one is missing or wrong, or an \
+earlier mistake led it to the wrong line. Look at the lowest numbers first.\n";
 
 /// Writes words as they are.
 pub(crate) fn push_words(buffer: &mut Vec<u8>, words: &str) -> Result<(), AllocError>
@@ -32,7 +32,7 @@ pub(crate) fn push_words(buffer: &mut Vec<u8>, words: &str) -> Result<(), AllocE
 }
 
 /// Writes a number in decimal.
-fn push_number(buffer: &mut Vec<u8>, number: u64) -> Result<(), AllocError>
+pub(crate) fn push_number(buffer: &mut Vec<u8>, number: u64) -> Result<(), AllocError>
     ensures { OnOk result (buffer.new.items ≡ buffer.old.items ++ decimal number) }
 {
     let mut digits = Buffer::new();

@@ -5,7 +5,7 @@ ghost use Rattle.line_diff.specs.Report.{report_words};
 ghost use Rattle.line_diff.specs.Tracked.{changed_by, opened_by};
 
 use crate::makers::Numbers;
-use crate::owners::{common_back, common_front, numbers_kept};
+use crate::owners::{Splice, numbers_after};
 use crate::report::push_report;
 use std::alloc::{AllocError, Global};
 use std::marker::Model;
@@ -57,20 +57,23 @@ impl TrackedText {
         })
     }
 
-    /// Takes the text that the change of this number has made of the one before. What is common at
-    /// the front and at the back keeps its numbers. Fails only where memory runs out, and then
-    /// nothing has changed. Linear in both texts.
-    pub fn change(&mut self, alloc: Global, number: u64, text: String) -> Result<(), AllocError>
+    /// Takes the text that the change of this number has made of the one before by these splices,
+    /// each of which counts in the text that the one before it leaves. Fails only where memory runs
+    /// out, and then nothing has changed. Linear in both texts for each splice.
+    pub fn change(
+        &mut self,
+        alloc: Global,
+        number: u64,
+        text: String,
+        splices: &[Splice],
+    ) -> Result<(), AllocError>
         ensures changed { OnOk result
-            (self.new ≡ changed_by number (string_bytes text) self.old) }
+            (self.new ≡ changed_by number (string_bytes text) splices.now self.old) }
         ensures unchanged { OnErr result (self.new ≡ self.old) }
     {
-        let old = self.text.as_bytes();
-        let new = text.as_bytes();
-        let front = common_front(old, new);
-        let back = common_back(front, old, new);
-        let owners = numbers_kept(alloc, front, back, &self.owners, new.len(), number)?;
-        let places = numbers_kept(alloc, front, back, &self.places, new.len() + 1, number)?;
+        let (bytes, places) = (text.len(), text.len() + 1);
+        let owners = numbers_after(alloc, 0, number, splices, &self.owners, bytes)?;
+        let places = numbers_after(alloc, 1, number, splices, &self.places, places)?;
         self.owners = owners;
         self.places = places;
         self.text = text;

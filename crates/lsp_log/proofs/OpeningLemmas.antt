@@ -13,7 +13,7 @@ use Rattle.std.proofs.KnownBytes.{Consumes-trans}
 use borrow.Rule.Slice.PartMut.{put_mid}
 use Rattle.lsp_log.specs.declared.record.Version.{Version}
 use Rattle.lsp_log.specs.declared.record.Version.TheVariants.{One, Two}
-use Rattle.lsp_log.specs.Log.{IsVersion, line_of, version_line}
+use Rattle.lsp_log.specs.Log.{IsVersion, version_line}
 use Rattle.lsp_log.specs.Opening.{IsLineFront}
 
 -- bytes that begin with others
@@ -96,11 +96,3 @@ stays versions One bytes more last one = λ looks rest e.
           one looks (drop 18 bytes) (sym (take-append-drop 18 bytes) ∙ ap (λ z. z ++ drop 18 bytes) is)
     ]
 stays versions Two bytes more last two = two_stays versions bytes more two
-
--- what stands behind the line
-pub behind_line : (versions : Bool) (version : Version) (bytes : List ℕ) → IsVersion versions version bytes
-    → bytes ≡ line_of version ++ drop (length (line_of version)) bytes
-behind_line versions One bytes one = refl
-behind_line versions Two bytes two =
-    let rest : drop 18 (version_line ++ two.1.0) ≡ two.1.0 = refl in
-    two.1.1 ∙ ap (λ z. version_line ++ z) (sym rest ∙ ap (drop 18) (sym two.1.1))

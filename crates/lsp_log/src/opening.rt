@@ -2,6 +2,7 @@
 
 ghost use Rattle.std.specs.Prelude.{◌≡◌, ◌<◌, ◌≤◌, ◌^◌, ◌++◌, ◌↔◌, [], ℕ, List, true, false, IfOk, IfErr, length, take, drop};
 ghost use Rattle.std.specs.Io.KnownBytes.{Consumes, IsAtEnd};
+ghost use Rattle.lsp_stream.specs.Ports.{FewReads};
 ghost use Rattle.lsp_stream.specs.Turns.{ReadsWithin};
 ghost use Rattle.lsp_log.specs.Log.{IsVersion, line_of, version_line};
 ghost use Rattle.lsp_log.specs.Opening.{IsLineFront, IsBelowLine};
@@ -48,6 +49,7 @@ pub fn read_opening<R: Source>(
         (λ _. IsBelowLine versions (R.seen reader.old).left (R.seen reader.new).left) }
     ensures calls { ReadsWithin turns.old.left turns.new.left
         (R.seen reader.old) (R.seen reader.new) result }
+    ensures few { FewReads (R.seen reader.old) (R.seen reader.new) }
 {
     let mut len = 0;
     'opening: loop {

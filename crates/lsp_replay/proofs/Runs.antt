@@ -3,6 +3,7 @@ pub mod EngineLemmas
 pub mod WroteRecordLemmas
 pub mod PieceLemmas
 pub mod RunLemmas
+pub mod FewLemmas
 pub mod ReportedLemmas
 pub mod RunReportLemmas
 pub mod WroteLemmas

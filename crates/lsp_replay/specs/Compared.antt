@@ -1,10 +1,21 @@
 -- `compare`: whether a document's last text is that of a file, and else which message made it so.
-use Rattle.std.specs.Prelude.{ℕ, Bool, true, false, if◌then◌else◌, List, [], Option, Some, None}
-use Rattle.line_diff.specs.Compared.{ComparisonData, comparison_words, ends_so, equality, taken}
+use Rattle.std.specs.Prelude.{ℕ, Bool, if◌then◌else◌, length, List, [], ◌∷◌, ◌++◌, Option, Some, None, Result, Ok, Err}
+use Rattle.std.specs.Str.{chars}
+use Rattle.line_diff.specs.Compared.{ComparisonData, comparison_words, ends_so, equality, refused_by, taken}
+use Rattle.line_diff.specs.Owners.{splice_between}
+use Rattle.line_diff.specs.declared.owners.Splice.{Splice}
+use Rattle.lsp_text.specs.Units.{units_in}
+use Rattle.lsp_text.specs.declared.position.Range.{Range}
+use Rattle.lsp_edit.specs.Batch.{ends_of}
+use Rattle.lsp_edit.specs.Faults.{places_at}
+use Rattle.lsp_edit.specs.declared.fault.EditFault.{EditFault}
 use Rattle.lsp_message.specs.Message.{reading}
-use Rattle.lsp_message.specs.Params.{DocumentItem}
+use Rattle.lsp_message.specs.Params.{ChangeData, ContentChangeData, DocumentItem}
 use Rattle.lsp_store.specs.Table.{entry_at}
-use Rattle.lsp_server.specs.Incoming.{IncomingData, did_open, incoming_of}
+use Rattle.lsp_server.specs.Answer.{changed, refused}
+use Rattle.lsp_server.specs.Codes.{server_refusal_code}
+use Rattle.lsp_server.specs.Incoming.{IncomingData, did_change, incoming_of}
+use Rattle.lsp_server.specs.Step.{ServerData, content_change_from_data, session_encoding}
 use Rattle.lsp_log.specs.Log.{Record}
 use Rattle.lsp_replay.specs.declared.commands.Settings.{Settings}
 use Rattle.lsp_replay.specs.declared.outcome.Missing.TheVariants as missing
@@ -14,32 +25,79 @@ use Rattle.lsp_replay.specs.Commands.{View, log_config, output_in, unless_bad, w
 use Rattle.lsp_replay.specs.Lines.{uri_of}
 use Rattle.lsp_replay.specs.Parts.{lacking}
 use Rattle.lsp_replay.specs.Run.{Engine, log_engine}
-use Rattle.lsp_replay.specs.Session.{Session, Judged, Verdict, has_changed, opened, session_outcome}
+use Rattle.lsp_replay.specs.Notes.{left_by}
+use Rattle.lsp_replay.specs.Session.{Session, Judged, Verdict, answered, opened, session_outcome}
 
 -- A URI, if it ends so.
 abbrev pub if_ends_so : List ℕ → Option (List ℕ) → Option (List ℕ)
 if_ends_so ending None = None
 if_ends_so ending (Some uri) = if ends_so uri ending then Some uri else None
 
--- Is a document opened?
-abbrev pub is_open : IncomingData → Bool
-is_open (did_open params) = true
-is_open m = false
+-- ---- which parts of a text a change replaces; a character `c` has `units c` units
 
--- The comparison after the record of this number has given this document its text.
-abbrev pub taken_if : Bool → ℕ → List ℕ → Option DocumentItem → ComparisonData → ComparisonData
-taken_if opens number uri None c = c
-taken_if opens number uri (Some entry) c = taken number uri entry.text opens c
+-- The part between two byte offsets, in whose place come so many bytes.
+abbrev pub splice_at : ℕ → Result (ℕ × ℕ) EditFault → Option Splice
+splice_at len (Ok ends) = Some (record { start = ends.0; end = ends.1; len = len })
+splice_at len (Err fault) = None
 
--- The same after a record about this document, if it is about one. `s` is the session after it.
-abbrev pub learned : Bool → Option (List ℕ) → Verdict → Session → ComparisonData → ComparisonData
-learned opens None verdict s c = c
-learned opens (Some uri) verdict s c = if has_changed verdict
-    then taken_if opens s.records uri (entry_at s.server.table uri) c else c
+-- The part that is a range, or by which the whole text differs; if there is one.
+abbrev pub splice_for : (ℕ → ℕ) → List ℕ → Option Range → List ℕ → Option Splice
+splice_for units text None new = Some (splice_between text new)
+splice_for units text (Some range) new =
+    splice_at (length new) (places_at 0 (chars text) (ends_of units (chars text) range))
 
-abbrev pub comparing_after : ComparisonData → Record → Judged → ComparisonData
-comparing_after c r j =
-    learned (is_open (incoming_of (reading r.body)))
+abbrev pub splice_of : (ℕ → ℕ) → List ℕ → ContentChangeData → Option Splice
+splice_of units text change = splice_for units text change.range change.text
+
+abbrev pub listed : Option Splice → List Splice
+listed None = []
+listed (Some splice) = splice ∷ []
+
+-- The parts for what comes after a change, if the change leaves a text.
+abbrev pub splices_after : (List ℕ → List Splice) → Option (List ℕ) → List Splice
+splices_after rest None = []
+splices_after rest (Some text) = rest text
+
+-- The parts that changes replace, each in the text that the one before it leaves.
+abbrev pub splices_from : (ℕ → ℕ) → List ℕ → List ContentChangeData → List Splice
+splices_from units text [] = []
+splices_from units text (change ∷ changes) =
+    listed (splice_of units text change)
+    ++ splices_after (λ next. splices_from units next changes)
+    (left_by units text (content_change_from_data change))
+
+-- Those of a message, on a document that may be open.
+abbrev pub splices_on : ServerData → Option DocumentItem → ChangeData → List Splice
+splices_on s None p = []
+splices_on s (Some entry) p = splices_from (units_in (session_encoding s)) entry.text p.changes
+
+-- Those of a message that changes a document whose URI ends so.
+abbrev pub splices_in : List ℕ → ServerData → IncomingData → Option (List Splice)
+splices_in ending s (did_change (Some p)) = if ends_so p.uri ending
+    then Some (splices_on s (entry_at s.table p.uri) p) else None
+splices_in ending s m = None
+
+-- ---- the comparison after a record
+
+-- After the record of this number has given this document its text.
+abbrev pub taken_if : Option (List Splice) → ℕ → List ℕ → Option DocumentItem → ComparisonData
+    → ComparisonData
+taken_if splices number uri None c = c
+taken_if splices number uri (Some entry) c = taken number uri entry.text splices c
+
+-- After a record about this document, if it is about one. `s` is the session after it.
+abbrev pub learned : Option (List Splice) → Option (List ℕ) → Verdict → Session → ComparisonData
+    → ComparisonData
+learned splices (Some uri) (answered changed) s c =
+    taken_if splices s.records uri (entry_at s.server.table uri) c
+learned splices (Some uri) (answered (refused refusal)) s c =
+    refused_by s.records uri (server_refusal_code refusal) c
+learned splices uri verdict s c = c
+
+-- `s` is the session before it.
+abbrev pub comparing_after : ComparisonData → Session → Record → Judged → ComparisonData
+comparing_after c s r j =
+    learned (splices_in c.ending s.server (incoming_of (reading r.body)))
     (if_ends_so c.ending (uri_of r.head.side (incoming_of (reading r.body)))) j.verdict j.session c
 
 -- The status is 0 if the texts are equal, byte for byte, whatever was refused.
@@ -51,7 +109,7 @@ compared_outcome (Some equal) outcome = record outcome { status = (if equal then
 abbrev pub comparing : View ComparisonData
 comparing = record {
   record_output = λ c s r j. unless_bad r j.verdict (writes []);
-  next = λ c s r j. comparing_after c r j;
+  next = λ c s r j. comparing_after c s r j;
   end_output = λ c s line_due. comparison_words c;
   outcome = λ c s. compared_outcome (equality c.document c.second c.file) (session_outcome s);
 }

@@ -4,7 +4,7 @@ use Rattle.std.specs.Io.KnownBytes.{Consumes, Appends, IsAtEnd}
 use Rattle.lsp_replay.specs.declared.outcome.Outcome.{Outcome}
 use Rattle.lsp_stream.specs.declared.fault.EngineFault.{EngineFault}
 use Rattle.lsp_stream.specs.declared.fault.EngineFault.TheVariants.{Read, Write, TooManyTurns}
-use Rattle.lsp_stream.specs.Ports.{Rose}
+use Rattle.lsp_stream.specs.Ports.{Ports, Rose}
 use Rattle.lsp_stream.specs.Turns.{StaysWell}
 use Rattle.lsp_log.specs.Log.{LogRules, Record, Log, IsReadAs, is_line_due}
 use Rattle.lsp_replay.specs.RunOutput.{RunOutput}
@@ -65,3 +65,11 @@ pub record NonePassedOver (read_failed_old read_failed_new write_failed_old writ
     (result : Result Outcome EngineFault) : Type 0 where
   pub reads : result ≢ Err Read → StaysWell read_failed_old read_failed_new
   pub writes : result ≢ Err Write → StaysWell write_failed_old write_failed_new
+
+-- How many calls were made, by how many the reader and the writer had left.
+pub record FewCalls (before after : Ports) (result : Result Outcome EngineFault) : Type 0 where
+  -- no more reads than were left, and one at the end
+  pub reads : after.reader.calls ≤ before.reader.calls + before.reader.calls_left + 1
+  -- no more writes and flushes than were left, unless one failed
+  pub writes : result ≢ Err Write →
+      after.writer.calls ≤ before.writer.calls + before.writer.calls_left

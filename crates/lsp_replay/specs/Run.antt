@@ -9,7 +9,7 @@ use Rattle.lsp_log.specs.Log.{LogRules, Record}
 use Rattle.lsp_replay.specs.declared.commands.Settings.{Settings}
 use Rattle.lsp_replay.specs.declared.outcome.Outcome.{Outcome}
 use Rattle.lsp_replay.specs.RunOutput.{RunOutput}
-use Rattle.lsp_replay.specs.Engine.{Called, NonePassedOver, WroteRecords, state_of}
+use Rattle.lsp_replay.specs.Engine.{Called, FewCalls, NonePassedOver, WroteRecords, state_of}
 use Rattle.lsp_replay.specs.Commands.{as_converted, as_log, as_stream, converted, replies, report, verdicts}
 use Rattle.lsp_replay.specs.laws.Written.{Wrote}
 use Rattle.lsp_replay.specs.Squashed.{normalised}
@@ -42,6 +42,8 @@ pub record IsEngineRun (engine : Engine) (max_turns : ℕ) (before after : Ports
   pub called : Called before.reader.calls after.reader.calls before.writer.calls after.writer.calls
       max_turns
       after.reader.failed after.writer.failed after.reader.ended after.reader.left result
+  -- How many calls were made at most.
+  pub few : FewCalls before after result
   -- No failure was passed over.
   pub none_passed_over : NonePassedOver before.reader.failed after.reader.failed
       before.writer.failed after.writer.failed result

@@ -6,7 +6,7 @@
 ghost use Rattle.std.specs.Prelude.{◌≡◌, ◌≢◌, ◌&&◌, [], ℕ, List, Option, Err, not, true, OnOk, OnErr, IfOk, IfErr};
 ghost use Rattle.std.specs.Io.KnownBytes.{Appends};
 ghost use Rattle.lsp_stream.specs.Ports.{ports};
-ghost use Rattle.lsp_stream.specs.Turns.{AppendsFront, AppendsShort, WritesWithin};
+ghost use Rattle.lsp_stream.specs.Turns.{AppendsFront, AppendsShort, WritesFew, WritesWithin};
 ghost use Rattle.lsp_stream.specs.inside.Turns.{LeavesFlushed};
 ghost use Rattle.lsp_log.specs.Log.{LogRules, Record};
 ghost use Rattle.lsp_log.specs.Splitting.{IsReady};
@@ -77,6 +77,7 @@ fn write_last<W: Sink, H: Handler>(
     ensures calls { WritesWithin turns.old.left turns.new.left
         (W.seen writer.old) (W.seen writer.new) result }
     ensures all_flushed { LeavesFlushed H.FLUSHES (W.seen writer.old) (W.seen writer.new) result }
+    ensures few { WritesFew (W.seen writer.old) (W.seen writer.new) result }
 {
     let mut due = line_due;
     'parts: loop {
@@ -123,6 +124,7 @@ fn finish_run<W: Sink, H: Handler>(
     ensures calls { WritesWithin turns.old.left turns.new.left
         (W.seen writer.old) (W.seen writer.new) result }
     ensures all_flushed { LeavesFlushed H.FLUSHES (W.seen writer.old) (W.seen writer.new) result }
+    ensures few { WritesFew (W.seen writer.old) (W.seen writer.new) result }
 {
     reading_laws();
     if !splitter.at_rest() {

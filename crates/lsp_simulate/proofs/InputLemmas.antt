@@ -1,15 +1,14 @@
 -- The lines of the input.
-use Rattle.std.proofs.Common.{◌≡◌, ◌<◌, ◌≤◌, ℕ, zero, suc, ◌+◌, ◌-◌, ◌==◌, Bool, true, false, List, [], ◌∷◌, ◌++◌, length, get_or, take, drop, refl, sym, ap, ◌∙◌, arith, append_assoc}
-use Rattle.std.specs.Prelude.{Option, None, Some, is_some, IfSome, if◌then◌else◌, Vec}
-use Rattle.std.specs.declared.alloc.Global.{Global}
+use Rattle.std.proofs.Common.{◌≡◌, ◌<◌, ◌≤◌, ℕ, zero, suc, ◌+◌, ◌-◌, Bool, true, false, List, [], ◌∷◌, ◌++◌, length, get_or, take, drop, refl, sym, ap, ◌∙◌, arith, append_assoc}
+use Rattle.std.specs.Prelude.{Option, None, Some, IfSome}
 use Rattle.std.proofs.Math.Seq.{drop-cons}
 use Rattle.std.proofs.lemmas.List.{drop-drop, drop-take, length-take, take-append-drop, take_all}
 use Rattle.std.proofs.lemmas.Bool.{eqb-true}
-use Rattle.std.specs.Io.KnownBytes.{Consumes, IsAtEnd, prepend_known}
+use Rattle.std.specs.Io.KnownBytes.{IsAtEnd, prepend_known}
 use Rattle.lsp_stream.specs.Turns.{Spends}
 use Rattle.memchr.specs.Find.{IsFirstByte, is_byte}
 use Rattle.lsp_simulate.specs.Session.{line_count, lines_from}
-use Rattle.lsp_simulate.specs.inside.Lines.{Passed, is_begun, lines_in}
+use Rattle.lsp_simulate.specs.inside.Lines.{Passed, is_begun}
 
 -- ---- the lines of bytes one after another
 
@@ -101,56 +100,11 @@ none_spent calls most left all = record {
   exact = λ _. omega (arith, all);
 }
 
-pub none_passed : (input : Option (List ℕ)) → Passed input 0 false input
-none_passed None = tt
-none_passed (Some bytes) = omega arith
-
 pub nothing_taken : (input : Option (List ℕ)) (bytes : List ℕ) → bytes ≡ []
     → Passed input 0 false (prepend_known bytes input)
 nothing_taken None bytes is = tt
 nothing_taken (Some all) bytes is = rw is (omega arith)
 
--- A line end was found in what was read.
-pub line_passed : (old left : Option (List ℕ)) (line bytes rest : List ℕ)
-    → ((more : List ℕ) → lines_from (is_begun line) (bytes ++ more) ≡ 1 + lines_from false (rest ++ more))
-    → Passed old 0 (is_begun line) (prepend_known bytes left) → Passed old 1 false (prepend_known rest left)
-line_passed None left line bytes rest found passed = tt
-line_passed (Some all) None line bytes rest found passed = absurd passed
-line_passed (Some all) (Some more) line bytes rest found passed = omega (arith, passed, found more)
-
--- No line end was in what was read, and these bytes were read next.
-pub piece_passed : (old left later : Option (List ℕ)) (line longer bytes piece : List ℕ)
-    → ((more : List ℕ) → lines_from (is_begun line) (bytes ++ more) ≡ lines_from (is_begun longer) more)
-    → Consumes left later piece → Passed old 0 (is_begun line) (prepend_known bytes left)
-    → Passed old 0 (is_begun longer) (prepend_known piece later)
-piece_passed None left later line longer bytes piece part read passed = tt
-piece_passed (Some all) None later line longer bytes piece part read passed = absurd passed
-piece_passed (Some all) (Some more) None line longer bytes piece part read passed = absurd read
-piece_passed (Some all) (Some more) (Some rest) line longer bytes piece part read passed =
-    let same : lines_from (is_begun longer) more ≡ lines_from (is_begun longer) (piece ++ rest) =
-    ap (λ z. lines_from (is_begun longer) z) read in
-    omega (arith, passed, part more, same)
-
-count_last : (begun : Bool) (n : ℕ) → n ≡ (if begun then 1 else 0) → lines_from begun [] ≡ n
-count_last begun n is = sym is
-
--- The input is at its end, after a line that has no line end, or none.
-pub end_passed : (old later : Option (List ℕ)) (longer bytes : List ℕ) (line : Option (Vec ℕ Global)) → bytes ≡ []
-    → IsAtEnd later → is_some line ≡ is_begun longer → Passed old 0 (is_begun longer) (prepend_known bytes later)
-    → Passed old (lines_in line) false (prepend_known bytes later)
-end_passed None later longer bytes line none end last passed = tt
-end_passed (Some all) None longer bytes line none end last passed = absurd passed
-end_passed (Some all) (Some rest) longer bytes line none end last passed =
-    let nothing : bytes ++ rest ≡ [] = rw (none, end) refl in
-    let count : lines_from (is_begun longer) [] ≡ lines_in line =
-    count_last (is_begun longer) (lines_in line) (ap (λ (b : Bool). if b then 1 else 0) last) in
-    let passed_all : lines_from false all ≡ 0 + lines_from (is_begun longer) (bytes ++ rest) = passed in
-    let ended : lines_from (is_begun longer) (bytes ++ rest) ≡ lines_in line =
-    ap (λ z. lines_from (is_begun longer) z) nothing ∙ count in
-    let after : lines_from false (bytes ++ rest) ≡ 0 = ap (λ z. lines_from false z) nothing in
-    omega (arith, passed_all, ended, after)
-
--- Lines and then others.
 pub passed_more : (old mid new : Option (List ℕ)) (m n k : ℕ) → Passed old m false mid → Passed mid n false new
     → k ≡ m + n → Passed old k false new
 passed_more None mid new m n k first second sum = tt

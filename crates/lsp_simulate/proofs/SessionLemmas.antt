@@ -1,6 +1,6 @@
 -- A session that is written line by line.
 -- ---- whole lines
-use Rattle.std.proofs.Common.{◌≡◌, ◌≤◌, ◌<◌, ◌⊎◌, ◌↔◌, inl, inr, ℕ, ◌+◌, true, false, List, [], ◌∷◌, ◌++◌, length, codes, Option, Result, Ok, Err, refl, sym, ap, ◌∙◌, subst, arith, append_assoc, append-nil}
+use Rattle.std.proofs.Common.{◌≡◌, ◌≤◌, ◌⊎◌, ◌↔◌, inl, inr, ℕ, ◌+◌, true, false, List, [], ◌∷◌, ◌++◌, length, codes, Option, Result, Ok, Err, refl, sym, ap, ◌∙◌, subst, arith, append_assoc}
 use Rattle.std.proofs.KnownBytes.{Appends-nil, Appends-trans}
 use Rattle.std.specs.Prelude.{IfSome}
 use Rattle.std.proofs.lemmas.List.{length-append}
@@ -213,9 +213,6 @@ module _ (setting : Setting) (reader now : ReaderState) (before mid : WriterStat
 
 -- ---- documents
 
-pub no_documents : (end : List ℕ) (all : List DocumentItem) (old : Option (List ℕ)) → AreUnderWay end all old old all
-no_documents end all old = record { lines = []; whole = inl refl; written = Appends-nil old; rest = refl }
-
 -- The lines before a document, its own, and those after it are all of them.
 document_rest : (end : List ℕ) (all : List DocumentItem) (old mid : Option (List ℕ)) (left after : List DocumentItem)
     (item : DocumentItem) (line : List ℕ) (way : AreUnderWay end all old mid left) → left ≡ item ∷ after
@@ -234,12 +231,6 @@ one_document end all old mid new left after item line way first is wrote = recor
   rest = append_assoc way.lines line (document_lines end after)
       ∙ document_rest end all old mid left after item line way first is;
 }
-
-pub all_documents : (end : List ℕ) (all : List DocumentItem) (old new : Option (List ℕ)) (left : List DocumentItem)
-    → AreUnderWay end all old new left → left ≡ [] → Appends old new (document_lines end all)
-all_documents end all old new left way none =
-    subst (λ (z : List ℕ). Appends old new z)
-    (sym (append-nil way.lines) ∙ ap (λ z. way.lines ++ document_lines end z) (sym none) ∙ way.rest) way.written
 
 pub some_documents : (end : List ℕ) (all : List DocumentItem) (old new : Option (List ℕ)) (left : List DocumentItem)
     → AreUnderWay end all old new left → AppendsLines old new (document_lines end all)

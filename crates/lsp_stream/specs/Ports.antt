@@ -1,5 +1,5 @@
 -- What a reader and a writer report of their calls.
-use Rattle.std.specs.Prelude.{◌≡◌, ◌≢◌, ℕ, ◌+◌, ◌<◌, ◌-◌, ◌^◌, min, max, Bool, true, ◌&&◌, ◌==◌, List, length, Option, Result, Ok, Err}
+use Rattle.std.specs.Prelude.{◌≡◌, ◌≢◌, ℕ, ◌+◌, ◌<◌, ◌≤◌, ◌-◌, ◌^◌, min, max, Bool, true, false, ◌&&◌, ◌==◌, List, length, Option, Result, Ok, Err}
 use Rattle.std.specs.declared.io.Error.{Error}
 use Rattle.std.specs.declared.io.ErrorKind.TheVariants.{Interrupted}
 use Rattle.std.specs.IoError.{error_kind}
@@ -12,6 +12,8 @@ pub record ReaderState : Type 0 where
   pub failed : Bool
   -- how many reads were made
   pub calls : ℕ
+  -- how many more can be counted, at most, before one at the end
+  pub calls_left : ℕ
   -- Did the last read come to the end?
   pub ended : Bool
 
@@ -23,6 +25,9 @@ pub record WriterState : Type 0 where
   pub failed : Bool
   -- how many writes and flushes were made
   pub calls : ℕ
+  -- how many more can be counted, at most, before one fails, if no write is empty and no flush
+  -- comes where all is flushed
+  pub calls_left : ℕ
   -- Is all that it took flushed?
   pub flushed : Bool
 
@@ -74,3 +79,18 @@ one_more n = max n (min (n + 1) (2 ^ 64 - 1))
 -- A count rose, unless it is at its greatest value.
 abbrev pub Rose : ℕ → ℕ → Type 0
 Rose old new = new + 1 < 2 ^ 64 → old < new
+
+-- How many calls are left when so many were made, for a reader or a writer of which nothing else is
+-- known: their count goes no further.
+abbrev pub uncounted : ℕ → ℕ
+uncounted calls = 2 ^ 64 - 1 - calls
+
+-- Reads were made within those that were left, but for one at the end.
+pub record FewReads (before after : ReaderState) : Type 0 where
+  pub most : after.calls + after.calls_left ≤ before.calls + before.calls_left + 1
+  pub not_ended : after.ended ≡ false →
+      after.calls + after.calls_left ≤ before.calls + before.calls_left
+
+-- Writes and flushes were made within those that were left.
+abbrev pub FewWrites : WriterState → WriterState → Type 0
+FewWrites before after = after.calls + after.calls_left ≤ before.calls + before.calls_left

@@ -3,7 +3,7 @@ use Rattle.std.specs.Prelude.{◌≡◌, ◌≢◌, ◌⊎◌, Bool, true, false
 use Rattle.std.specs.Io.KnownBytes.{Appends}
 use Rattle.lsp_stream.specs.declared.fault.EngineFault.{EngineFault}
 use Rattle.lsp_stream.specs.declared.fault.EngineFault.TheVariants.{Read, Write, TooManyTurns}
-use Rattle.lsp_stream.specs.Ports.{ReaderState, Rose, WriterState}
+use Rattle.lsp_stream.specs.Ports.{FewWrites, ReaderState, Rose, WriterState}
 
 -- Each call used one of the turns that were left. Once a count is at its greatest value, it no
 -- longer says how many calls were made.
@@ -61,3 +61,9 @@ pub record WritesWithin {A : Type 0} (left_before left_after : ℕ) (before afte
   -- One more call was to be made than allowed.
   pub none_left : IfErr result (λ fault. fault ≡ TooManyTurns → left_after ≡ 0)
   pub spent : Spends before.calls after.calls left_before left_after
+
+-- Writes and flushes were made within those that were left, unless one failed.
+pub record WritesFew {A : Type 0} (before after : WriterState) (result : Result A EngineFault)
+    : Type 0 where
+  pub ok : OnOk result (FewWrites before after)
+  pub error : IfErr result (λ fault. fault ≢ Write → FewWrites before after)

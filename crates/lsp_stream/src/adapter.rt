@@ -3,7 +3,7 @@
 ghost use Rattle.std.specs.Prelude.{◌≡◌, ◌↔◌, true, false};
 ghost use Rattle.std.specs.Io.{ReadsAtMost, WritesAtMost};
 ghost use Rattle.std.specs.IoError.{error_kind};
-ghost use Rattle.lsp_stream.specs.Ports.{IsReadFailure, IsWriteFailure, IsFlushFailure, IsEnd, flushed_after_write, flushed_after_flush, one_more};
+ghost use Rattle.lsp_stream.specs.Ports.{IsReadFailure, IsWriteFailure, IsFlushFailure, IsEnd, flushed_after_write, flushed_after_flush, one_more, uncounted};
 
 use crate::port::{Sink, Source};
 use std::io::{self, ErrorKind, Read, Write};
@@ -105,6 +105,7 @@ impl<T: Read> Source for Told<T> {
           left = T.remaining t.inner;
           failed = t.failed;
           calls = t.calls;
+          calls_left = uncounted t.calls;
           ended = t.ended;
         } };
 
@@ -133,6 +134,7 @@ impl<T: Write> Sink for Told<T> {
           written = T.contents t.inner;
           failed = t.failed;
           calls = t.calls;
+          calls_left = uncounted t.calls;
           flushed = t.flushed;
         } };
 

@@ -4,11 +4,11 @@
 //! ends in two lines. It says whether all is flushed, so clauses speak of writers whose bytes
 //! can't be observed.
 
-ghost use Rattle.std.specs.Prelude.{◌≡◌, ◌↔◌, true};
+ghost use Rattle.std.specs.Prelude.{◌≡◌, ◌<◌, ◌↔◌, true, false, length};
 ghost use Rattle.std.specs.Io.{ReadsAtMost, WritesAtMost};
 ghost use Rattle.std.specs.Io.KnownBytes.{ReadConsumes, WriteAppends, Keeps};
 ghost use Rattle.lsp_stream.specs.Ports.{ReaderState, WriterState};
-ghost use Rattle.lsp_stream.specs.Ports.{IsReadFailure, IsWriteFailure, IsFlushFailure, IsEnd, flushed_after_write, flushed_after_flush, one_more};
+ghost use Rattle.lsp_stream.specs.Ports.{IsReadFailure, IsWriteFailure, IsFlushFailure, IsEnd, flushed_after_write, flushed_after_flush, one_more, FewReads, FewWrites};
 
 use std::io;
 
@@ -24,7 +24,8 @@ pub trait Source {
         ensures bytes { ReadConsumes (seen self.old).left (seen self.new).left result buf.new }
         ensures failed { (seen self.new).failed ≡ true ↔ IsReadFailure result }
         ensures counted { (seen self.new).calls ≡ one_more (seen self.old).calls }
-        ensures ended { (seen self.new).ended ≡ true ↔ IsEnd buf.new result };
+        ensures ended { (seen self.new).ended ≡ true ↔ IsEnd buf.new result }
+        ensures few { 0 < length buf.new → FewReads (seen self.old) (seen self.new) };
 
     /// Returns whether the last read failed. An interrupted one didn't.
     fn failed(&self) -> bool
@@ -53,7 +54,9 @@ pub trait Sink {
         ensures failed { (seen self.new).failed ≡ true ↔ IsWriteFailure result buf.now }
         ensures flushed { (seen self.new).flushed
             ≡ flushed_after_write (seen self.old).flushed result }
-        ensures counted { (seen self.new).calls ≡ one_more (seen self.old).calls };
+        ensures counted { (seen self.new).calls ≡ one_more (seen self.old).calls }
+        ensures few { 0 < length buf.now → (seen self.new).failed ≡ false →
+            FewWrites (seen self.old) (seen self.new) };
 
     /// Flushes what was written, as std's `Write` does.
     fn flush(&mut self) -> io::Result<()>
@@ -61,7 +64,9 @@ pub trait Sink {
         ensures failed { (seen self.new).failed ≡ true ↔ IsFlushFailure result }
         ensures flushed { (seen self.new).flushed
             ≡ flushed_after_flush (seen self.old).flushed result }
-        ensures counted { (seen self.new).calls ≡ one_more (seen self.old).calls };
+        ensures counted { (seen self.new).calls ≡ one_more (seen self.old).calls }
+        ensures few { (seen self.old).flushed ≡ false → (seen self.new).failed ≡ false →
+            FewWrites (seen self.old) (seen self.new) };
 
     /// Returns whether the last write or flush failed. An interrupted one didn't. A write that took
     /// nothing of a `buf` that isn't empty did.

@@ -2,8 +2,8 @@
 
 ghost use Rattle.std.specs.Prelude.{◌≡◌, ◌≢◌, ◌<◌, ◌≤◌, ◌+◌, ◌↔◌, ◌⊎◌, ◌&&◌, not, true, false, IfOk, IfErr, OnOk, OnErr, length, take};
 ghost use Rattle.std.specs.Io.KnownBytes.{Consumes, Appends, Keeps, IsAtEnd};
-ghost use Rattle.lsp_stream.specs.Ports.{Rose};
-ghost use Rattle.lsp_stream.specs.Turns.{AppendsFront, AppendsShort, ReadsWithin, WritesWithin};
+ghost use Rattle.lsp_stream.specs.Ports.{FewReads, Rose};
+ghost use Rattle.lsp_stream.specs.Turns.{AppendsFront, AppendsShort, ReadsWithin, WritesFew, WritesWithin};
 
 use crate::adapter::is_interrupted;
 use crate::fault::EngineFault;
@@ -58,6 +58,7 @@ pub fn read_piece<R: Source>(
     ensures less { OnOk result (turns.new.left < turns.old.left) }
     ensures calls { ReadsWithin turns.old.left turns.new.left
         (R.seen reader.old) (R.seen reader.new) result }
+    ensures few { FewReads (R.seen reader.old) (R.seen reader.new) }
 {
     'reads: loop {
         turns.spend()?;
@@ -85,6 +86,7 @@ fn write_out<W: Sink>(writer: &mut W, bytes: &[u8], turns: &mut Turns) -> Result
         AppendsShort false (W.seen writer.old).written (W.seen writer.new).written bytes.now) }
     ensures calls { WritesWithin turns.old.left turns.new.left
         (W.seen writer.old) (W.seen writer.new) result }
+    ensures few { WritesFew (W.seen writer.old) (W.seen writer.new) result }
 {
     let mut at = 0;
     'writes: while at < bytes.len() {
@@ -120,6 +122,8 @@ pub fn flush_out<W: Sink>(writer: &mut W, turns: &mut Turns) -> Result<(), Engin
         (λ fault. (fault ≡ EngineFault.Write) ⊎ (fault ≡ EngineFault.TooManyTurns)) }
     ensures calls { WritesWithin turns.old.left turns.new.left
         (W.seen writer.old) (W.seen writer.new) result }
+    ensures few { (W.seen writer.old).flushed ≡ false →
+        WritesFew (W.seen writer.old) (W.seen writer.new) result }
 {
     'flushes: loop {
         turns.spend()?;
@@ -159,6 +163,7 @@ pub fn write_given<W: Sink>(
     ensures flushed { OnOk result (flush ≡ true → (W.seen writer.new).flushed ≡ true) }
     ensures calls { WritesWithin turns.old.left turns.new.left
         (W.seen writer.old) (W.seen writer.new) result }
+    ensures few { WritesFew (W.seen writer.old) (W.seen writer.new) result }
 {
     write_out(writer, bytes, turns)?;
     if flush && !writer.flushed() {

@@ -1,13 +1,12 @@
 -- Lines on standard error, piece by piece, and the end of a run over a file.
-use Rattle.std.proofs.Common.{◌≡◌, ◌⊎◌, inl, inr, ℕ, List, [], ◌++◌, Option, codes, Err, ap, sym, ◌∙◌, append_assoc, append-nil}
-use Rattle.lsp_frame.specs.declared.fault.FrameFault.{FrameFault}
+use Rattle.std.proofs.Common.{◌≡◌, inr, ℕ, List, [], ◌++◌, Option, Err, ap, sym, ◌∙◌, append_assoc, append-nil}
 use Rattle.lsp_stream.specs.declared.fault.EngineFault.{EngineFault}
 use Rattle.lsp_stream.specs.declared.fault.EngineFault.TheVariants as engine
 use Rattle.lsp_stream.specs.Ports.{WriterState}
 use Rattle.lspsync.specs.declared.ends.Ending.{Ending}
 use Rattle.lspsync.specs.FaultText.{fault_cause}
 use Rattle.lspsync.specs.Run.{IsBlamed, IsFileEnding}
-use Rattle.lspsync.specs.declared.openings.Wanted.{Wanted}
+use Rattle.lspsync.specs.declared.wanted.Wanted.{Wanted}
 
 -- The line of a fault.
 pub fault_pieces : (start text place end whole : List ℕ) → whole ≡ text ++ place

@@ -1,7 +1,10 @@
 pub mod Call
 pub mod CommandLine
+pub mod Encodings
 pub mod FaultText
 pub mod Loaded
 pub mod Openings
+pub mod Reached
 pub mod Run
+pub mod Wanted
 pub mod inside

@@ -1,33 +1,25 @@
 -- Which messages opened the documents of a log, where the one that is asked for isn't there.
-use Rattle.std.specs.Prelude.{ℕ, ◌≡◌, true, false, [], List, Option, Some, option_map, Ok}
+use Rattle.std.specs.Prelude.{ℕ, ◌≡◌, true, false, [], List, Option, Some, Ok}
 use Rattle.std.specs.Io.KnownBytes.{Keeps}
 use Rattle.std.specs.String.{string_bytes}
-use Rattle.lsp_stream.specs.Ports.{ReaderState, WriterState, ports}
+use Rattle.lsp_stream.specs.Ports.{ReaderState, WriterState, ports, uncounted}
 use Rattle.lsp_program.specs.Output.{allowed_turns}
 use Rattle.lsp_replay.specs.declared.outcome.Missing.{Missing}
 use Rattle.lsp_replay.specs.declared.outcome.Missing.TheVariants as missing
 use Rattle.lsp_replay.specs.declared.outcome.Outcome.{Outcome}
 use Rattle.lsp_replay.specs.Openings.{openings_engine}
 use Rattle.lsp_replay.specs.Run.{IsEngineRun}
-use Rattle.lspsync.specs.declared.command_line.Call.{Call}
-use Rattle.lspsync.specs.declared.command_line.Call.TheVariants as call
-use Rattle.lspsync.specs.declared.openings.Wanted.{Wanted}
-
--- A call names this document, and reads its log so.
-abbrev pub IsWanted : Call → Wanted → Type 0
-IsWanted (call.ReplayPart settings part) wanted = (wanted.settings ≡ settings)
-    × (Some (string_bytes wanted.ending) ≡ option_map string_bytes part.uri)
-IsWanted (call.Compare settings against) wanted = (wanted.settings ≡ settings)
-    × (string_bytes wanted.ending ≡ string_bytes against.ending)
-IsWanted asked wanted = ⊥
+use Rattle.lspsync.specs.declared.wanted.Wanted.{Wanted}
 
 -- What is known of a file that was opened, of which these bytes may be known.
 abbrev pub file_opened : Option (List ℕ) → ReaderState
-file_opened left = record { left = left; failed = false; calls = 0; ended = false }
+file_opened left =
+    record { left = left; failed = false; calls = 0; calls_left = uncounted 0; ended = false }
 
 -- Nothing was written so far.
 abbrev pub nothing_written : WriterState
-nothing_written = record { written = Some []; failed = false; calls = 0; flushed = true }
+nothing_written =
+    record { written = Some []; failed = false; calls = 0; calls_left = uncounted 0; flushed = true }
 
 -- These words are the list of the documents of a file with these bytes, where they are known.
 pub record IsListOf (wanted : Wanted) (left : Option (List ℕ)) (words : List ℕ) : Type 0 where

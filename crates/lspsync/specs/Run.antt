@@ -29,8 +29,11 @@ use Rattle.lspsync.specs.declared.command_line.Task.{Task}
 use Rattle.lspsync.specs.Call.{AreWordsReadAs, file_of, saved_of}
 use Rattle.lspsync.specs.Loaded.{with_text}
 use Rattle.lspsync.specs.FaultText.{blame_text, fault_cause, fault_text}
-use Rattle.lspsync.specs.Openings.{AreListed, IsWanted, file_opened}
-use Rattle.lspsync.specs.declared.openings.Wanted.{Wanted}
+use Rattle.lspsync.specs.Encodings.{IsEncodingNamed, equal_text}
+use Rattle.lspsync.specs.Openings.{AreListed, file_opened}
+use Rattle.lspsync.specs.Wanted.{IsWanted}
+use Rattle.lspsync.specs.declared.wanted.Wanted.{Wanted}
+use Rattle.lsp_text.specs.declared.encoding.Encoding.{Encoding}
 
 -- The status of a fault: 3 if a stream failed, 4 if out of memory, 5 if the input is no log.
 abbrev pub status_of : EngineFault → ℕ
@@ -170,6 +173,13 @@ IsListedEnd name wanted known outcome before after ending = (words : List ℕ)
     × Ends outcome.status (error_line (Some name) (missing_text missing.Document) ++ words) false
     before after ending
 
+-- A line names an encoding in which the texts are equal that were compared.
+abbrev pub IsEqualEnd : List ℕ → Option Wanted → Option (List ℕ) → Outcome → WriterState →
+    WriterState → Ending → Type 0
+IsEqualEnd name wanted known outcome before after ending = (encoding : Encoding)
+    × IsEncodingNamed wanted known outcome encoding
+    × Ends outcome.status (error_line (Some name) (equal_text encoding)) false before after ending
+
 -- The end of a run over a file, of whose bytes this may be known. A document that is missing may be
 -- reported with the list of those that the file has.
 abbrev pub IsFileEnding : List ℕ → Option Wanted → Option (List ℕ) → Result Outcome EngineFault →
@@ -177,6 +187,7 @@ abbrev pub IsFileEnding : List ℕ → Option Wanted → Option (List ℕ) → R
 IsFileEnding name wanted known (Ok outcome) before after ending =
     IsOutcomeEnd (Some name) outcome before after ending
     ⊎ IsListedEnd name wanted known outcome before after ending
+    ⊎ IsEqualEnd name wanted known outcome before after ending
 IsFileEnding name wanted known (Err Read) before after ending =
     IsUnreadable name before after ending ⊎ IsFaultEnd Read before after ending
 IsFileEnding name wanted known (Err fault) before after ending =

@@ -9,13 +9,16 @@ ghost use Rattle.lspsync.specs.Run.{status_of};
 
 use crate::beginning::hint;
 use crate::command_line::Call;
+use crate::encodings::{encoding_for, equal_text};
 use crate::ends::{Ending, end_missing, end_well, report, say, status_of};
 use crate::fault_text::{cause_of, text_of};
-use crate::openings::{Wanted, openings, wanted_by};
+use crate::openings::openings;
+use crate::reached::{last_before, settings_of};
 use crate::run::perform;
+use crate::wanted::{Wanted, wanted_by};
 use itoa::Buffer;
 use lsp_program::{STREAM_FAULT, digits, print};
-use lsp_replay::{EngineFault, Outcome, Sink, Told};
+use lsp_replay::{EngineFault, Outcome, Settings, Sink, Told};
 use std::alloc::Global;
 use std::io::{self, Read};
 
@@ -37,13 +40,14 @@ pub trait Folder {
 /// How many bytes of a log's beginning are kept.
 const KEPT: usize = 64;
 
-/// A log that is read from a file. It keeps what is said of a faulty one: the first bytes, and the
-/// last error of a read.
+/// A log that is read from a file. It keeps what is said of a faulty one: the first bytes, the last
+/// error of a read, and how it is read.
 #[derive(Drop)]
 struct LogFile<T> {
     file: T,
     first: Vec<u8>,
     error: Option<io::Error>,
+    settings: Option<Settings>,
 }
 
 impl<T: Read> Read for LogFile<T> {
@@ -84,6 +88,7 @@ pub fn run_file<F: Folder, W: Sink, E: Sink>(
                 file,
                 first: Vec::new(alloc),
                 error: None,
+                settings: settings_of(&call),
             });
             let wanted = wanted_by(alloc, &call);
             let answer = perform(alloc, call, &mut log, output);
@@ -116,12 +121,12 @@ fn end_file<T, F: Folder, E: Sink>(
 {
     match answer {
         Ok(outcome) => end_outcome(alloc, name, wanted, outcome, folder, errors),
-        Err(fault) => end_fault(alloc, name, log, fault, errors),
+        Err(fault) => end_fault(alloc, name, log, fault, folder, errors),
     }
 }
 
 /// Ends with an outcome. If the document is missing that the call names, it lists those that the
-/// file has.
+/// file has. If texts differ that are equal in another encoding, it names that one.
 fn end_outcome<F: Folder, E: Sink>(
     alloc: Global,
     name: &str,
@@ -133,6 +138,9 @@ fn end_outcome<F: Folder, E: Sink>(
     ensures { IsFileEnding name.now wanted (F.bytes folder.now name.now) (Ok outcome)
         (E.seen errors.old) (E.seen errors.new) result }
 {
+    if let Some(encoding) = encoding_for(alloc, name, &wanted, outcome, folder) {
+        return say(outcome.status, Some(name), equal_text(encoding), errors);
+    }
     match openings(alloc, name, wanted, outcome, folder) {
         Some(list) => end_missing(name, outcome.status, &list, errors),
         None => end_well(Some(name), outcome, errors),
@@ -140,11 +148,12 @@ fn end_outcome<F: Folder, E: Sink>(
 }
 
 /// Reports the fault of a run over a file.
-fn end_fault<T, E: Sink>(
+fn end_fault<T, F: Folder, E: Sink>(
     alloc: Global,
     name: &str,
     log: &LogFile<T>,
     fault: EngineFault,
+    folder: &F,
     errors: &mut E,
 ) -> Ending
     ensures { (wanted : Option Wanted) (known : Option (List ℕ)) →
@@ -154,7 +163,10 @@ fn end_fault<T, E: Sink>(
     match (fault, log.error) {
         (EngineFault::Read, Some(error)) => unreadable(alloc, name, error, errors),
         _ => match cause_of(fault) {
-            Some(cause) => blame(name, fault, cause, &log.first, errors),
+            Some(cause) => {
+                let hint = hint_on(alloc, name, log, fault, folder);
+                blame(name, fault, cause, hint.as_deref(), errors)
+            }
             None => report(fault, errors),
         },
     }
@@ -178,12 +190,27 @@ pub fn unreadable<E: Sink>(alloc: Global, name: &str, error: io::Error, errors: 
     }
 }
 
-/// Prints the fault of a log and its cause, and what the log seems to be by its first bytes.
+/// Returns what a faulty log seems to be by its first bytes; else up to where it can be replayed.
+fn hint_on<T, F: Folder>(
+    alloc: Global,
+    name: &str,
+    log: &LogFile<T>,
+    fault: EngineFault,
+    folder: &F,
+) -> Option<String> {
+    if let Some(hint) = hint(&log.first) {
+        return String::from_str(alloc, hint).ok();
+    }
+    let number = last_before(alloc, name, log.settings.as_ref()?, fault, folder)?;
+    format!(in alloc; "`replay --at {number}` shows the texts before it").ok()
+}
+
+/// Prints the fault of a log and its cause, and a hint.
 fn blame<E: Sink>(
     name: &str,
     fault: EngineFault,
     cause: &str,
-    first: &[u8],
+    hint: Option<&str>,
     errors: &mut E,
 ) -> Ending
     ensures { (hint : Option (List ℕ)) × Ends (status_of fault)
@@ -193,11 +220,11 @@ fn blame<E: Sink>(
     let mut buffer = Buffer::new();
     let (text, place) = text_of(fault);
     let place = digits(place, &mut buffer);
-    let printed = print_blame(name, text, place, cause, hint(first), errors);
+    let printed = print_blame(name, text, place, cause, hint, errors);
     Ending::new(status_of(fault), printed)
 }
 
-/// Prints a fault's text, its place and its cause, and what the log seems to be.
+/// Prints a fault's text, its place and its cause, and a hint.
 fn print_blame<E: Sink>(
     name: &str,
     text: &str,

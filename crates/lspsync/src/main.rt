@@ -8,21 +8,27 @@
 //! - `command_line`: the words that the program is called with.
 //! - `fault_text`: the text of a fault's line, and its cause.
 //! - `beginning`: what a file that is no log seems to be.
+//! - `encodings`: by which other encoding of positions a log gives a saved text.
 //! - `openings`: which messages opened the documents of a log.
+//! - `reached`: up to which record a faulty log can be replayed.
+//! - `wanted`: the document that a call names.
 //! - `process`: the process's own files and terminal.
 #![tactic(auto)]
 
 mod beginning;
 mod command_line;
+mod encodings;
 mod ends;
 mod fault_text;
 mod files;
 mod live;
 mod openings;
 mod process;
+mod reached;
 mod run;
 #[cfg(test)]
 mod tests;
+mod wanted;
 
 use crate::ends::{Ending, refuse};
 use crate::process::{Announced, Disk};

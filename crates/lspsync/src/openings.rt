@@ -1,45 +1,14 @@
 //! Which messages opened the documents of a log, where the one that is asked for isn't there.
 
 ghost use Rattle.std.specs.Prelude.{◌≡◌, IfOk, IfSome, string_bytes};
-ghost use Rattle.lspsync.specs.Openings.{AreListed, IsList, IsListOf, IsWanted};
+ghost use Rattle.lspsync.specs.Openings.{AreListed, IsList, IsListOf};
 
-use crate::command_line::Call;
 use crate::files::Folder;
+use crate::wanted::Wanted;
 use lsp_program::MAX_TURNS;
-use lsp_replay::{EngineFault, Missing, Outcome, Settings, Told, list_openings};
+use lsp_replay::{EngineFault, Missing, Outcome, Told, list_openings};
 use std::alloc::Global;
 use std::io::Read;
-
-/// The document that a call names, and how its log is read.
-#[derive(Drop)]
-pub struct Wanted {
-    settings: Settings,
-    ending: String,
-}
-
-/// Returns the document that a call names, if it names one. Without memory it returns none.
-pub fn wanted_by(alloc: Global, call: &Call) -> Option<Wanted>
-    ensures { IfSome result (IsWanted call.now) }
-{
-    match call {
-        Call::ReplayPart(settings, part) => match &part.uri {
-            Some(uri) => wanted_as(alloc, *settings, uri),
-            None => None,
-        },
-        Call::Compare(settings, against) => wanted_as(alloc, *settings, &against.ending),
-        _ => None,
-    }
-}
-
-fn wanted_as(alloc: Global, settings: Settings, ending: &str) -> Option<Wanted>
-    ensures { IfSome result
-        (λ w. (w.settings ≡ settings) × (string_bytes w.ending ≡ ending.now)) }
-{
-    match String::from_str(alloc, ending) {
-        Ok(ending) => Some(Wanted { settings, ending }),
-        Err(_) => None,
-    }
-}
 
 /// Returns which messages opened the documents of a log, if one is missing: the log is read once
 /// more. Returns none if it can't be, as a pipe, and without memory.
@@ -84,7 +53,11 @@ fn list_of<T: Read + Drop>(alloc: Global, log: T, wanted: Wanted) -> Result<Vec<
 {
     let mut input = Told::new(log);
     let mut words = Told::new(Vec::new(alloc));
-    let Wanted { settings, ending } = wanted;
+    let Wanted {
+        settings,
+        ending,
+        ..
+    } = wanted;
     list_openings(alloc, &mut input, &mut words, settings, ending, MAX_TURNS)?;
     Ok(words.into_inner())
 }

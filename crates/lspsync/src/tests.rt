@@ -73,7 +73,7 @@ impl<'a> Folder for Shelf<'a> {
     }
 
     fn is_lasting(&self, name: &str) -> bool {
-        name != "pipe"
+        !name.ends_with("pipe")
     }
 }
 

@@ -5,7 +5,7 @@ mod refused;
 mod session;
 
 use super::URI;
-use lsp_client::{Client, ClientFault, Delivered, Phase, Reason};
+use lsp_client::{Client, ClientFault, Delivered};
 use lsp_frame::{Limits, frame};
 use lsp_message::Offers;
 use lsp_samples::edits::batch;
@@ -59,51 +59,15 @@ fn answer_to(
     Ok(sent.map(Delivered::Send))
 }
 
-/// Returns whether this is the expected result: the frame of this body, or the result of this word.
+/// Returns whether this is the expected result: the frame of this body, or what `Debug` prints so.
 fn is_answer(
     alloc: Global,
     given: &Result<Delivered, ClientFault>,
     wanted: &str,
 ) -> Result<bool, AllocError> {
-    match given {
-        Ok(Delivered::Send(given)) => Ok(*given == frame(alloc, wanted.as_bytes())?),
-        Ok(other) => Ok(word_of(other) == wanted),
-        Err(fault) => Ok(word_of_fault(*fault) == wanted),
+    if let Ok(Delivered::Send(given)) = given {
+        return Ok(*given == frame(alloc, wanted.as_bytes())?);
     }
-}
-
-fn word_of(delivered: &Delivered) -> &'static str {
-    match delivered {
-        Delivered::Send(_) => "send",
-        Delivered::Noted => "noted",
-        Delivered::Ignored => "ignored",
-        Delivered::BadServer(Reason::NotAnAnswer) => "not an answer",
-        Delivered::BadServer(Reason::ErrorAnswer) => "error answer",
-        Delivered::BadServer(Reason::NoSync) => "no sync",
-        Delivered::BadServer(Reason::BadEncoding) => "bad encoding",
-    }
-}
-
-fn word_of_fault(fault: ClientFault) -> &'static str {
-    match fault {
-        ClientFault::WrongPhase { phase } => word_of_phase(phase),
-        ClientFault::Store(fault) => fault.code(),
-        ClientFault::NoMemory => "C3",
-    }
-}
-
-/// Returns the word of a call in a wrong phase, which names the phase.
-fn word_of_phase(phase: Phase) -> &'static str {
-    match phase {
-        Phase::New => "C1 New",
-        Phase::Asked => "C1 Asked",
-        Phase::Ready => "C1 Ready",
-        Phase::Closing => "C1 Closing",
-        Phase::Closed => "C1 Closed",
-        Phase::Done => "C1 Done",
-        Phase::Failed(Reason::NotAnAnswer) => "C1 Failed(NotAnAnswer)",
-        Phase::Failed(Reason::ErrorAnswer) => "C1 Failed(ErrorAnswer)",
-        Phase::Failed(Reason::NoSync) => "C1 Failed(NoSync)",
-        Phase::Failed(Reason::BadEncoding) => "C1 Failed(BadEncoding)",
-    }
+    let shown = format!(in alloc; "{given:?}")?;
+    Ok(shown.as_str() == wanted)
 }

@@ -56,8 +56,7 @@ fn compare_into(
 ///
 /// Codes, in this order: IN_USE; NOT_UTF8 of the URI or the saved text; BAD_ENCODING, BAD_MAX_BODY,
 /// BAD_MAX_TEXT, BAD_MAX_DOCS, BAD_MAX_CHANGES; OUT_OF_MEMORY, or the fault: CUT, BAD_FRAME,
-/// BAD_LOG; TOO_MANY_TURNS as of [`laspidru_log_run`](crate::log::laspidru_log_run). Costs that call,
-/// and copies the saved text.
+/// BAD_LOG. Costs that call, and copies the saved text.
 #[unsafe(no_mangle)]
 pub extern "C" fn laspidru_log_compare(
     alloc: Global,

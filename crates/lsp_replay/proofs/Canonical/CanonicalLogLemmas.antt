@@ -1,5 +1,5 @@
 -- What the canonical message of a record is told by.
-use Rattle.std.proofs.Common.{◌≡◌, ◌≢◌, ◌≤◌, ◌<◌, ◌⊎◌, inl, inr, ℕ, Bool, true, false, List, [], ◌∷◌, map, length, refl, ap, if◌then◌else◌, nat_lt, ltb-true, ltb-false, le-ltb, lt-ltb, ◌++◌, ◌∙◌, drop, sym, append_assoc}
+use Rattle.std.proofs.Common.{◌≡◌, ◌≢◌, ◌≤◌, ◌<◌, ◌⊎◌, inl, inr, ℕ, Bool, true, false, List, [], map, length, refl, ap, if◌then◌else◌, nat_lt, ltb-true, ltb-false, le-ltb, lt-ltb, ◌++◌, ◌∙◌, drop, sym, append_assoc}
 use Rattle.std.proofs.lemmas.List.{drop_at}
 use Rattle.std.specs.Prelude.{Option, Some, None, option_map, Err}
 use Rattle.lsp_text.specs.Units.{units_in}
@@ -7,8 +7,6 @@ use Rattle.lsp_text.specs.declared.encoding.Encoding.{Encoding}
 use Rattle.lsp_message.specs.Params.{DocumentItem, ChangeData}
 use Rattle.lsp_edit.specs.Edited as given
 use Rattle.lsp_frame.specs.Limits.{LimitsData}
-use Rattle.lsp_message.specs.Seen.{content_change_view}
-use Rattle.lsp_edit.specs.declared.change.Change.{Change}
 use Rattle.lsp_store.specs.declared.fault.StoreFault.{StoreFault}
 use Rattle.lsp_store.specs.declared.fault.StoreFault.TheVariants.{BodyTooLong, NoMemory}
 use Rattle.lsp_store.specs.Faults.{IsRefusal, refusal_fault}
@@ -84,11 +82,6 @@ pub accepted : (s : Session) (version : Version) (p : ChangeData)
 accepted s version p e = step_changed s.server.phase s.server p (same_answer _ _ (unless_bad_is _ _ s _ changed e))
 
 -- The changes as they were read are those that the store is given.
-pub edits_of : (changes : List Change) → map content_change_from_data (map content_change_view changes)
-    ≡ map given.content_change changes
-edits_of [] = refl
-edits_of (change ∷ changes) = ap (λ edits. given.content_change change ∷ edits) (edits_of changes)
-
 -- ---- what is written, where a message is told
 
 pub appended_none : (max_body : ℕ) (r : Record) (front : List ℕ) (canonical_log : Option (List ℕ)) (old new : List ℕ)

@@ -1,26 +1,74 @@
 -- What `compare` has learned after a record, by what was read of it.
-use Rattle.std.proofs.Common.{◌≡◌, ◌≢◌, ℕ, Bool, List, [], ◌∷◌, Option, refl, ◌∙◌}
+use Rattle.std.proofs.Common.{◌≡◌, ◌≢◌, ◌≤◌, ℕ, List, [], ◌∷◌, ◌++◌, length, map, Option, Some, None, refl, sym, ap, ◌∙◌, append_assoc, append-nil}
+use Rattle.std.specs.Prelude.{Result, Ok, Err, slice_range}
 use Rattle.line_diff.specs.Compared.{ComparisonData}
+use Rattle.line_diff.specs.declared.owners.Splice.{Splice}
+use Rattle.lsp_text.specs.declared.position.Range.{Range}
+use Rattle.lsp_edit.specs.declared.change.Change.{Change}
+use Rattle.lsp_edit.specs.Batch.{Fault, ends_of}
+use Rattle.lsp_edit.specs.Edited.{content_change}
+use Rattle.lsp_edit.specs.Faults.{places_at}
 use Rattle.lsp_log.specs.declared.record.Sender.{Sender}
 use Rattle.lsp_log.specs.declared.record.Sender.TheVariants.{Client, Server}
 use Rattle.lsp_log.specs.declared.record.Version.{Version}
 use Rattle.lsp_log.specs.Log.{Record}
 use Rattle.lsp_message.specs.Message.{reading}
+use Rattle.lsp_message.specs.Seen.{content_change_view}
 use Rattle.lsp_server.specs.Incoming.{incoming_of}
+use Rattle.lsp_server.specs.Step.{ServerData}
 use Rattle.lsp_replay.specs.RunOutput.{written_first}
 use Rattle.lsp_replay.specs.Commands.{writes}
-use Rattle.lsp_replay.specs.Compared.{comparing, comparing_after, if_ends_so, is_open, learned}
+use Rattle.lsp_replay.specs.Compared.{comparing, comparing_after, if_ends_so, learned, listed, splice_at, splice_of, splices_after, splices_from, splices_in}
 use Rattle.lsp_replay.specs.Lines.{uri_of}
+use Rattle.lsp_replay.specs.Notes.{left_by, replaced_by}
 use Rattle.lsp_replay.specs.Session.{Session, Verdict, bad, judge}
 use Rattle.lsp_replay.specs.inside.Bodies.{BodyData, body_read}
-use Rattle.lsp_replay.specs.inside.Compared.{asks_open, compared_in, ending_read}
+use Rattle.lsp_replay.specs.inside.Compared.{compared_in, ending_read, splices_read}
 use Rattle.lsp_replay.proofs.Records.OutputLemmas.{output_after, unless_not}
 
-module _ (c : ComparisonData) (body : List ℕ) (verdict : Verdict) (t : Session) where
+-- ---- which parts changes replace
+
+pub no_splice : (units : ℕ → ℕ) (text : List ℕ) (range : Range) (len : ℕ)
+    → replaced_by units text (Some range) ≡ None
+    → None ≡ splice_at len (places_at 0 text (ends_of units text range))
+no_splice units text range len none = by (ends_of units text range) refl
+  where
+    by : (ends : Result (ℕ × ℕ) Fault) → ends_of units text range ≡ ends
+        → None ≡ splice_at len (places_at 0 text (ends_of units text range))
+    by (Ok ends) e = absurd (let wrong : Some (slice_range text ends.0 ends.1) ≡ None = rw e at none in cc)
+    by (Err why) e = rw e refl
+
+-- How far the parts were found: those of the rest lead to all.
+pub record Splicing (units : ℕ → ℕ) (all : List Splice) (rest : List Change) (left : List ℕ)
+    (splices : List Splice) : Type 0 where
+  pub found : splices ++ splices_from units left (map content_change_view rest) ≡ all
+  pub size : length left ≤ 1073741824
+
+module _ (units : ℕ → ℕ) (all : List Splice) (change : Change) (rest more : List Change) (left : List ℕ)
+    (splices next : List Splice) (is : rest ≡ change ∷ more) (splicing : Splicing units all rest left splices)
+    (pushed : next ≡ splices ++ listed (splice_of units left (content_change_view change))) where
+  here : next ++ splices_after (λ (text : List ℕ). splices_from units text (map content_change_view more))
+      (left_by units left (content_change change)) ≡ all
+  here =
+      ap (λ (ss : List Splice). ss ++ splices_after (λ (text : List ℕ). splices_from units text
+      (map content_change_view more)) (left_by units left (content_change change))) pushed
+      ∙ append_assoc splices (listed (splice_of units left (content_change_view change))) _
+      ∙ (rw is at splicing.found)
+
+  pub splicing_on : (text : List ℕ) → left_by units left (content_change change) ≡ Some text
+      → length text ≤ 1073741824 → Splicing units all more text next
+  splicing_on text leaves size = record { found = rw leaves at here; size = size }
+
+  pub splicing_ends : left_by units left (content_change change) ≡ None → next ≡ all
+  splicing_ends leaves = sym (append-nil next) ∙ (rw leaves at here)
+
+-- ---- what is known after a record
+
+module _ (c : ComparisonData) (s : ServerData) (body : List ℕ) (verdict : Verdict) (t : Session) where
   learned_is : (version : Version) (side : Sender)
-      → learned (asks_open (body_read version side body))
+      → learned (splices_read c.ending s (body_read version side body))
       (ending_read c.ending (body_read version side body)) verdict t c
-      ≡ learned (is_open (incoming_of (reading body)))
+      ≡ learned (splices_in c.ending s (incoming_of (reading body)))
       (if_ends_so c.ending (uri_of side (incoming_of (reading body)))) verdict t c
   learned_is version Client = refl
   learned_is version Server = refl
@@ -30,14 +78,15 @@ module _ (c : ComparisonData) (s : Session) (r : Record) where
   read = body_read r.head.version r.head.side r.body
 
   pub learned_at : (verdict : Verdict) → verdict ≡ (judge s r).verdict → (t : Session) → t ≡ (judge s r).session
-      → (uri : Option (List ℕ)) → uri ≡ ending_read c.ending read → (opens : Bool) → opens ≡ asks_open read
-      → (next : ComparisonData) → next ≡ learned opens uri verdict t c → next ≡ comparing_after c r (judge s r)
-  learned_at verdict is_judged t session uri uri_is opens opens_are next next_is =
-      next_is ∙ rw (uri_is, opens_are, is_judged, session)
-      (learned_is c r.body (judge s r).verdict (judge s r).session r.head.version r.head.side)
+      → (uri : Option (List ℕ)) → uri ≡ ending_read c.ending read
+      → (splices : Option (List Splice)) → splices ≡ splices_read c.ending s.server read
+      → (next : ComparisonData) → next ≡ learned splices uri verdict t c → next ≡ comparing_after c s r (judge s r)
+  learned_at verdict is_judged t session uri uri_is splices splices_are next next_is =
+      next_is ∙ rw (uri_is, splices_are, is_judged, session)
+      (learned_is c s.server r.body (judge s r).verdict (judge s r).session r.head.version r.head.side)
 
   pub nothing_written : (judge s r).verdict ≢ bad → (next : ComparisonData)
-      → next ≡ comparing_after c r (judge s r) → (t : Session) → t ≡ (judge s r).session → (more : List Record)
+      → next ≡ comparing_after c s r (judge s r) → (t : Session) → t ≡ (judge s r).session → (more : List Record)
       → compared_in c s (r ∷ more) ≡ written_first [] (compared_in next t more)
   nothing_written not_bad =
       output_after comparing c s r (writes []) (unless_not r (judge s r).verdict (writes []) not_bad)

@@ -338,6 +338,7 @@ run_of_course first version run_output settles grows_all in_parts {log_rules} {f
       all_records = over_course first version log_rules run_output settles grows_all _ _ _ _ _ result run.ran;
       whole = whole;
       called = run.called;
+      few = run.few;
       none_passed_over = run.none_passed_over;
       all_flushed = run.all_flushed;
     }

@@ -13,7 +13,7 @@ use Rattle.lsp_stream.specs.Turns.{AppendsFront, AppendsShort, StaysFlushed}
 use Rattle.lsp_log.specs.Log.{LogRules, Record, Log, IsVersion, IsReadAs, IsCut, IsMalformed, IsBadMark}
 use Rattle.lsp_log.specs.Opening.{IsUnfinished}
 use Rattle.lsp_replay.specs.RunOutput.{RunOutput}
-use Rattle.lsp_replay.specs.Engine.{Called, NonePassedOver, PortState, last_of, state_of}
+use Rattle.lsp_replay.specs.Engine.{Called, FewCalls, NonePassedOver, PortState, last_of, state_of}
 
 -- No record ended the run: the output of these records was written, and `IsRest` holds of what is
 -- left.
@@ -180,6 +180,8 @@ pub record IsLoopRun (log_rules : LogRules) (run_output : List Record → RunOut
   pub called : Called before.reader.calls after.reader.calls before.writer.calls after.writer.calls
       max_turns
       after.reader.failed after.writer.failed after.reader.ended after.reader.left result
+  -- How many calls were made at most.
+  pub few : FewCalls before after result
   -- No failure was passed over.
   pub none_passed_over : NonePassedOver before.reader.failed after.reader.failed
       before.writer.failed after.writer.failed result

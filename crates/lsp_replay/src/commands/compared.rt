@@ -14,14 +14,14 @@ use std::alloc::Global;
 
 /// Writes whether a document's last text is that of a file, also if it was closed. If it isn't, it
 /// writes how they differ: by line ends, the last line end or a byte order mark alone; or line by
-/// line, with the message that made each line so. That message is wrong, or a change after it is
-/// missing.
+/// line, with the messages that made each line so. Then it names the first messages about the
+/// document that were refused.
 ///
 /// The status is 0 if the texts are equal, byte for byte, else 1, whatever was refused. If no
 /// document's URI ends as the comparison wants, nothing is written, and the outcome says that it is
 /// missing. If another one ends so too, both are named.
 ///
-/// Errors are those of [`check`](crate::check). A change of the document costs what its text has.
+/// Errors are those of [`check`](crate::check). Each range of a change costs what the text has.
 /// The memory is for the open documents, the document's text and the file.
 pub fn compare<R: Source, W: Sink>(
     alloc: Global,

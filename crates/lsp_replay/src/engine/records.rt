@@ -2,7 +2,7 @@
 
 ghost use Rattle.std.specs.Prelude.{◌≡◌, ◌&&◌, [], ℕ, List, drop, Option, not, OnOk, IfOk, IfErr, MatchOption};
 ghost use Rattle.lsp_frame.specs.Frame.{IsFrameOf};
-ghost use Rattle.lsp_stream.specs.Turns.{WritesWithin};
+ghost use Rattle.lsp_stream.specs.Turns.{WritesFew, WritesWithin};
 ghost use Rattle.lsp_stream.specs.inside.Turns.{LeavesFlushed};
 ghost use Rattle.lsp_log.specs.Log.{LogRules, Record};
 ghost use Rattle.lsp_log.specs.Splitting.{IsReady, IsFed};
@@ -48,6 +48,7 @@ fn handle_record<W: Sink, H: Handler>(
     ensures calls { WritesWithin turns.old.left turns.new.left
         (W.seen writer.old) (W.seen writer.new) result }
     ensures all_flushed { LeavesFlushed H.FLUSHES (W.seen writer.old) (W.seen writer.new) result }
+    ensures few { WritesFew (W.seen writer.old) (W.seen writer.new) result }
 {
     buffer.clear();
     let given = handler.handle(head, raw, body, buffer)?;
@@ -91,6 +92,7 @@ fn take_record<W: Sink, H: Handler>(
     ensures calls { WritesWithin turns.old.left turns.new.left
         (W.seen writer.old) (W.seen writer.new) result }
     ensures all_flushed { LeavesFlushed H.FLUSHES (W.seen writer.old) (W.seen writer.new) result }
+    ensures few { WritesFew (W.seen writer.old) (W.seen writer.new) result }
 {
     reading_laws();
     let head = splitter.head();
@@ -136,6 +138,7 @@ pub(crate) fn take_piece<W: Sink, H: Handler>(
     ensures calls { WritesWithin turns.old.left turns.new.left
         (W.seen writer.old) (W.seen writer.new) result }
     ensures all_flushed { LeavesFlushed H.FLUSHES (W.seen writer.old) (W.seen writer.new) result }
+    ensures few { WritesFew (W.seen writer.old) (W.seen writer.new) result }
 {
     let mut at = 0;
     'bytes: while at < piece.len() {

@@ -8,7 +8,7 @@ ghost use Rattle.lsp_replay.specs.Notes.{batch_notes, change_notes, end_notes, i
 ghost use Rattle.lsp_replay.specs.Notes.{notes_from, range_notes, same_notes, taken_as, whole_notes};
 ghost use Rattle.lsp_replay.specs.inside.Noting.{terms_view};
 
-mod replaced;
+pub(crate) mod replaced;
 
 use crate::notes::Note;
 use crate::notes::changes::replaced::{leave, replaced_by};

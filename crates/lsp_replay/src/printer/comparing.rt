@@ -2,21 +2,24 @@
 
 ghost use Rattle.std.specs.Prelude.{◌≡◌, refl, IfOk, OnOk, false, option_map, string_bytes};
 ghost use Rattle.line_diff.specs.Compared.{equality};
-ghost use Rattle.lsp_replay.specs.Compared.{compared_outcome, learned};
+ghost use Rattle.lsp_store.specs.Table.{entry_at};
+ghost use Rattle.lsp_replay.specs.Compared.{compared_outcome, learned, taken_if};
 ghost use Rattle.lsp_replay.specs.Session.{session_outcome};
 ghost use Rattle.lsp_replay.specs.inside.Bodies.{body_view};
-ghost use Rattle.lsp_replay.specs.inside.Compared.{asks_open, compared_in, ending_read};
+ghost use Rattle.lsp_replay.specs.inside.Compared.{compared_in, ending_read, splices_read};
 ghost use Rattle.lsp_replay.specs.inside.Verdicts.{verdict_view};
+
+mod splices;
 
 use crate::facts::asked::{copied_text, uri_of};
 use crate::handler::{Given, Output};
 use crate::outcome::{Missing, Outcome};
 use crate::printer::Printer;
-use crate::session::counting::has_changed;
+use crate::printer::comparing::splices::splices_on;
 use crate::session::{RecordBody, Session, Verdict};
-use line_diff::Comparison;
+use line_diff::{Comparison, Splice};
 use lsp_log::{Head, Sender};
-use lsp_server::Incoming;
+use lsp_server::{Answer, Incoming};
 use lsp_stream::EngineFault;
 use std::alloc::{AllocError, Global};
 
@@ -43,25 +46,60 @@ impl Compare {
         }
     }
 
-    /// Takes the text of a document that a record with this verdict has opened or changed.
-    fn learn(&mut self, uri: Option<&str>, opens: bool, verdict: &Verdict) -> Result<(), AllocError>
+    /// Returns which parts of its document a record replaces, if it is a change, and if the URI ends
+    /// as that which is compared.
+    fn splices_in(&self, read: &RecordBody<'_>) -> Result<Option<Vec<Splice>>, AllocError>
+        ensures { IfOk result (λ splices. option_map (λ splices. splices.items) splices
+            ≡ splices_read self.now.comparison.ending self.now.session.server
+            (body_view read.now)) }
+    {
+        match read {
+            RecordBody::Client(_, Incoming::DidChange(Some(params)))
+                if self.comparison.is_of(&params.uri) => {
+                let splices = splices_on(self.alloc, self.session.server(), params)?;
+                Ok(Some(splices))
+            }
+            _ => Ok(None),
+        }
+    }
+
+    /// Takes what a record with this verdict has made of a document.
+    fn learn(
+        &mut self,
+        uri: Option<&str>,
+        splices: Option<&[Splice]>,
+        verdict: &Verdict,
+    ) -> Result<(), AllocError>
         ensures session { OnOk result (self.new.session ≡ self.old.session) }
         ensures comparison { OnOk result (self.new.comparison
-            ≡ learned opens (option_map (λ uri. uri.now) uri.entry) (verdict_view verdict.now)
+            ≡ learned (option_map (λ splices. splices.now) splices.entry)
+            (option_map (λ uri. uri.now) uri.entry) (verdict_view verdict.now)
             self.old.session self.old.comparison) }
     {
-        let Some(uri) = uri else {
-            return Ok(());
-        };
-        if !has_changed(verdict) {
-            return Ok(());
+        match (uri, verdict) {
+            (Some(uri), Verdict::Answered(Answer::Changed)) => self.take(uri, splices),
+            (Some(uri), Verdict::Answered(Answer::Refused(refusal))) => {
+                let number = self.session.records();
+                self.comparison
+                    .refuse(self.alloc, number, uri, refusal.code())
+            }
+            _ => Ok(()),
         }
+    }
+
+    /// Takes the text of a document that the last record has opened, or changed by splices.
+    fn take(&mut self, uri: &str, splices: Option<&[Splice]>) -> Result<(), AllocError>
+        ensures session { OnOk result (self.new.session ≡ self.old.session) }
+        ensures comparison { OnOk result (self.new.comparison
+            ≡ taken_if (option_map (λ splices. splices.now) splices.entry) self.old.session.records
+            uri.now (entry_at self.old.session.server.table uri.now) self.old.comparison) }
+    {
         let number = self.session.records();
         let Some(document) = self.session.server().store().get(uri) else {
             return Ok(());
         };
         let text = document.text().to_string(self.alloc)?;
-        self.comparison.take(self.alloc, number, uri, text, opens)
+        self.comparison.take(self.alloc, number, uri, text, splices)
     }
 
     /// Returns the outcome at the end.
@@ -83,13 +121,6 @@ impl Compare {
             },
         }
     }
-}
-
-/// Returns whether a record opens a document.
-fn asks_open(read: &RecordBody<'_>) -> bool
-    ensures { result ≡ asks_open (body_view read.now) }
-{
-    matches!(read, RecordBody::Client(_, Incoming::DidOpen(_)))
 }
 
 impl Printer for Compare {
@@ -120,9 +151,9 @@ impl Printer for Compare {
         _buffer: &mut Vec<u8>,
     ) -> Result<Given, EngineFault> {
         let uri = self.uri_in(&read)?;
-        let opens = asks_open(&read);
+        let splices = self.splices_in(&read)?;
         let verdict = self.session.accept(head, read)?;
-        self.learn(uri.as_deref(), opens, &verdict)?;
+        self.learn(uri.as_deref(), splices.as_deref(), &verdict)?;
         Ok(Given::more(Output::Bytes))
     }
 

@@ -79,8 +79,10 @@ pub static COMPARE_EXAMPLE: &str =
 text of the document whose URI ends so, or as `--uri` says, also after its
 `didClose`. Where both differ in line ends, the last line end or a byte order
 mark alone, a line says so. Else the lines that differ are printed, with the
-messages that made what differs: one is wrong, or a later one that was to change
-it is missing or wrong. `\\u{a0}` and the like are characters that can't be seen.
+messages that made what differs: one is wrong, a later one is missing or
+wrong, or an earlier mistake led it to the wrong line. Messages about the
+document that were refused come last. `\\u{a0}` and the like are characters
+that can't be seen.
 
 The status is 0 where the texts are equal, byte for byte, else 1. Where no
 document's URI ends so, a line on standard error says so, and the status is 1;

@@ -3,7 +3,7 @@
 use super::*;
 use crate::process::Announced;
 use lsp_replay::CallEnd::{Fail as Fails, Take};
-use lsp_samples::bodies::{INITIALIZE, OPEN, WHOLE};
+use lsp_samples::bodies::{AFTER_ONE_UNIT, INITIALIZE, OPEN, OPEN_EMOJI, WHOLE};
 use lsp_samples::logs::log;
 use std::io::Read;
 use std::test::Fail;
@@ -21,7 +21,7 @@ const BETWEEN: &str =
     "==> good.log <==\n==> gone.log <==\nlspsync: gone.log: entity not found\n==> standard input <==\n";
 
 const CUT: &str =
-    "lspsync: cut.log: truncated at 400: the log ends inside a message (docs/PROTOCOL.md#codes)\n";
+    "lspsync: cut.log: truncated at 400: the log ends inside a message (docs/PROTOCOL.md#codes)\nlspsync: cut.log: `replay --at 2` shows the texts before it\n";
 
 const NVIM: &str =
     "lspsync: nvim.log: frame fault F1 at 8: no header can have this byte here (docs/PROTOCOL.md#codes)\nlspsync: nvim.log: a log of Neovim; bin/log-from makes a session of it\n";
@@ -47,7 +47,9 @@ const NO_RECORD: &str = "lspsync: good.log: the log has no record of this number
 const SAME: &str = "\"file:///a\" after message 3: the text is the file's\n";
 
 const OTHER: &str =
-    "\"file:///a\" after message 3: the text is not the file's:\nline 1 (made by message 3): \"aXc\"\n  the file has: \"abc\\n\"\nFor each line, a message named is wrong, or a later one that was to change what it made is missing or wrong.\n";
+    "\"file:///a\" after message 3: the text is not the file's:\nline 1 (made by message 3): \"aXc\"\n  the file has: \"abc\\n\"\nFor each line, a message named is wrong, a later one is missing or wrong, or an earlier mistake led it to the wrong line. Look at the lowest numbers first.\n";
+
+const BY_UTF_32: &str = "lspsync: emoji.log: with `--encoding utf-32` the texts are equal\n";
 
 const BYTES: &str = "lspsync: nvim.bin: stream did not contain valid UTF-8\n";
 
@@ -86,19 +88,35 @@ static ROWS: [(&str, u8, &str, &str); 23] = [
     ),
 ];
 
-/// Returns whether a row's words have the row's status, output and lines on standard error.
-fn is_answered(alloc: Global, row: &(&str, u8, &str, &str)) -> Result<bool, AllocError> {
-    let (words, status, output, errors) = *row;
+/// Words by which texts differ, and what is printed on standard error: in UTF-16 and UTF-8 the change
+/// is inside a character, and in UTF-32 it isn't.
+static DIFFERING: [(&str, &str); 4] = [
+    ("lspsync compare --uri=a emoji.txt emoji.log", BY_UTF_32),
+    (
+        "lspsync compare --encoding=utf-8 --uri=a emoji.txt emoji.log",
+        BY_UTF_32,
+    ),
+    ("lspsync compare --uri=a saved.txt emoji.log", ""),
+    // It can't be read once more.
+    ("lspsync compare --uri=a emoji.txt emoji.pipe", ""),
+];
+
+/// Runs the program with these words, over these files.
+fn answered(alloc: Global, words: &str) -> Result<Answer, AllocError> {
     let words: Vec<&str> = words.split(' ').collect(alloc)?;
     let good = log(alloc, &[INITIALIZE, OPEN, WHOLE])?;
     let cut = Vec::from_slice(alloc, good.get(..400).unwrap_or(&[]))?;
     let begun = log(alloc, &[INITIALIZE])?;
-    let files: [Held<'_>; 11] = [
+    let emoji = log(alloc, &[INITIALIZE, OPEN_EMOJI, AFTER_ONE_UNIT])?;
+    let files: [Held<'_>; 14] = [
         ("a", b"aXc", &[Take(1)]),
         ("saved.txt", b"abc\n", &[]),
         ("nvim.bin", b"a\xff", &[]),
         ("bare.log", b"Content-Length: 2\n\n{}", &[]),
         ("two.log", b"lsp-session-log 2\n>Content-Length: 2\r\n", &[]),
+        ("emoji.txt", "😀b".as_bytes(), &[]),
+        ("emoji.log", &emoji, &[]),
+        ("emoji.pipe", &emoji, &[]),
         ("good.log", &good, &[Take(1), Take(30)]),
         ("cut.log", &cut, &[]),
         ("begun.log", &begun, &[]),
@@ -106,14 +124,30 @@ fn is_answered(alloc: Global, row: &(&str, u8, &str, &str)) -> Result<bool, Allo
         ("broken.log", &good, &[Take(350), Fails]),
         ("nvim.log", b"[START][ LSP logging", &[Take(1), Take(2)]),
     ];
-    let answer = shelved(alloc, &words, &files, &good, &[], &[])?;
-    Ok(answer.is(status, output.as_bytes(), errors))
+    shelved(alloc, &words, &files, &good, &[], &[])
 }
 
 #[test]
 fn files_are_read_by_name(rt: HostRuntime) -> Result<(), Fail> {
-    for row in &ROWS {
-        assert!(rt; is_answered(rt.alloc(), row)?, "at {:?}", row.0);
+    for (words, status, output, errors) in &ROWS {
+        let answer = answered(rt.alloc(), words)?;
+        assert!(rt;
+            answer.is(*status, output.as_bytes(), errors),
+            "at {words:?}"
+        );
+    }
+    Ok(())
+}
+
+#[test]
+fn another_encoding_is_named(rt: HostRuntime) -> Result<(), Fail> {
+    for (words, errors) in &DIFFERING {
+        let answer = answered(rt.alloc(), words)?;
+        assert_eq!(rt; answer.status, 1);
+        assert!(rt;
+            answer.errors.as_slice() == errors.as_bytes(),
+            "at {words:?}"
+        );
     }
     Ok(())
 }

@@ -1,6 +1,4 @@
-//! Batches on small texts: the texts that they leave, their canonical batches and their faults, as
-//! they are worked out by hand. Ranges are counted in UTF-16. Calls that run out of memory are made
-//! again.
+//! Batches on small texts that run out of memory, and are made again. Ranges are counted in UTF-16.
 
 mod joined_batches;
 mod pieces;
@@ -9,9 +7,9 @@ mod text_edits;
 
 ghost use Rattle.std.specs.Prelude.{◌≡◌, IfOk};
 
-use lsp_edit::{BatchFault, Change, EditFault, IndexedText, MAX_OLD_TEXT, Side, fits};
+use lsp_edit::{BatchFault, Change, IndexedText, MAX_OLD_TEXT, fits};
 use lsp_samples::again;
-use lsp_samples::edits::{ALL, Edit, batch, batch_again, change};
+use lsp_samples::edits::{ALL, Edit, batch_again, change};
 use lsp_text::Encoding;
 use std::alloc::{AllocError, Global};
 use std::test::Fail;
@@ -19,68 +17,15 @@ use std::test::Fail;
 /// A text, a batch, the text that it leaves, and its canonical batch.
 type Batch = (&'static str, &'static [Edit], &'static str, &'static [Edit]);
 
-static BATCHES: [Batch; 17] = [
-    (
-        "abc",
-        &[(0, 1, 0, 2, ""), (0, 1, 0, 1, "X")],
-        "aXc",
-        &[(0, 1, 0, 2, "X")],
-    ),
-    (
-        "abc",
-        &[(0, 2, 0, 2, "X"), (0, 1, 0, 2, "")],
-        "aXc",
-        &[(0, 1, 0, 2, "X")],
-    ),
-    ("aa", &[(0, 0, 0, 1, "")], "a", &[(0, 0, 0, 1, "")]),
-    ("aa", &[(0, 1, 0, 2, "")], "a", &[(0, 1, 0, 2, "")]),
-    ("aa", &[(ALL, 0, 0, 0, "a")], "a", &[(0, 0, 0, 2, "a")]),
+static BATCHES: [Batch; 4] = [
     (
         "abcde",
         &[(0, 1, 0, 2, "X"), (0, 3, 0, 4, "Y"), (0, 2, 0, 3, "")],
         "aXYe",
         &[(0, 1, 0, 4, "XY")],
     ),
-    (
-        "a\rX\nb",
-        &[(1, 0, 1, 1, ""), (1, 0, 1, 0, "Q")],
-        "a\r\nQb",
-        &[(2, 0, 2, 0, "Q"), (1, 0, 1, 1, "")],
-    ),
-    (
-        "a\r\nb",
-        &[(0, 1, 1, 0, "\r")],
-        "a\rb",
-        &[(0, 1, 1, 0, "\r")],
-    ),
-    (
-        "a\r\nb",
-        &[(0, 1, 1, 0, "\r\n")],
-        "a\r\nb",
-        &[(0, 1, 1, 0, "\r\n")],
-    ),
-    (
-        "abcdefgh",
-        &[(0, 0, 0, 3, ""), (0, 5, 0, 5, "xyz")],
-        "defghxyz",
-        &[(0, 8, 0, 8, "xyz"), (0, 0, 0, 3, "")],
-    ),
-    (
-        "abc",
-        &[(ALL, 0, 0, 0, "abc")],
-        "abc",
-        &[(0, 0, 0, 3, "abc")],
-    ),
-    ("abc", &[(ALL, 0, 0, 0, "")], "", &[(0, 0, 0, 3, "")]),
-    ("", &[(ALL, 0, 0, 0, "")], "", &[]),
+    ("aa", &[(ALL, 0, 0, 0, "a")], "a", &[(0, 0, 0, 2, "a")]),
     ("abc", &[(0, 1, 0, 1, "X"), (0, 1, 0, 2, "")], "abc", &[]),
-    ("a\n", &[(7, 3, 7, 3, "b")], "a\nb", &[(1, 0, 1, 0, "b")]),
-    (
-        "\u{1F600}",
-        &[(0, 2, 0, 2, "e\u{301}"), (0, 0, 0, 0, "x")],
-        "x\u{1F600}e\u{301}",
-        &[(0, 2, 0, 2, "e\u{301}"), (0, 0, 0, 0, "x")],
-    ),
     (
         "a\nb\nc\n",
         &[
@@ -94,50 +39,6 @@ static BATCHES: [Batch; 17] = [
             (1, 0, 1, 1, "B\nBB\nBBB"),
             (0, 0, 0, 1, "A"),
         ],
-    ),
-];
-
-/// A text, a batch with a change that has no result, and its fault.
-type Faulty = (&'static str, &'static [Edit], EditFault);
-
-static FAULTS: [Faulty; 5] = [
-    (
-        "abc",
-        &[(0, 0, 0, 1, "Z"), (0, 2, 0, 1, "")],
-        EditFault::ReversedRange { change: 1 },
-    ),
-    (
-        "\u{1F600}",
-        &[(0, 1, 0, 1, "")],
-        EditFault::InsideCharacter {
-            change: 0,
-            side: Side::Start,
-        },
-    ),
-    (
-        "\u{1F600}",
-        &[(0, 2, 0, 1, "")],
-        EditFault::InsideCharacter {
-            change: 0,
-            side: Side::Stop,
-        },
-    ),
-    (
-        "\u{1F600}a",
-        &[
-            (0, 0, 0, 2, ""),
-            (0, 0, 0, 0, "\u{1F600}"),
-            (0, 1, 0, 1, ""),
-        ],
-        EditFault::InsideCharacter {
-            change: 2,
-            side: Side::Start,
-        },
-    ),
-    (
-        "ab\ncd",
-        &[(1, 0, 0, 2, "")],
-        EditFault::ReversedRange { change: 0 },
     ),
 ];
 
@@ -218,22 +119,6 @@ fn refused_batches_leave_their_texts(rt: HostRuntime) -> Result<(), Fail> {
         assert!(rt; is_left(rt.alloc(), row, &mut refused)?, "{index}");
     }
     println!(rt; "refused {refused}")?;
-    Ok(())
-}
-
-fn fails(alloc: Global, row: &Faulty) -> Result<bool, AllocError> {
-    let (before, edits, fault) = *row;
-    let changes = batch(alloc, edits)?;
-    let mut kept = kept(alloc, before)?;
-    let answer = applied(&mut kept, &changes);
-    Ok(answer == Err(BatchFault::Edit(fault)) && kept.text().is_text(before))
-}
-
-#[test]
-fn the_first_faulty_change_is_reported(rt: HostRuntime) -> Result<(), Fail> {
-    for (index, row) in FAULTS.iter().enumerate() {
-        assert!(rt; fails(rt.alloc(), row)?, "{index}");
-    }
     Ok(())
 }
 

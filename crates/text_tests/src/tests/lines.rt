@@ -2,7 +2,6 @@
 
 ghost use Rattle.std.specs.Prelude.{◌≤◌, length};
 
-mod pictures;
 mod refused;
 
 use lsp_text::{Encoding, Lines, Position, Units, UnknownEncoding, Utf8, Utf16, Utf32};
@@ -48,29 +47,58 @@ fn positioned(
     Ok(Some((position.line, position.character)))
 }
 
-/// A text, an encoding, a line and a character, and the byte offset that they denote.
-type Denoted = (&'static str, Encoding, u32, u32, Option<usize>);
+/// A CRLF, a lone CR and an LF: four lines.
+const ENDS: &str = "a\r\nb\rc\n";
 
-static DENOTED: [Denoted; 5] = [
-    ("", UTF8, 4294967295, 4294967295, Some(0)),
-    ("\r", UTF16, 0, 4294967295, Some(0)),
-    ("\r", UTF16, 1, 0, Some(1)),
-    ("a\rX\nb", UTF16, 2, 0, Some(4)),
-    ("\u{1F600}", UTF8, 0, 99, Some(4)),
+/// A line, a character, and the byte offset that they denote.
+static ENDS_PLACES: [(u32, u32, usize); 13] = [
+    (0, 0, 0),
+    (0, 1, 1),
+    (0, 2, 1),
+    (0, 9, 1),
+    (1, 0, 3),
+    (1, 1, 4),
+    (1, 2, 4),
+    (2, 0, 5),
+    (2, 1, 6),
+    (3, 0, 7),
+    (3, 5, 7),
+    (4, 0, 7),
+    (9, 9, 7),
 ];
 
-fn denotes(alloc: Global, row: &Denoted) -> Result<bool, AllocError> {
-    let (text, encoding, line, character, place) = *row;
-    if text.len() > 1000 {
-        return Ok(false);
+/// A byte offset, and its exact position if it has one.
+static ENDS_POSITIONS: [(usize, Option<(u32, u32)>); 8] = [
+    (0, Some((0, 0))),
+    (1, Some((0, 1))),
+    (2, None),
+    (3, Some((1, 0))),
+    (4, Some((1, 1))),
+    (5, Some((2, 0))),
+    (6, Some((2, 1))),
+    (7, Some((3, 0))),
+];
+
+/// Returns whether the lines and characters denote these byte offsets, and the offsets have these
+/// positions.
+fn has_places(alloc: Global, encoding: Encoding) -> Result<bool, AllocError> {
+    for (line, character, place) in &ENDS_PLACES {
+        if resolved(alloc, ENDS, encoding, *line, *character)? != Some(*place) {
+            return Ok(false);
+        }
     }
-    Ok(resolved(alloc, text, encoding, line, character)? == place)
+    for (place, position) in &ENDS_POSITIONS {
+        if positioned(alloc, ENDS, encoding, *place)? != *position {
+            return Ok(false);
+        }
+    }
+    Ok(true)
 }
 
 #[test]
-fn positions_denote_places(rt: HostRuntime) -> Result<(), Fail> {
-    for row in &DENOTED {
-        assert!(rt; denotes(rt.alloc(), row)?, "{row:?}");
+fn line_ends_of_three_kinds(rt: HostRuntime) -> Result<(), Fail> {
+    for encoding in [UTF8, UTF16, UTF32] {
+        assert!(rt; has_places(rt.alloc(), encoding)?, "{encoding:?}");
     }
     Ok(())
 }

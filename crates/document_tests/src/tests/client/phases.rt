@@ -31,34 +31,44 @@ static PHASES: [(Phase, usize); 7] = [
     (FAILED, 3),
 ];
 
-const NEW: &str = "C1 New";
+const NEW: &str = "Err(WrongPhase { phase: New })";
 
-const ASKED: &str = "C1 Asked";
+const ASKED: &str = "Err(WrongPhase { phase: Asked })";
 
-const READY: &str = "C1 Ready";
+const READY: &str = "Err(WrongPhase { phase: Ready })";
 
-const CLOSING: &str = "C1 Closing";
+const CLOSING: &str = "Err(WrongPhase { phase: Closing })";
 
-const CLOSED: &str = "C1 Closed";
+const CLOSED: &str = "Err(WrongPhase { phase: Closed })";
 
-const DONE: &str = "C1 Done";
+const DONE: &str = "Err(WrongPhase { phase: Done })";
 
-const FAULTY: &str = "C1 Failed(NotAnAnswer)";
+const FAULTY: &str = "Err(WrongPhase { phase: Failed(NotAnAnswer) })";
 
-const BAD: &str = "not an answer";
+const BAD: &str = "Ok(BadServer(NotAnAnswer))";
+
+const IGNORED: &str = "Ok(Ignored)";
 
 const NOT_FOUND: &str =
     r#"{"error":{"code":-32601,"message":"method not found"},"id":5,"jsonrpc":"2.0"}"#;
 
 /// A call, and the expected results in New, Asked, Ready, Closing, Closed, Done and Failed.
-static TABLE: [(Ask, [&str; 7]); 16] = [
+static TABLE: [(Ask, [&str; 7]); 14] = [
     (
         Ask::Start,
         [INITIALIZE, ASKED, READY, CLOSING, CLOSED, DONE, FAULTY],
     ),
     (
         Ask::Open("abc"),
-        [NEW, ASKED, "S1", CLOSING, CLOSED, DONE, FAULTY],
+        [
+            NEW,
+            ASKED,
+            "Err(Store(AlreadyOpen))",
+            CLOSING,
+            CLOSED,
+            DONE,
+            FAULTY,
+        ],
     ),
     (
         Ask::Edit(2, 1, 2, "X"),
@@ -66,7 +76,15 @@ static TABLE: [(Ask, [&str; 7]); 16] = [
     ),
     (
         Ask::Edit(1, 1, 2, "X"),
-        [NEW, ASKED, "S5", CLOSING, CLOSED, DONE, FAULTY],
+        [
+            NEW,
+            ASKED,
+            "Err(Store(StaleVersion { held: 1 }))",
+            CLOSING,
+            CLOSED,
+            DONE,
+            FAULTY,
+        ],
     ),
     (
         Ask::Close,
@@ -77,12 +95,8 @@ static TABLE: [(Ask, [&str; 7]); 16] = [
         [NEW, ASKED, SHUTDOWN, CLOSING, CLOSED, DONE, FAULTY],
     ),
     (Ask::Exit, [NEW, ASKED, READY, CLOSING, EXIT, DONE, FAULTY]),
-    // No JSON, and no message.
+    // No JSON.
     (Ask::Deliver("{"), [NEW, BAD, BAD, BAD, BAD, DONE, FAULTY]),
-    (
-        Ask::Deliver(r#"{"id":1,"result":null}"#),
-        [NEW, BAD, BAD, BAD, BAD, DONE, FAULTY],
-    ),
     // The server's requests and notifications.
     (
         Ask::Deliver(r#"{"id":5,"jsonrpc":"2.0","method":"workspace/configuration"}"#),
@@ -92,9 +106,7 @@ static TABLE: [(Ask, [&str; 7]); 16] = [
     ),
     (
         Ask::Deliver(r#"{"jsonrpc":"2.0","method":"window/logMessage","params":{}}"#),
-        [
-            NEW, "ignored", "ignored", "ignored", "ignored", DONE, FAULTY,
-        ],
+        [NEW, IGNORED, IGNORED, IGNORED, IGNORED, DONE, FAULTY],
     ),
     // Responses to the client's two requests.
     (
@@ -103,19 +115,21 @@ static TABLE: [(Ask, [&str; 7]); 16] = [
     ),
     (
         Ask::Deliver(SHUT_DOWN),
-        [NEW, BAD, BAD, "noted", BAD, DONE, FAULTY],
+        [NEW, BAD, BAD, "Ok(Noted)", BAD, DONE, FAULTY],
     ),
     (
         Ask::Deliver(r#"{"error":{"code":1,"message":""},"id":1,"jsonrpc":"2.0"}"#),
-        [NEW, "error answer", BAD, BAD, BAD, DONE, FAULTY],
+        [
+            NEW,
+            "Ok(BadServer(ErrorAnswer))",
+            BAD,
+            BAD,
+            BAD,
+            DONE,
+            FAULTY,
+        ],
     ),
-    // Ids that are not those of a request.
-    (
-        Ask::Deliver(
-            r#"{"id":"1","jsonrpc":"2.0","result":{"capabilities":{"textDocumentSync":2}}}"#,
-        ),
-        [NEW, BAD, BAD, BAD, BAD, DONE, FAULTY],
-    ),
+    // A response to no request.
     (
         Ask::Deliver(r#"{"id":null,"jsonrpc":"2.0","result":null}"#),
         [NEW, BAD, BAD, BAD, BAD, DONE, FAULTY],

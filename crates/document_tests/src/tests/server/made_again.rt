@@ -12,7 +12,7 @@ use lsp_server::{Server, ServerFault};
 use std::alloc::{AllocError, Global};
 use std::test::Fail;
 
-/// A message, the body of its reply or the word of its answer, and the version and the text of the
+/// A message, the body of its reply or its answer as `Debug` prints it, and the version and the text of the
 /// document after it.
 type Message = (&'static str, &'static str, Open);
 
@@ -20,12 +20,12 @@ static MESSAGES: [Message; 9] = [
     (HOVER, NOT_INITIALIZED, None),
     ("[", PARSE_ERROR, None),
     (INITIALIZE, ACCEPTED, None),
-    (INITIALIZED, "ignored", None),
-    (OPEN, "changed", Some((1, "abc"))),
-    (CHANGE, "changed", Some((2, "aXc"))),
-    (CLOSE, "changed", None),
+    (INITIALIZED, "Ok(Ignored)", None),
+    (OPEN, "Ok(Changed)", Some((1, "abc"))),
+    (CHANGE, "Ok(Changed)", Some((2, "aXc"))),
+    (CLOSE, "Ok(Changed)", None),
     (SHUTDOWN, SHUT_DOWN, None),
-    (EXIT, "exit 0", None),
+    (EXIT, "Ok(Exit(0))", None),
 ];
 
 /// Returns whether the message has its answer. Where memory runs out the server is unchanged, and

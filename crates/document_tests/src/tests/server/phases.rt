@@ -15,94 +15,83 @@ static PHASES: [Phase; 4] = [Phase::New, Phase::Running, Phase::Down, Phase::End
 static WAY: [&[&str]; 4] = [&[], &[INITIALIZE, OPEN], &[SHUTDOWN], &[EXIT]];
 
 /// A body, and the expected answers in the phases New, Running, Down and Ended.
-static TABLE: [(&str, [&str; 4]); 26] = [
-    ("{", [PARSE_ERROR, PARSE_ERROR, PARSE_ERROR, "ended"]),
-    ("7", [NO_ID, NO_ID, NO_ID, "ended"]),
+static TABLE: [(&str, [&str; 4]); 20] = [
+    ("{", [PARSE_ERROR, PARSE_ERROR, PARSE_ERROR, ENDED]),
+    ("7", [NO_ID, NO_ID, NO_ID, ENDED]),
     (
         r#"{"id":7,"method":"exit"}"#,
-        [INVALID_REQUEST, INVALID_REQUEST, INVALID_REQUEST, "ended"],
-    ),
-    (
-        r#"{"id":7,"jsonrpc":"2.0"}"#,
-        [INVALID_REQUEST, INVALID_REQUEST, INVALID_REQUEST, "ended"],
+        [INVALID_REQUEST, INVALID_REQUEST, INVALID_REQUEST, ENDED],
     ),
     (
         r#"{"id":[7],"jsonrpc":"2.0","method":"shutdown"}"#,
-        [NO_ID, NO_ID, NO_ID, "ended"],
+        [NO_ID, NO_ID, NO_ID, ENDED],
     ),
     // Responses.
     (
         r#"{"id":7,"jsonrpc":"2.0","result":null}"#,
-        ["ignored", "ignored", "ignored", "ended"],
-    ),
-    (
-        r#"{"error":{},"id":null,"jsonrpc":"2.0"}"#,
-        ["ignored", "ignored", "ignored", "ended"],
+        [IGNORED, IGNORED, IGNORED, ENDED],
     ),
     // Requests.
     (
         r#"{"id":7,"jsonrpc":"2.0","method":"initialize","params":{}}"#,
-        [ACCEPTED, INVALID_REQUEST, INVALID_REQUEST, "ended"],
+        [ACCEPTED, INVALID_REQUEST, INVALID_REQUEST, ENDED],
     ),
     (
         r#"{"id":7,"jsonrpc":"2.0","method":"initialize"}"#,
-        [INVALID_PARAMS, INVALID_REQUEST, INVALID_REQUEST, "ended"],
+        [INVALID_PARAMS, INVALID_REQUEST, INVALID_REQUEST, ENDED],
     ),
     (
         r#"{"id":7,"jsonrpc":"2.0","method":"shutdown","params":7}"#,
-        [NOT_INITIALIZED, SHUT_DOWN, INVALID_REQUEST, "ended"],
+        [NOT_INITIALIZED, SHUT_DOWN, INVALID_REQUEST, ENDED],
     ),
     (
         r#"{"id":7,"jsonrpc":"2.0","method":"exit"}"#,
-        [NOT_INITIALIZED, NOT_FOUND, INVALID_REQUEST, "ended"],
-    ),
-    (
-        r#"{"id":7,"jsonrpc":"2.0","method":"textDocument/didOpen","params":{"textDocument":{"languageId":"","text":"","uri":"b","version":1}}}"#,
-        [NOT_INITIALIZED, NOT_FOUND, INVALID_REQUEST, "ended"],
+        [NOT_INITIALIZED, NOT_FOUND, INVALID_REQUEST, ENDED],
     ),
     (
         r#"{"id":7,"jsonrpc":"2.0","method":"$/cancelRequest","params":{"id":1}}"#,
-        [NOT_INITIALIZED, NOT_FOUND, INVALID_REQUEST, "ended"],
+        [NOT_INITIALIZED, NOT_FOUND, INVALID_REQUEST, ENDED],
     ),
     // Notifications.
-    (EXIT, ["exit 1", "exit 1", "exit 0", "ended"]),
+    (EXIT, ["Ok(Exit(1))", "Ok(Exit(1))", "Ok(Exit(0))", ENDED]),
     (
         r#"{"jsonrpc":"2.0","method":"textDocument/didOpen","params":{"textDocument":{"languageId":"","text":"","uri":"b","version":1}}}"#,
-        ["dropped", "changed", "dropped", "ended"],
+        [DROPPED, CHANGED, DROPPED, ENDED],
     ),
-    (OPEN, ["dropped", "refused S1", "dropped", "ended"]),
-    (CHANGE, ["dropped", "changed", "dropped", "ended"]),
-    (CLOSE, ["dropped", "changed", "dropped", "ended"]),
     (
-        r#"{"jsonrpc":"2.0","method":"textDocument/didOpen"}"#,
-        ["dropped", "refused M4", "dropped", "ended"],
+        OPEN,
+        [DROPPED, "Ok(Refused(Store(AlreadyOpen)))", DROPPED, ENDED],
     ),
+    (CHANGE, [DROPPED, CHANGED, DROPPED, ENDED]),
+    (CLOSE, [DROPPED, CHANGED, DROPPED, ENDED]),
     (
         r#"{"jsonrpc":"2.0","method":"textDocument/didChange","params":{"textDocument":{"uri":"file:///a","version":2}}}"#,
-        ["dropped", "refused M4", "dropped", "ended"],
+        [DROPPED, INVALID, DROPPED, ENDED],
     ),
-    (
-        r#"{"jsonrpc":"2.0","method":"textDocument/didClose","params":{"textDocument":{"uri":null}}}"#,
-        ["dropped", "refused M4", "dropped", "ended"],
-    ),
-    (INITIALIZED, ["dropped", "ignored", "dropped", "ended"]),
+    (INITIALIZED, [DROPPED, IGNORED, DROPPED, ENDED]),
     (
         r#"{"jsonrpc":"2.0","method":"initialize","params":{}}"#,
-        ["dropped", "ignored", "dropped", "ended"],
+        [DROPPED, IGNORED, DROPPED, ENDED],
     ),
     (
         r#"{"jsonrpc":"2.0","method":"shutdown"}"#,
-        ["dropped", "ignored", "dropped", "ended"],
+        [DROPPED, IGNORED, DROPPED, ENDED],
     ),
     (
         r#"{"jsonrpc":"2.0","method":"textDocument/didSave","params":{"textDocument":{"uri":"file:///a"}}}"#,
-        ["dropped", "ignored", "dropped", "ended"],
-    ),
-    (
-        r#"{"jsonrpc":"2.0","method":"$/cancelRequest","params":{"id":1}}"#,
-        ["dropped", "ignored", "dropped", "ended"],
+        [DROPPED, IGNORED, DROPPED, ENDED],
     ),
 ];
+
+const DROPPED: &str = "Ok(Dropped)";
+
+const IGNORED: &str = "Ok(Ignored)";
+
+const CHANGED: &str = "Ok(Changed)";
+
+const INVALID: &str = "Ok(Refused(InvalidParams))";
+
+const ENDED: &str = "Err(AlreadyEnded)";
 
 const INVALID_REQUEST: &str =
     r#"{"error":{"code":-32600,"message":"invalid request"},"id":7,"jsonrpc":"2.0"}"#;

@@ -2,9 +2,7 @@
 
 use super::{URI, change, narrow, open};
 use crate::tests::{Open, is_left};
-use lsp_edit::EditFault;
 use lsp_frame::Limits;
-use lsp_samples::bodies::CANONICAL;
 use lsp_samples::edits::{ALL, Edit, batch};
 use lsp_store::{Store, StoreFault};
 use lsp_text::Encoding;
@@ -83,31 +81,13 @@ fn are_answered(alloc: Global, limits: Limits, rows: &[Row], refused: &mut usize
     true
 }
 
-const LAST: i32 = 2_147_483_647;
-
 const MOVED: &str =
     r#"{"jsonrpc":"2.0","method":"textDocument/didChange","params":{"contentChanges":[{"range":{"end":{"character":8,"line":0},"start":{"character":8,"line":0}},"text":"xyz"},{"range":{"end":{"character":3,"line":0},"start":{"character":0,"line":0}},"text":""}],"textDocument":{"uri":"file:///a","version":2}}}"#;
 
-const NOTHING: &str =
-    r#"{"jsonrpc":"2.0","method":"textDocument/didChange","params":{"contentChanges":[],"textDocument":{"uri":"file:///a","version":2147483647}}}"#;
-
 /// One document of at most 8 bytes, and at most two changes.
-static ROWS: [Row; 22] = [
-    (Opens(1, "abc"), Ok(0), Some((1, "abc"))),
-    (
-        Change(2, &[(0, 0, 0, 1, "Z"), (0, 2, 0, 1, "")]),
-        Err(StoreFault::Edit(EditFault::ReversedRange { change: 1 })),
-        Some((1, "abc")),
-    ),
-    (Change(2, &[(0, 0, 0, 1, "Z")]), Ok(0), Some((2, "Zbc"))),
-    (Close, Ok(0), None),
-    // A text that would be too long, and one that is too long before the last change.
+static ROWS: [Row; 10] = [
+    // A text that is too long before the last change.
     (Opens(1, "abcdefgh"), Ok(0), Some((1, "abcdefgh"))),
-    (
-        Change(2, &[(0, 8, 0, 8, "x")]),
-        Err(StoreFault::TextTooLong),
-        Some((1, "abcdefgh")),
-    ),
     (
         Canonical(2, &[(0, 0, 0, 3, ""), (0, 5, 0, 5, "xyz")], MOVED),
         Ok(326),
@@ -119,7 +99,7 @@ static ROWS: [Row; 22] = [
         Some((2, "defghxyz")),
     ),
     (Close, Ok(0), None),
-    // Changes of a range and of a batch that move lines.
+    // Changes of a range and of a batch that move lines, and a whole text.
     (Opens(1, "a\nb"), Ok(0), Some((1, "a\nb"))),
     (
         Change(2, &[(0, 1, 1, 1, "X\r\n\n")]),
@@ -131,24 +111,7 @@ static ROWS: [Row; 22] = [
         Ok(0),
         Some((3, "a\nc\r\n\n")),
     ),
-    (Close, Ok(0), None),
-    // Versions.
-    (Opens(5, "abc"), Ok(0), Some((5, "abc"))),
-    (
-        Change(5, &[]),
-        Err(StoreFault::StaleVersion { held: 5 }),
-        Some((5, "abc")),
-    ),
-    (Canonical(LAST, &[], NOTHING), Ok(161), Some((5, "abc"))),
-    (Change(LAST, &[]), Ok(0), Some((LAST, "abc"))),
-    (Close, Ok(0), None),
-    // Whole texts.
-    (Opens(1, "abc"), Ok(0), Some((1, "abc"))),
-    (
-        Canonical(2, &[(ALL, 0, 0, 0, "aXc")], CANONICAL),
-        Ok(240),
-        Some((1, "abc")),
-    ),
+    (Change(4, &[(ALL, 0, 0, 0, "abc")]), Ok(0), Some((4, "abc"))),
     (Close, Ok(0), None),
     (Close, Err(StoreFault::NotOpen), None),
 ];

@@ -19,23 +19,13 @@ use std::test::Fail;
 /// A text, a batch, its canonical body, and the text after it.
 type Row = (&'static str, &'static [Edit], &'static str, &'static str);
 
-const LINES: &str =
-    r#"{"jsonrpc":"2.0","method":"textDocument/didChange","params":{"contentChanges":[{"range":{"end":{"character":1,"line":1},"start":{"character":1,"line":0}},"text":"X\r\n\n"}],"textDocument":{"uri":"file:///a","version":2}}}"#;
-
 const NOTHING: &str =
     r#"{"jsonrpc":"2.0","method":"textDocument/didChange","params":{"contentChanges":[],"textDocument":{"uri":"file:///a","version":2}}}"#;
 
 const TWO: &str =
     r#"{"jsonrpc":"2.0","method":"textDocument/didChange","params":{"contentChanges":[{"range":{"end":{"character":3,"line":0},"start":{"character":3,"line":0}},"text":"Y"},{"range":{"end":{"character":1,"line":0},"start":{"character":0,"line":0}},"text":"Z"}],"textDocument":{"uri":"file:///a","version":2}}}"#;
 
-static ROWS: [Row; 6] = [
-    ("a\nb", &[(0, 1, 1, 1, "X\r\n\n")], LINES, "aX\r\n\n"),
-    (
-        "a\nb",
-        &[(0, 1, 1, 1, "\r\n\n"), (0, 1, 0, 1, "X")],
-        LINES,
-        "aX\r\n\n",
-    ),
+static ROWS: [Row; 4] = [
     ("abc", &[(0, 1, 0, 2, "X")], CHANGE, "aXc"),
     ("abc", &[(0, 0, 0, 1, "Z"), (0, 3, 0, 3, "Y")], TWO, "ZbcY"),
     (

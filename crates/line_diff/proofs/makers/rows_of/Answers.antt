@@ -5,7 +5,7 @@ use Rattle.line_diff.proofs.makers.rows_of.Goals as goal
 
 pub loop-line-preserved : goal.loop-line-preserved
 loop-line-preserved c =
-    let first = row_first c.args.lines.now (record { ref_ptr = (0, 0); now = [] }) c.loop-line.line-index
+    let first = row_first c.args.more c.args.lines.now (record { ref_ptr = (0, 0); now = [] }) c.loop-line.line-index
     c.loop-line.rest.now (omega arith) in
     rw (
       c.after-rest.ensures,

@@ -23,6 +23,10 @@ opening-preserved g c =
     let long : length c.read_piece.new.buf ≡ length c.opening.buf - c.opening.len =
     omega (arith, c.read_piece.auto.buf, length-take {A = ℕ}, length-drop {A = ℕ}) in
     let front = c.is_undecided.ensures.yes c.if-not-is_undecided.false in
+    let goes_on : (g.R.Source.seen c.read_piece.new.reader).ended ≡ false = false_from_ne_true _ (λ error.
+    let zero : nat_eq c.in_ok-n.n 0 ≡ true = ap (λ k. nat_eq k 0) (c.in_ok-n.ensures.ended.0 error) in
+    let other = c.is_undecided.ensures.not_ended c.if-not-is_undecided.false in
+    cc) in
     record {
       within = omega (
         arith,
@@ -34,11 +38,9 @@ opening-preserved g c =
           c.if-not-is_undecided.false in cc);
       read = next_read _ _ _ c.opening.len c.in_ok-n.n c.opening.buf c.read_piece.new.buf within long
           c.in_ok-n.ensures.bound c.opening.invariant.read c.in_ok-n.ensures.read;
-      not_ended = λ _. false_from_ne_true _ (λ error.
-          let zero : nat_eq c.in_ok-n.n 0 ≡ true = ap (λ k. nat_eq k 0) (c.in_ok-n.ensures.ended.0 error) in
-          let other = c.is_undecided.ensures.not_ended c.if-not-is_undecided.false in
-          cc);
+      not_ended = λ _. goes_on;
       well = λ before. c.in_ok-n.ensures.calls.well (c.opening.invariant.well before);
+      few = omega (arith, c.opening.invariant.few, c.in_ok-n.ensures.few.not_ended goes_on);
       spent = record {
         within = omega (arith, c.opening.invariant.spent.within, c.in_ok-n.ensures.calls.spent.within);
         least = omega (arith, c.opening.invariant.spent.least, c.in_ok-n.ensures.calls.spent.least);

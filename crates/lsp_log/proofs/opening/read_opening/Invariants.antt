@@ -1,4 +1,4 @@
-use Rattle.std.specs.Prelude.{◌≡◌, ◌<◌, false, take}
+use Rattle.std.specs.Prelude.{◌≡◌, ◌<◌, ◌≤◌, ◌+◌, false, take}
 use Rattle.std.specs.Io.KnownBytes.{Consumes}
 use Rattle.lsp_stream.specs.Turns.{Spends, StaysWell}
 use Rattle.lsp_log.specs.Opening.{IsLineFront}
@@ -12,6 +12,8 @@ invariant-opening g l = record {
   read : Consumes (g.R.Source.seen l.fn.reader).left (g.R.Source.seen l.reader).left (take l.len l.buf);
   not_ended : (g.R.Source.seen l.fn.reader).ended ≡ false → (g.R.Source.seen l.reader).ended ≡ false;
   well : StaysWell (g.R.Source.seen l.fn.reader).failed (g.R.Source.seen l.reader).failed;
+  few : (g.R.Source.seen l.reader).calls + (g.R.Source.seen l.reader).calls_left
+      ≤ (g.R.Source.seen l.fn.reader).calls + (g.R.Source.seen l.fn.reader).calls_left;
   spent : Spends (g.R.Source.seen l.fn.reader).calls (g.R.Source.seen l.reader).calls l.fn.turns.left l.turns.left;
 }
 

@@ -4,6 +4,7 @@ use Rattle.std.specs.Io.KnownBytes.{Consumes}
 use Rattle.std.proofs.lemmas.Result.{err_from_is_err_and}
 use Rattle.lsp_replay.specs.Engine.{state_of}
 use Rattle.lsp_replay.proofs.Runs.RunLemmas.{called_fault, piece_not_read, told_result, both_at_start, both_writes, both_reads, rose_more, told_fault, read_not_write, read_not_ended, n_is_zero, zero_is, passed_fault, passed_result, in_time}
+use Rattle.lsp_replay.proofs.Runs.FewLemmas.{few_fault, few_ok, few_result, more_reads, more_writes}
 use Rattle.lsp_replay.proofs.Runs.PieceLemmas.{runs_at_start, runs_on, runs_more, ran_stopped, ran_into_fault, ran_finished, ran_unread, ran_unopened, ran_refused, piece_whole, end_whole, not_at_end}
 use Rattle.lsp_replay.proofs.engine.run_on.Goals as goal
 
@@ -28,6 +29,8 @@ returns-in_err-opening-clause-run g c =
           (λ is. ((rw c.reader.ensures.value at c.in_err-opening.ensures.calls.failed) is).1)
           (rw c.reader.ensures.value at c.in_err-opening.ensures.calls.not_ended));
       called = search rules;
+      few = rw (p.1, p.2) (few_fault _ _ _ (rw c.reader.ensures.value at c.in_err-opening.ensures.few)
+          (λ _. omega arith));
       none_passed_over = search rules;
       all_flushed = search rules;
     }
@@ -49,6 +52,8 @@ returns-in_err-accept-clause-run g c =
           c.in_err-accept.ensures.error (rw c.reader.ensures.value at c.in_ok-opening.ensures.read)
           (λ more none. c.in_ok-opening.ensures.known more (λ _. none)));
       called = search rules;
+      few = rw (p.1, p.2) (few_fault _ _ _ (rw c.reader.ensures.value at c.in_ok-opening.ensures.few)
+          (λ _. omega arith));
       none_passed_over = search rules;
       all_flushed = search rules;
     }
@@ -83,6 +88,8 @@ pieces-init g c = record {
   in_time = λ _ before. in_time _ _ before;
   same_reader = refl;
   same_writer = refl;
+  few_reads = (rw c.reader.ensures.value at c.in_ok-opening.ensures.few);
+  few_writes = omega arith;
   spent = both_at_start _ _ _ _ _ _ c.new-turns.ensures
       (rw c.reader.ensures.value at c.in_ok-opening.ensures.calls.spent);
 }
@@ -129,6 +136,10 @@ returns-in_err-end-clause-run g c =
             failed.0,
             rose_more _ _ _ c.pieces.invariant.spent.writes failed.1,
           )) (λ _ error. (c.pieces.invariant.at_end (c.pieces.invariant.ended.0 error), c.pieces.invariant.rose)));
+      few = rw (p.1, p.2) (few_fault _ _ _ c.pieces.invariant.few_reads
+          (λ other. more_writes (g.W.Sink.seen c.args.ends.now.writer.now)
+          (g.W.Sink.seen c.pieces.ends.writer.now) (g.W.Sink.seen c.take_piece.new.writer) c.pieces.invariant.few_writes
+          ((rw c.writer.ensures.value at c.in_err-end.ensures.few.error) other)));
       none_passed_over = rw (
         p.1,
         p.2,
@@ -166,6 +177,9 @@ returns-in-Some-clause-run g c =
           }) (g.H.Handler.run_output c.args.handler.now) (g.W.Sink.seen c.args.ends.now.writer.now).written input w))
           c.pieces.invariant.runs;
       called = search rules;
+      few = few_ok _ _ _ c.pieces.invariant.few_reads (more_writes (g.W.Sink.seen c.args.ends.now.writer.now)
+          (g.W.Sink.seen c.pieces.ends.writer.now) (g.W.Sink.seen c.take_piece.new.writer) c.pieces.invariant.few_writes
+          (rw c.writer.ensures.value at c.in_ok-end.ensures.few.ok));
       none_passed_over = search rules;
       all_flushed = λ holds _ _ before. (rw c.writer.ensures.value at c.in_ok-end.ensures.all_flushed.flushed) holds
           (c.pieces.invariant.flushed holds before);
@@ -206,6 +220,12 @@ returns-then-ended-clause-run g c =
           }) (g.H.Handler.run_output c.args.handler.now) (g.W.Sink.seen c.args.ends.now.writer.now).written input w))
           c.pieces.invariant.runs);
       called = search rules;
+      few = few_result _ _ (g.W.Sink.seen c.take_piece.new.writer) c.finish_run.result c.pieces.invariant.few_reads
+          (more_writes (g.W.Sink.seen c.args.ends.now.writer.now)
+          (g.W.Sink.seen c.pieces.ends.writer.now) (g.W.Sink.seen c.take_piece.new.writer) c.pieces.invariant.few_writes
+          (rw c.writer.ensures.value at c.in_ok-end.ensures.few.ok))
+          (rw c.writer-then-ended.ensures.value at c.finish_run.ensures.few.ok)
+          (rw c.writer-then-ended.ensures.value at c.finish_run.ensures.few.error);
       none_passed_over = told_result _ _ _ _ _ c.finish_run.result c.pieces.invariant.reads_well
           (λ before. (rw c.writer.ensures.value at c.in_ok-end.ensures.calls.well)
           (c.pieces.invariant.writes_well before))
@@ -270,6 +290,12 @@ returns-in_err-to-clause-run g c =
           (λ is. absurd (read_not_write _ c.in_err-to.ensures.calls.fault is))
           (λ other error. absurd (read_not_ended _ _ _ _ c.in_err-to.ensures.calls.fault
           (rw c.reader-in-pieces.ensures.value at c.in_err-to.ensures.calls.failed) other error)));
+      few = rw (p.1, p.2) (few_fault _ _ _ (more_reads _ _ _ c.pieces.invariant.few_reads
+          (not_at_end (g.R.Source.seen c.pieces.ends.reader.now).ended c.pieces.ended c.pieces.invariant.ended.0
+          c.if-ended.false) (rw c.reader-in-pieces.ensures.value at c.in_err-to.ensures.few))
+          (λ _. more_writes (g.W.Sink.seen c.args.ends.now.writer.now)
+          (g.W.Sink.seen c.pieces.ends.writer.now) (g.W.Sink.seen c.take_piece.new.writer) c.pieces.invariant.few_writes
+          (rw c.writer.ensures.value at c.in_ok-end.ensures.few.ok)));
       none_passed_over = rw (
         p.1,
         p.2,
@@ -342,6 +368,12 @@ pieces-preserved g c =
           holds (c.pieces.invariant.flushed holds before)) ∙ c.pieces.invariant.in_time holds before;
       same_reader = c.pieces.invariant.same_reader;
       same_writer = c.pieces.invariant.same_writer;
+      few_reads = more_reads _ _ _ c.pieces.invariant.few_reads
+          (not_at_end (g.R.Source.seen c.pieces.ends.reader.now).ended c.pieces.ended c.pieces.invariant.ended.0
+          c.if-ended.false) (rw c.reader-in-pieces.ensures.value at c.in_ok-to.ensures.few);
+      few_writes = more_writes (g.W.Sink.seen c.args.ends.now.writer.now)
+          (g.W.Sink.seen c.pieces.ends.writer.now) (g.W.Sink.seen c.take_piece.new.writer) c.pieces.invariant.few_writes
+          (rw c.writer.ensures.value at c.in_ok-end.ensures.few.ok);
       spent = both_reads _ _ _ _ _ _ _ _ (both_writes _ _ _ _ _ _ _ _ c.pieces.invariant.spent
           (rw c.writer.ensures.value at c.in_ok-end.ensures.calls.spent))
           (rw c.reader-in-pieces.ensures.value at c.in_ok-to.ensures.calls.spent);

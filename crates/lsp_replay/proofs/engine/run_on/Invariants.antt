@@ -1,6 +1,6 @@
 use Rattle.std.specs.Prelude.{◌≡◌, ◌≤◌, ◌↔◌, ◌-◌, true, length, take, drop}
 use Rattle.std.specs.Io.KnownBytes.{IsAtEnd}
-use Rattle.lsp_stream.specs.Ports.{Rose}
+use Rattle.lsp_stream.specs.Ports.{FewReads, FewWrites, Rose}
 use Rattle.lsp_log.specs.Splitting.{IsReady}
 use Rattle.lsp_stream.specs.Turns.{StaysWell, StaysFlushed}
 use Rattle.lsp_replay.specs.inside.Progress.{Runs, BothSpend}
@@ -30,6 +30,8 @@ invariant-pieces g l = record {
       ≡ l.fn.ends.read_early;
   same_reader : l.ends.reader.ghost_name ≡ l.fn.ends.reader.ghost_name;
   same_writer : l.ends.writer.ghost_name ≡ l.fn.ends.writer.ghost_name;
+  few_reads : FewReads (g.R.Source.seen l.fn.ends.reader.now) (g.R.Source.seen l.ends.reader.now);
+  few_writes : FewWrites (g.W.Sink.seen l.fn.ends.writer.now) (g.W.Sink.seen l.ends.writer.now);
   spent : BothSpend (g.R.Source.seen l.fn.ends.reader.now).calls (g.R.Source.seen l.ends.reader.now).calls
       (g.W.Sink.seen l.fn.ends.writer.now).calls (g.W.Sink.seen l.ends.writer.now).calls l.fn.max_turns l.turns.left;
 }

@@ -55,6 +55,7 @@ parts-preserved g c =
       outcome = part.1 ∙ c.parts.invariant.outcome;
       well = λ before. c.in_ok-write_given.ensures.calls.well (c.parts.invariant.well before);
       flushed = λ holds _. c.in_ok-write_given.ensures.flushed (c.FLUSHES.ensures ∙ holds);
+      few = omega (arith, c.parts.invariant.few, c.in_ok-write_given.ensures.few.ok);
       spent = record {
         within = omega (arith, c.parts.invariant.spent.within, c.in_ok-write_given.ensures.calls.spent.within);
         least = omega (arith, c.parts.invariant.spent.least, c.in_ok-write_given.ensures.calls.spent.least);

@@ -1,5 +1,6 @@
 use Rattle.std.specs.Prelude.{◌≡◌, true, List, ℕ, [], ◌++◌}
 use Rattle.std.specs.Io.KnownBytes.{Appends}
+use Rattle.lsp_stream.specs.Ports.{FewWrites}
 use Rattle.lsp_stream.specs.Turns.{Spends, StaysWell, StaysFlushed}
 use Rattle.lsp_replay.proofs.engine.write_last.Given as goal
 
@@ -14,6 +15,7 @@ invariant-parts g l = record {
   well : StaysWell (g.W.Sink.seen l.fn.writer).failed (g.W.Sink.seen l.writer).failed;
   flushed : g.H.Handler.FLUSHES ≡ true → StaysFlushed (g.W.Sink.seen l.fn.writer).flushed
       (g.W.Sink.seen l.writer).flushed;
+  few : FewWrites (g.W.Sink.seen l.fn.writer) (g.W.Sink.seen l.writer);
   spent : Spends (g.W.Sink.seen l.fn.writer).calls (g.W.Sink.seen l.writer).calls l.fn.turns.left l.turns.left;
 }
 

@@ -16,7 +16,7 @@ use lsp_text::{Encoding, Range};
 use std::alloc::{AllocError, Global};
 
 /// Returns the byte offsets of a range's ends in a text, if they denote some, and in order.
-fn ends(text: &TextBuffer, encoding: Encoding, range: Range) -> Option<(usize, usize)>
+pub(crate) fn ends(text: &TextBuffer, encoding: Encoding, range: Range) -> Option<(usize, usize)>
     ensures ends { IfSome result (λ ends. Ok ends
         ≡ places_at 0 (chars text.now) (ends_of (units_in encoding) (chars text.now) range)) }
     ensures order { IfSome result (λ ends. ends.0 ≤ ends.1) }
@@ -59,7 +59,7 @@ pub(super) fn replaced_by(
 }
 
 /// Applies a change to a text. Returns false, and changes nothing, where nothing is left by it.
-pub(super) fn leave(
+pub(crate) fn leave(
     alloc: Global,
     text: &mut TextBuffer,
     encoding: Encoding,

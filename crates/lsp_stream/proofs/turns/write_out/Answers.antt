@@ -1,4 +1,4 @@
-use Rattle.std.proofs.Common.{ℕ, take, drop, sym, arith}
+use Rattle.std.proofs.Common.{◌≡◌, ℕ, false, take, drop, sym, arith}
 use Rattle.std.proofs.lemmas.Bool.{false_from_ne_true}
 use Rattle.std.proofs.lemmas.Result.{err_from_is_err_and}
 use Rattle.std.proofs.lemmas.List.{length-take, length-drop, take-append-drop}
@@ -25,18 +25,32 @@ returns-in-Ok-eq0-clause-front g c = nothing_more _ _ _ c.args.bytes.now _ c.wri
     c.writes.invariant.wrote c.in-Ok-eq0.ensures.bytes c.in-Ok-eq0.field-0-test
 
 pub writes-preserved-in-Ok : goal.writes-preserved-in-Ok
-writes-preserved-in-Ok g c = record {
-  within = omega (arith, c.in-Ok.ensures.bound, length-take {A = ℕ}, length-drop {A = ℕ});
-  wrote = more_written _ _ _ c.args.bytes.now c.writes.at c.in-Ok.n c.writes.invariant.within c.in-Ok.ensures.bound
-      c.writes.invariant.wrote c.in-Ok.ensures.bytes;
-  well = λ before. false_from_ne_true _ (λ failed. omega (arith, c.in-Ok.n-test, (c.in-Ok.ensures.failed.0 failed).0));
-  spent = record {
-    within = omega (arith, c.writes.invariant.spent.within, c.in_ok-spend.ensures.spent);
-    least = omega (arith, c.writes.invariant.spent.least, c.in-Ok.ensures.counted);
-    most = omega (arith, c.writes.invariant.spent.most, c.in_ok-spend.ensures.spent, c.in-Ok.ensures.counted);
-    exact = λ h. omega (arith, h, c.writes.invariant.spent.exact, c.in_ok-spend.ensures.spent, c.in-Ok.ensures.counted);
-  };
-}
+writes-preserved-in-Ok g c =
+    let well : (g.W.Sink.seen c.write.new.self).failed ≡ false = false_from_ne_true _
+    (λ failed. omega (arith, c.in-Ok.n-test, (c.in-Ok.ensures.failed.0 failed).0)) in
+    record {
+      within = omega (arith, c.in-Ok.ensures.bound, length-take {A = ℕ}, length-drop {A = ℕ});
+      wrote = more_written _ _ _ c.args.bytes.now c.writes.at c.in-Ok.n c.writes.invariant.within c.in-Ok.ensures.bound
+          c.writes.invariant.wrote c.in-Ok.ensures.bytes;
+      well = λ before. well;
+      few = omega (
+        arith,
+        c.writes.invariant.few,
+        c.in-Ok.ensures.few (omega (arith, c.in-Ok.n-test, c.in-Ok.ensures.bound)) well,
+      );
+      spent = record {
+        within = omega (arith, c.writes.invariant.spent.within, c.in_ok-spend.ensures.spent);
+        least = omega (arith, c.writes.invariant.spent.least, c.in-Ok.ensures.counted);
+        most = omega (arith, c.writes.invariant.spent.most, c.in_ok-spend.ensures.spent, c.in-Ok.ensures.counted);
+        exact = λ h. omega (
+          arith,
+          h,
+          c.writes.invariant.spent.exact,
+          c.in_ok-spend.ensures.spent,
+          c.in-Ok.ensures.counted,
+        );
+      };
+    }
 
 pub returns-then-not-is_interrupted-clause-front : goal.returns-then-not-is_interrupted-clause-front
 returns-then-not-is_interrupted-clause-front g c =

@@ -10,7 +10,7 @@ pub returns : goal.returns
 returns g c =
     let text = c.text_of-place.result.0.now in
     let place = c.digits-place.result.now in
-    let hint = option_map (λ (hint : Bor (List ℕ)). hint.now) c.hint.result in
+    let hint = option_map (λ (hint : Bor (List ℕ)). hint.now) c.args.hint in
     let lines = λ (z : List ℕ). blame_lines c.args.name.now z c.args.cause.now hint in
     let before = g.E.Sink.seen c.args.errors.now in
     let after = g.E.Sink.seen c.print_blame-printed.new.errors in

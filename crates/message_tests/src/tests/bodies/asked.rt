@@ -1,4 +1,5 @@
-//! What unusual bodies ask, printed by `Debug`, as it was worked out by hand.
+//! What unusual bodies ask, printed by `Debug`, as it was worked out by hand: JSON is read by two
+//! crates, of which no clause of ours says that they agree.
 
 use super::by_tree;
 use lsp_message::Incoming;
@@ -92,7 +93,7 @@ fn arrays_and_objects_nest_127_deep(rt: HostRuntime) -> Result<(), Fail> {
     Ok(())
 }
 
-static WANTED: [(&str, &str); 35] = [
+static WANTED: [(&str, &str); 18] = [
     // The last of a repeated member counts.
     (
         r#"{"jsonrpc":"1.0","jsonrpc":"2.0","method":"a","method":"b"}"#,
@@ -102,25 +103,32 @@ static WANTED: [(&str, &str); 35] = [
         r#"{"jsonrpc":"2.0","method":"exit","id":1,"method":"shutdown"}"#,
         "Shutdown { id: Whole(1) }",
     ),
-    // Params may come before the method, and names may have escapes.
+    (
+        r#"{"id":1,"jsonrpc":"2.0","method":"x","id":null}"#,
+        "NotAMessage { id: None }",
+    ),
+    // Params may come before the method, and names and texts may have escapes.
     (
         r#"{"params":{"textDocument":{"uri":"u","version":3},"contentChanges":[{"te\u0078t":"a"}]},"\u006dethod":"textDocument/didChange","jsonrpc":"2.0"}"#,
         r#"DidChange(Some(ChangeParams { uri: "u", version: 3, changes: [Change { range: None, text: "a" }] }))"#,
     ),
-    // A range of null is the whole text, and one without an end is a fault.
     (
-        r#"{"jsonrpc":"2.0","method":"textDocument/didChange","params":{"contentChanges":[{"range":null,"text":"a"},{"text":"b"}],"textDocument":{"uri":"u","version":3}}}"#,
-        r#"DidChange(Some(ChangeParams { uri: "u", version: 3, changes: [Change { range: None, text: "a" }, Change { range: None, text: "b" }] }))"#,
+        r#"{"jsonrpc":"2.0","method":"textDocument/didClose","params":{"textDocument":{"uri":"\ud83d\ude00"}}}"#,
+        r#"DidClose(Some(CloseParams { uri: "😀" }))"#,
     ),
     (
-        r#"{"jsonrpc":"2.0","method":"textDocument/didChange","params":{"contentChanges":[{"range":{"start":{"line":0,"character":1}},"text":"a"}],"textDocument":{"uri":"u","version":3}}}"#,
-        "DidChange(None)",
+        r#"{"id":"\u0061","jsonrpc":"2.0","method":"exit"}"#,
+        r#"OtherRequest { id: Text("a"), method: "exit" }"#,
     ),
+    (
+        r#"{"jsonrpc":"2.0","method":"\"\\\/\n\r\t\ud83d\uDE00"}"#,
+        r#"OtherNotification { method: "\"\\/\n\r\t😀" }"#,
+    ),
+    // The greatest and the least numbers, and those with a sign or a fraction.
     (
         r#"{"jsonrpc":"2.0","method":"textDocument/didChange","params":{"contentChanges":[{"range":{"end":{"line":2,"character":4294967295},"start":{"character":1,"line":0}},"text":"a"}],"textDocument":{"uri":"u","version":3}}}"#,
         r#"DidChange(Some(ChangeParams { uri: "u", version: 3, changes: [Change { range: Some(Range { start: Position { line: 0, character: 1 }, stop: Position { line: 2, character: 4294967295 } }), text: "a" }] }))"#,
     ),
-    // Numbers of a position: 32 bits, no sign, no fraction.
     (
         r#"{"jsonrpc":"2.0","method":"textDocument/didChange","params":{"contentChanges":[{"range":{"end":{"line":2,"character":4294967296},"start":{"character":1,"line":0}},"text":"a"}],"textDocument":{"uri":"u","version":3}}}"#,
         "DidChange(None)",
@@ -133,112 +141,33 @@ static WANTED: [(&str, &str); 35] = [
         r#"{"jsonrpc":"2.0","method":"textDocument/didChange","params":{"contentChanges":[{"range":{"end":{"line":1.0,"character":1},"start":{"character":1,"line":0}},"text":"a"}],"textDocument":{"uri":"u","version":3}}}"#,
         "DidChange(None)",
     ),
-    // One wrong entry is a fault, wherever it is; no entries are none.
-    (
-        r#"{"jsonrpc":"2.0","method":"textDocument/didChange","params":{"contentChanges":[{"text":1},{"text":"a"}],"textDocument":{"uri":"u","version":3}}}"#,
-        "DidChange(None)",
-    ),
-    (
-        r#"{"jsonrpc":"2.0","method":"textDocument/didChange","params":{"contentChanges":[],"textDocument":{"uri":"u","version":3}}}"#,
-        r#"DidChange(Some(ChangeParams { uri: "u", version: 3, changes: [] }))"#,
-    ),
-    (
-        r#"{"jsonrpc":"2.0","method":"textDocument/didChange","params":{"contentChanges":{},"textDocument":{"uri":"u","version":3}}}"#,
-        "DidChange(None)",
-    ),
-    (
-        r#"{"jsonrpc":"2.0","method":"textDocument/didChange","params":[]}"#,
-        "DidChange(None)",
-    ),
-    // Versions of 32 bits with a sign.
     (
         r#"{"jsonrpc":"2.0","method":"textDocument/didOpen","params":{"textDocument":{"uri":"u","languageId":"l","version":-2147483648,"text":"t"}}}"#,
         r#"DidOpen(Some(OpenParams { uri: "u", language: "l", version: -2147483648, text: "t" }))"#,
     ),
     (
-        r#"{"jsonrpc":"2.0","method":"textDocument/didOpen","params":{"textDocument":{"uri":"u","languageId":"l","version":2147483648,"text":"t"}}}"#,
-        "DidOpen(None)",
-    ),
-    (
-        r#"{"jsonrpc":"2.0","method":"textDocument/didOpen","params":{"textDocument":{"uri":"u","languageId":"l","version":1,"text":null}}}"#,
-        "DidOpen(None)",
-    ),
-    (
-        r#"{"jsonrpc":"2.0","method":"textDocument/didClose","params":{"textDocument":{"uri":"\ud83d\ude00"}}}"#,
-        r#"DidClose(Some(CloseParams { uri: "😀" }))"#,
-    ),
-    (
-        r#"{"jsonrpc":"2.0","method":"textDocument/didClose","params":{"textDocument":["u"]}}"#,
-        "DidClose(None)",
-    ),
-    // Ids of 64 bits with a sign, or texts.
-    (
         r#"{"id":9223372036854775807,"jsonrpc":"2.0","method":"x","params":{"textDocument":{"uri":"u"}}}"#,
         r#"OtherRequest { id: Whole(9223372036854775807), method: "x" }"#,
-    ),
-    (
-        r#"{"id":9223372036854775808,"jsonrpc":"2.0","method":"x"}"#,
-        "NotAMessage { id: None }",
-    ),
-    (
-        r#"{"id":"\u0061","jsonrpc":"2.0","method":"exit"}"#,
-        r#"OtherRequest { id: Text("a"), method: "exit" }"#,
-    ),
-    (
-        r#"{"id":-0,"jsonrpc":"2.0","method":"x"}"#,
-        "NotAMessage { id: None }",
-    ),
-    // A faulty message keeps its id.
-    (
-        r#"{"id":7,"jsonrpc":"2.0","method":8}"#,
-        "NotAMessage { id: Some(Whole(7)) }",
-    ),
-    (
-        r#"{"id":"q","jsonrpc":2.0,"method":"x"}"#,
-        r#"NotAMessage { id: Some(Text("q")) }"#,
-    ),
-    // Responses: an error that isn't null, or a result, which may be null.
-    (
-        r#"{"id":null,"jsonrpc":"2.0","error":{}}"#,
-        "Response { id: None }",
-    ),
-    (
-        r#"{"id":1,"jsonrpc":"2.0","error":null,"result":null}"#,
-        "Response { id: Some(Whole(1)) }",
-    ),
-    (
-        r#"{"id":1,"jsonrpc":"2.0","error":null}"#,
-        "NotAMessage { id: Some(Whole(1)) }",
-    ),
-    (
-        r#"{"jsonrpc":"2.0","result":1}"#,
-        "NotAMessage { id: None }",
-    ),
-    (
-        r#"{"id":1,"jsonrpc":"2.0","method":"x","id":null}"#,
-        "NotAMessage { id: None }",
     ),
     (
         r#"{"id":-9223372036854775808,"jsonrpc":"2.0","method":""}"#,
         r#"OtherRequest { id: Whole(-9223372036854775808), method: "" }"#,
     ),
     (
-        r#"[{"id":1,"jsonrpc":"2.0","method":"x"}]"#,
+        r#"{"id":-0,"jsonrpc":"2.0","method":"x"}"#,
         "NotAMessage { id: None }",
-    ),
-    (
-        r#"{"id":"","jsonrpc":"2.0","params":[]}"#,
-        r#"NotAMessage { id: Some(Text("")) }"#,
-    ),
-    (
-        r#"{"jsonrpc":"2.0","method":"\"\\\/\n\r\t\ud83d\uDE00"}"#,
-        r#"OtherNotification { method: "\"\\/\n\r\t😀" }"#,
     ),
     // `initialize` is read by a tree.
     (
         r#"{"id":1,"jsonrpc":"2.0","method":"initialize","params":{"capabilities":3}}"#,
         "Initialize { id: Whole(1), offers: None }",
     ),
+    // A faulty message keeps its id.
+    (
+        r#"{"id":"q","jsonrpc":2.0,"method":"x"}"#,
+        r#"NotAMessage { id: Some(Text("q")) }"#,
+    ),
+    // Spaces.
     (
         "\t{\n\"jsonrpc\" : \"2.0\" ,\r \"method\" : \"exit\" } \n",
         "Exit",

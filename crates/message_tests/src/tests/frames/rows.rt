@@ -24,84 +24,26 @@ pub static FRAMES: [&[u8]; 17] = [
 /// A stream that begins with no frame, the code of its fault, and the offset.
 type Faulty = (&'static [u8], &'static str, u64);
 
-pub static FAULTS: [Faulty; 46] = [
-    (b"Content-Length 2", "F1", 14),
+pub static FAULTS: [Faulty; 20] = [
     (b"Content-Length : 2", "F1", 14),
-    (b"Content-Length\r: 2", "F1", 14),
     (b"Content-Length: 2\n", "F1", 17),
     (b"Content-Length: 2\r[]", "F1", 18),
-    (b"Content-Length: 2\r\r\n", "F1", 18),
-    (b"Content-Length: 2\r\n\n", "F1", 19),
     (b"Content-Length: 2\r\n\r\r\n", "F1", 20),
-    (b"Content-Length: 2\r\n\r[]", "F1", 20),
-    (b"Content-Length: 2\r\n x", "F1", 19),
     (b"Content-Length: 2\r\n\tx", "F1", 19),
-    (b"\n", "F1", 0),
-    (b"\r\r\n", "F1", 1),
     (b":", "F1", 0),
-    (b" a:", "F1", 0),
     (b"a\x20:", "F1", 1),
     (b"a\x7f:", "F1", 1),
     (b"a\x80:", "F1", 1),
-    (b"a\rb:", "F1", 1),
-    (b"a:\x00", "F1", 2),
     (b"a:\x1f", "F1", 2),
-    (b"a:\x7f", "F1", 2),
     (b"a:\xff", "F1", 2),
     (b"\r\n", "F3", 1),
-    (b"a: 2\r\n\r\n", "F3", 7),
     (b"Content-Type: x;charset=latin1\r\n\r\n", "F3", 33),
-    (
-        b"Content-Length: 2\r\nContent-Length: 2\r\n\r\n[]",
-        "F4",
-        39,
-    ),
-    (
-        b"Content-Length: 2\r\ncontent-length: 3\r\n\r\n[]",
-        "F4",
-        39,
-    ),
     (b"Content-Length: x\r\nContent-Length: 2\r\n\r\n", "F4", 39),
-    (
-        b"Content-Length: 9999\r\nContent-Length: 2\r\n\r\n",
-        "F4",
-        42,
-    ),
     (b"content-TYPE:\r\nContent-Type:\r\n\r\n", "F4", 31),
-    (b"Content-Length:\r\n\r\n", "F5", 18),
     (b"Content-Length: \r\n\r\n", "F5", 19),
-    (b"Content-Length: 2x\r\n\r\n", "F5", 21),
     (b"Content-Length: +2\r\n\r\n", "F5", 21),
-    (b"Content-Length: -2\r\n\r\n", "F5", 21),
-    (b"Content-Length: 2 2\r\n\r\n", "F5", 22),
-    (
-        b"Content-Length: 2.0\r\nContent-Type: x;charset=y\r\n\r\n",
-        "F5",
-        49,
-    ),
-    (b"Content-Length: 4097\r\n\r\n", "F6", 23),
     (b"Content-Length: 04097\r\n\r\n", "F6", 24),
     (b"Content-Length: 18446744073709551616\r\n\r\n", "F6", 39),
-    (
-        b"Content-Length: 4097\r\nContent-Type: x;charset=y\r\n\r\n",
-        "F6",
-        50,
-    ),
-    (
-        b"Content-Length: 2\r\nContent-Type: a; charset=latin1\r\n\r\n",
-        "F7",
-        53,
-    ),
-    (
-        b"Content-Type: x;charset=\r\nContent-Length: 2\r\n\r\n",
-        "F7",
-        46,
-    ),
-    (
-        b"Content-Type: x;charset=\" utf-8\"\r\nContent-Length: 2\r\n\r\n",
-        "F7",
-        54,
-    ),
     (
         b"Content-Type: x;charset=utf-8;charset=\"\r\nContent-Length: 2\r\n\r\n",
         "F7",
@@ -120,17 +62,8 @@ pub type Long = (
     u64,
 );
 
-pub static LONG_FAULTS: [Long; 5] = [
-    (
-        "Content-Length: 2\r\na:",
-        "x",
-        8_168,
-        "\r\n\r\n[]",
-        "F2",
-        8_191,
-    ),
+pub static LONG_FAULTS: [Long; 3] = [
     ("Content-Length: ", "0", 8_173, "\r\n\r\n", "F2", 8_191),
-    ("Content-Length: 2\r\n", "a", 8_173, "", "F2", 8_191),
     ("Content-Length: 2\r\n", "a", 8_172, " ", "F1", 8_191),
     ("Content-Length: ", "9", 8_000, "\r\n\r\n", "F6", 8_019),
 ];

@@ -63,6 +63,7 @@ bytes-preserved g c = record {
       (c.bytes.invariant.progress log_rules run_output received input w)));
   well = λ before. c.in_ok-outcome.ensures.calls.well (c.bytes.invariant.well before);
   flushed = λ holds before. c.in_ok-outcome.ensures.all_flushed.flushed holds (c.bytes.invariant.flushed holds before);
+  few = omega (arith, c.bytes.invariant.few, c.in_ok-outcome.ensures.few.ok);
   spent = record {
     within = omega (arith, c.bytes.invariant.spent.within, c.in_ok-outcome.ensures.calls.spent.within);
     least = omega (arith, c.bytes.invariant.spent.least, c.in_ok-outcome.ensures.calls.spent.least);

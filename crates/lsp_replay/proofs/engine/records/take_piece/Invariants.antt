@@ -1,4 +1,5 @@
 use Rattle.std.specs.Prelude.{ℕ, ◌≡◌, ◌≤◌, ◌-◌, true, List, Option, length, drop}
+use Rattle.lsp_stream.specs.Ports.{FewWrites}
 use Rattle.lsp_stream.specs.Turns.{Spends, StaysWell, StaysFlushed}
 use Rattle.lsp_log.specs.Log.{LogRules, Record}
 use Rattle.lsp_log.specs.Splitting.{IsReady}
@@ -20,6 +21,7 @@ invariant-bytes g l = record {
   well : StaysWell (g.W.Sink.seen l.fn.writer).failed (g.W.Sink.seen l.writer).failed;
   flushed : g.H.Handler.FLUSHES ≡ true → StaysFlushed (g.W.Sink.seen l.fn.writer).flushed
       (g.W.Sink.seen l.writer).flushed;
+  few : FewWrites (g.W.Sink.seen l.fn.writer) (g.W.Sink.seen l.writer);
   spent : Spends (g.W.Sink.seen l.fn.writer).calls (g.W.Sink.seen l.writer).calls l.fn.turns.left l.turns.left;
 }
 
