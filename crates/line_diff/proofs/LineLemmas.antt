@@ -1,10 +1,9 @@
 -- A text, cut into lines by a loop over its bytes.
-use Rattle.std.proofs.Common.{◌≡◌, ℕ, suc, ◌+◌, ◌<◌, ◌≤◌, true, false, List, [], ◌∷◌, length, get_or, drop, refl, ◌∙◌, add-one, arith}
+use Rattle.std.proofs.Common.{◌≡◌, ℕ, suc, ◌+◌, ◌<◌, ◌≤◌, true, false, List, ◌∷◌, length, get_or, drop, refl, ◌∙◌, add-one, arith}
 use Rattle.std.specs.List.{between}
 use Rattle.std.proofs.lemmas.Bool.Decides.{nat_tests}
-use Rattle.std.proofs.lemmas.List.{at_drop_more, drop_all, drop_more}
+use Rattle.std.proofs.lemmas.List.{at_drop_more}
 use Rattle.std.proofs.lemmas.List.Edits.{between_more, between_none}
-use Rattle.std.proofs.lemmas.Slice.{between_to_end}
 use Rattle.line_diff.specs.Lines.{ends_line, lines_begun}
 
 -- a byte that ends a line is one of ASCII
@@ -25,13 +24,3 @@ pub cut_ended : (text : List ℕ) (start i : ℕ) → start ≤ i → i < length
 cut_ended text start i order within hit =
     at_drop_more (lines_begun (between start i text)) text i 0 within
     ∙ rw (between_more text start i 0 order within, between_none text (i + 1), add-one, hit) refl
-
-pub last_line : (text : List ℕ) (start n : ℕ) → start < length text → n ≡ length text
-    → lines_begun (between start n text) (drop n text) ≡ drop start text ∷ []
-last_line text start n within end =
-    let rest = drop_more text start 0 within in
-    rw (drop_all n text (omega arith), between_to_end text start n (omega arith)) (rw rest refl)
-
-pub no_last_line : (text : List ℕ) (start n : ℕ) → start ≡ n → n ≡ length text
-    → lines_begun (between start n text) (drop n text) ≡ []
-no_last_line text start n at end = rw (drop_all n text (omega arith), at, between_none text n) refl

@@ -1,5 +1,5 @@
 -- The words for several lines, as a loop writes them.
-use Rattle.std.proofs.Common.{◌≡◌, ℕ, suc, ◌+◌, ◌-◌, ◌<◌, ◌≤◌, List, [], ◌++◌, refl, add-one, arith}
+use Rattle.std.proofs.Common.{◌≡◌, ℕ, suc, ◌+◌, ◌-◌, ◌<◌, List, ◌++◌, refl, add-one, arith}
 use Rattle.line_diff.specs.Report.{words_from}
 
 pub words_more : (words : ℕ → List ℕ) (n i : ℕ) → i < n
@@ -7,8 +7,3 @@ pub words_more : (words : ℕ → List ℕ) (n i : ℕ) → i < n
 words_more words n i within =
     let more : n - i ≡ suc (n - (i + 1)) = omega arith in
     rw (more, add-one) refl
-
-pub no_words : (words : ℕ → List ℕ) (n i : ℕ) → n ≤ i → words_from words (n - i) i ≡ []
-no_words words n i end =
-    let none : n - i ≡ 0 = omega arith in
-    rw none refl

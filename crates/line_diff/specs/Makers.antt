@@ -1,36 +1,51 @@
 -- By which of several numbered changes a line differs from another one.
-use Rattle.std.specs.Prelude.{ℕ, zero, suc, ◌+◌, ◌-◌, ◌==◌, max, min, if◌then◌else◌, length, drop, take, slice_get, List, [], ◌∷◌}
+use Rattle.std.specs.Prelude.{ℕ, ◌+◌, ◌-◌, ◌==◌, ◌||◌, nat_lt, max, min, if◌then◌else◌, length, drop, take, slice_get, List, [], ◌∷◌, ◌++◌}
+use Rattle.std.specs.List.{list_any}
 use Rattle.std.specs.Option.{unwrap_or}
-use Rattle.line_diff.specs.declared.makers.Makers.{Makers}
 use Rattle.line_diff.specs.Common.{common_back, common_front}
 
 -- A number, or 0.
 abbrev pub number_at : List ℕ → ℕ → ℕ
 number_at numbers index = unwrap_or (slice_get numbers index) 0
 
--- The greatest of `count` numbers from an index on, or 0.
-abbrev pub greatest : List ℕ → ℕ → ℕ → ℕ
-greatest numbers zero from = 0
-greatest numbers (suc count) from =
-    max (number_at numbers from) (greatest numbers count (suc from))
+-- The greatest of a number and others.
+abbrev pub greatest : ℕ → List ℕ → ℕ
+greatest most [] = most
+greatest most (number ∷ numbers) = greatest (max number most) numbers
 
--- The changes by which the bytes of a line from `front` to `end` differ from what another line has
--- in their place: which made the first byte, if there is one, and the last one at a place from `low`
--- on.
-abbrev pub makers_between : List ℕ → List ℕ → ℕ → ℕ → ℕ → Makers
-makers_between owners places low front end = if front == end
-    then record {
-      first = greatest places (end + 1 - low) low;
-      last = greatest places (end + 1 - low) low;
-    }
-    else record { first = number_at owners front; last = greatest places (end + 1 - low) low }
+-- Those from an index to another.
+abbrev pub between : ℕ → ℕ → List ℕ → List ℕ
+between start end numbers = take (end - start) (drop start numbers)
 
--- The same of a line and another one, without what is equal at the front and at the back. What
--- differs may begin earlier: of letters that are alike, any may be the one too many.
-abbrev pub makers_of : List ℕ → List ℕ → List ℕ → List ℕ → Makers
+-- Numbers and one more, unless it is among them or 9 are there.
+abbrev pub with_number : List ℕ → ℕ → List ℕ
+with_number found number = if nat_lt 8 (length found) || list_any (λ one. one == number) found
+    then found else found ++ number ∷ []
+
+abbrev pub with_numbers : List ℕ → List ℕ → List ℕ
+with_numbers found [] = found
+with_numbers found (number ∷ numbers) = with_numbers (with_number found number) numbers
+
+-- The changes that made some bytes and places: the first 9, and the last.
+pub record MakerNumbers : Type 0 where
+  pub named : List ℕ
+  pub last : ℕ
+
+abbrev pub makers_in : List ℕ → List ℕ → MakerNumbers
+makers_in owners places = record {
+  named = with_numbers (with_numbers [] owners) places;
+  last = greatest 0 places;
+}
+
+-- The changes by which a line differs from another one, without what is equal at the front and at
+-- the back. What differs may begin earlier: of letters that are alike, any may be the one too many.
+abbrev pub makers_of : List ℕ → List ℕ → List ℕ → List ℕ → MakerNumbers
 makers_of owners places line other =
-    makers_between owners places (min (common_front line other) (length line - common_back 0 line other))
-    (common_front line other) (length line - common_back (common_front line other) line other)
+    makers_in
+    (between (common_front line other)
+    (length line - common_back (common_front line other) line other) owners)
+    (between (min (common_front line other) (length line - common_back 0 line other))
+    (length line - common_back (common_front line other) line other + 1) places)
 
 -- ---- in a text with several lines
 

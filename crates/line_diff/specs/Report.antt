@@ -1,5 +1,5 @@
 -- How a document's text and a file differ, in words.
-use Rattle.std.specs.Prelude.{ℕ, zero, suc, ◌+◌, ◌-◌, Bool, true, false, nat_lt, ◌==◌, if◌then◌else◌, slice_get, List, [], ◌++◌, codes, decimal, flat_map}
+use Rattle.std.specs.Prelude.{ℕ, zero, suc, ◌+◌, ◌-◌, Bool, true, false, nat_lt, ◌==◌, if◌then◌else◌, length, take, slice_get, List, [], ◌∷◌, ◌++◌, codes, decimal, flat_map}
 use Rattle.std.specs.Option.{unwrap_or}
 use Rattle.std.specs.Str.{bytes_eq}
 use Rattle.line_diff.specs.declared.hunks.Hunk.{Hunk}
@@ -7,8 +7,7 @@ use Rattle.line_diff.specs.Alike.{are_alike, has_last_end, has_mark, have_same_e
 use Rattle.line_diff.specs.Common.{common_front}
 use Rattle.line_diff.specs.Hunks.{hunks_of}
 use Rattle.line_diff.specs.Lines.{lines_of}
-use Rattle.line_diff.specs.Makers.{NumberRows, makers_of, number_at, number_rows, row_at}
-use Rattle.line_diff.specs.declared.makers.Makers.{Makers}
+use Rattle.line_diff.specs.Makers.{MakerNumbers, NumberRows, makers_of, number_at, number_rows, row_at}
 use Rattle.line_diff.specs.Shown.{shown}
 use Rattle.line_diff.specs.Tracked.{Tracked}
 
@@ -23,15 +22,29 @@ abbrev pub words_from : (ℕ → List ℕ) → ℕ → ℕ → List ℕ
 words_from words zero from = []
 words_from words (suc count) from = words from ++ words_from words count (suc from)
 
--- By which changes a line differs.
-unfoldable pub maker_words : Makers → List ℕ
-maker_words makers = if makers.first == makers.last
-    then codes " (made by message " ++ decimal makers.last ++ codes ")"
-    else codes " (made by messages " ++ decimal makers.first ++ codes " and "
-    ++ decimal makers.last ++ codes ")"
+-- A later one of several numbers.
+abbrev pub later_number : ℕ → List ℕ
+later_number number = codes ", " ++ decimal number
+
+-- Several numbers.
+abbrev pub number_words : List ℕ → List ℕ
+number_words [] = []
+number_words (number ∷ numbers) = decimal number ++ flat_map later_number numbers
+
+-- The last one, where not all are named.
+unfoldable pub last_maker_words : Bool → ℕ → List ℕ
+last_maker_words are_more last = if are_more then codes " and others up to " ++ decimal last else []
+
+-- By which changes a line differs. 8 are named.
+unfoldable pub maker_words : MakerNumbers → List ℕ
+maker_words makers =
+    (if length makers.named == 1 then codes " (made by message " else codes " (made by messages ")
+    ++ number_words (take 8 makers.named)
+    ++ last_maker_words (nat_lt 8 (length makers.named)) makers.last
+    ++ codes ")"
 
 -- A line that the document alone has, with its number from 1.
-abbrev pub own_line : ℕ → Makers → List ℕ → List ℕ
+abbrev pub own_line : ℕ → MakerNumbers → List ℕ → List ℕ
 own_line number makers line =
     codes "line " ++ decimal number ++ maker_words makers ++ codes ": " ++ shown line ++ codes "\n"
 
@@ -41,7 +54,7 @@ other_for others hunk index = if nat_lt (index - hunk.start) (hunk.other_end - h
     then text_at others (hunk.other_start + (index - hunk.start)) else []
 
 -- The changes by which it differs from that.
-abbrev pub line_makers : NumberRows → List (List ℕ) → List (List ℕ) → Hunk → ℕ → Makers
+abbrev pub line_makers : NumberRows → List (List ℕ) → List (List ℕ) → Hunk → ℕ → MakerNumbers
 line_makers rows lines others hunk index =
     makers_of (row_at rows.owners index) (row_at rows.places index) (text_at lines index)
     (other_for others hunk index)
@@ -77,7 +90,7 @@ hunk_words rows lines others hunk =
 
 -- What follows.
 abbrev pub last_words : List ℕ
-last_words = codes "For each line, a message named is wrong, a later one is missing or wrong, or an earlier mistake led it to the wrong line. Look at the lowest numbers first.\n"
+last_words = codes "For each line, a message named is wrong, a later one is missing or wrong, or an earlier mistake led it to the wrong line. Look at the lowest numbers after the opening first.\n"
 
 -- How they differ, line by line. The next common line is sought in 2,000 lines of both.
 unfoldable pub difference_words : List ℕ → List ℕ → List (List ℕ) → List (List ℕ) → List ℕ

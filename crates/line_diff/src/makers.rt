@@ -1,11 +1,15 @@
 //! By which changes a line differs from another one.
 
-ghost use Rattle.std.specs.Prelude.{◌≡◌, ◌≤◌, ◌+◌, ◌-◌, IfOk, drop, map, take};
-ghost use Rattle.line_diff.specs.Makers.{greatest, makers_of, number_at, number_rows, row_at, rows_of};
+ghost use Rattle.std.specs.Prelude.{◌≡◌, ◌≤◌, IfOk, OnOk, drop, map, take};
+ghost use Rattle.line_diff.specs.Makers.{between, greatest, makers_of, number_at, number_rows, row_at};
+ghost use Rattle.line_diff.specs.Makers.{rows_of, with_number, with_numbers};
 
 use crate::owners::{common_back, common_front};
 use std::alloc::{AllocError, Global};
 use std::marker::Model;
+
+/// So many changes of a line are named.
+pub(crate) const NAMED: usize = 8;
 
 /// The changes that made the bytes of a text, and the last ones at its places.
 #[derive(Clone, Copy)]
@@ -33,12 +37,19 @@ impl<'a> Model for Rows<'a> {
     } };
 }
 
-/// The changes by which a line differs: which made the first byte that does, and the last one in
-/// what does.
-#[derive(Clone, Copy, Debug, PartialEq, Eq)]
+/// The changes by which a line differs: the first 9, and the last.
+#[derive(Drop)]
 pub struct Makers {
-    pub first: u64,
+    pub named: Vec<u64>,
     pub last: u64,
+}
+
+impl Model for Makers {
+    ghost use Rattle.line_diff.specs.Makers.{MakerNumbers};
+
+    ghost Value = { MakerNumbers };
+
+    ghost view = { λ m. record { named = m.named.items; last = m.last } };
 }
 
 /// Returns the first numbers, so many or all.
@@ -119,33 +130,68 @@ pub fn number_at(numbers: &[u64], index: usize) -> u64
     }
 }
 
-/// Returns the greatest of the numbers from one index to another, or 0.
-fn greatest(numbers: &[u64], start: usize, end: usize) -> u64
-    ensures { result ≡ greatest numbers.now (end - start) start }
+/// Returns the greatest of a number and others.
+fn greatest(most: u64, numbers: &[u64]) -> u64
+    ensures { result ≡ greatest most numbers.now }
 {
-    let mut most = 0;
-    for index in start..end {
-        most = number_at(numbers, index).max(most);
+    let mut most = most;
+    for number in numbers {
+        most = most.max(*number);
     }
     most
 }
 
+/// Returns the numbers from one index to another.
+fn between(numbers: &[u64], start: usize, end: usize) -> &[u64]
+    requires { start ≤ end }
+    ensures { result.now ≡ between start end numbers.now }
+{
+    first_of(after(numbers, start), end - start)
+}
+
+/// Appends a number, unless it is there or 9 are.
+fn note(found: &mut Vec<u64>, number: u64) -> Result<(), AllocError>
+    ensures { OnOk result (found.new.items ≡ with_number found.old.items number) }
+{
+    if found.len() > NAMED || found.contains(&number) {
+        return Ok(());
+    }
+    found.push(number)?;
+    Ok(())
+}
+
+/// Appends each number that isn't there yet, as long as 9 aren't.
+fn note_all(found: &mut Vec<u64>, numbers: &[u64]) -> Result<(), AllocError>
+    ensures { OnOk result (found.new.items ≡ with_numbers found.old.items numbers.now) }
+{
+    for number in numbers {
+        note(found, *number)?;
+    }
+    Ok(())
+}
+
 /// Returns the changes by which a line, whose bytes and places have these numbers, differs from
-/// another one: which made the first byte that differs, and the last one in what differs.
-pub fn makers_of(owners: &[u64], places: &[u64], line: &[u8], other: &[u8]) -> Makers
-    ensures { result ≡ makers_of owners.now places.now line.now other.now }
+/// another one. Fails only where memory runs out.
+pub fn makers_of(
+    alloc: Global,
+    owners: &[u64],
+    places: &[u64],
+    line: &[u8],
+    other: &[u8],
+) -> Result<Makers, AllocError>
+    ensures { IfOk result
+        (λ makers. makers ≡ makers_of owners.now places.now line.now other.now) }
 {
     let front = common_front(line, other);
     let end = line.len() - common_back(front, line, other);
     // What differs may begin earlier: of letters that are alike, any may be the one too many.
     let low = front.min(line.len() - common_back(0, line, other));
-    let last = greatest(places, low, end + 1);
-    if front == end {
-        Makers { first: last, last }
-    } else {
-        Makers {
-            first: number_at(owners, front),
-            last,
-        }
-    }
+    let places = between(places, low, end + 1);
+    let mut named = Vec::new(alloc);
+    note_all(&mut named, between(owners, front, end))?;
+    note_all(&mut named, places)?;
+    Ok(Makers {
+        named,
+        last: greatest(0, places),
+    })
 }

@@ -1,16 +1,16 @@
 //! How a document's text and a file differ, in words.
 
-ghost use Rattle.std.specs.Prelude.{◌≡◌, ◌++◌, ◌-◌, OnOk, decimal, flat_map, map};
+ghost use Rattle.std.specs.Prelude.{◌≡◌, ◌++◌, ◌-◌, IfOk, OnOk, decimal, flat_map, map};
 ghost use Rattle.line_diff.specs.Lines.{lines_of};
 ghost use Rattle.line_diff.specs.Report.{alike_words, alone_words, difference_words, ends_words, file_line, file_line_at, first_end_words};
-ghost use Rattle.line_diff.specs.Report.{hunk_head, hunk_words, judgement, line_makers, maker_words, missing_words, other_for, own_line};
-ghost use Rattle.line_diff.specs.Report.{own_line_at};
+ghost use Rattle.line_diff.specs.Report.{hunk_head, hunk_words, judgement, last_maker_words, line_makers, maker_words, missing_words};
+ghost use Rattle.line_diff.specs.Report.{later_number, number_words, other_for, own_line, own_line_at};
 ghost use Rattle.line_diff.specs.Report.{report_of, text_at, words_from};
 
 use crate::alike::{are_alike, has_last_end, has_mark, have_same_ends, have_same_marks};
 use crate::hunks::{Hunk, hunks_of};
 use crate::lines::{line_at, lines_of};
-use crate::makers::{Makers, Numbers, Rows, makers_of, number_at, row_at};
+use crate::makers::{Makers, NAMED, Numbers, Rows, first_of, makers_of, number_at, row_at};
 use crate::owners::common_front;
 use crate::shown::push_shown;
 use itoa::Buffer;
@@ -22,7 +22,7 @@ const FARTHEST: usize = 2_000;
 /// What follows from a report.
 const LAST_WORDS: &str =
     "For each line, a message named is wrong, a later one is missing or wrong, or an \
-earlier mistake led it to the wrong line. Look at the lowest numbers first.\n";
+earlier mistake led it to the wrong line. Look at the lowest numbers after the opening first.\n";
 
 /// Writes words as they are.
 pub(crate) fn push_words(buffer: &mut Vec<u8>, words: &str) -> Result<(), AllocError>
@@ -49,20 +49,59 @@ fn text_at<'a>(lines: &[&'a str], index: usize) -> &'a str
     }
 }
 
+/// Writes the later ones of several numbers.
+fn push_later(buffer: &mut Vec<u8>, numbers: &[u64]) -> Result<(), AllocError>
+    ensures { OnOk result
+        (buffer.new.items ≡ buffer.old.items ++ flat_map later_number numbers.now) }
+{
+    for number in numbers {
+        push_words(buffer, ", ")?;
+        push_number(buffer, *number)?;
+    }
+    Ok(())
+}
+
+/// Writes several numbers.
+fn push_numbers(buffer: &mut Vec<u8>, numbers: &[u64]) -> Result<(), AllocError>
+    ensures { OnOk result (buffer.new.items ≡ buffer.old.items ++ number_words numbers.now) }
+{
+    match numbers.split_first() {
+        Some((first, later)) => {
+            push_number(buffer, *first)?;
+            push_later(buffer, later)
+        }
+        None => Ok(()),
+    }
+}
+
+/// Writes which change is the last, where not all are named.
+#[tactic(auto, unfolding(crate::specs::Report::last_maker_words))]
+fn push_last(buffer: &mut Vec<u8>, are_more: bool, last: u64) -> Result<(), AllocError>
+    ensures { OnOk result (buffer.new.items ≡ buffer.old.items ++ last_maker_words are_more last) }
+{
+    if !are_more {
+        return Ok(());
+    }
+    push_words(buffer, " and others up to ")?;
+    push_number(buffer, last)?;
+    Ok(())
+}
+
 /// Writes by which changes a line differs.
 #[tactic(auto, unfolding(crate::specs::Report::maker_words))]
-fn push_makers(buffer: &mut Vec<u8>, makers: Makers) -> Result<(), AllocError>
-    ensures { OnOk result (buffer.new.items ≡ buffer.old.items ++ maker_words makers) }
+fn push_makers(buffer: &mut Vec<u8>, makers: &Makers) -> Result<(), AllocError>
+    ensures { OnOk result (buffer.new.items ≡ buffer.old.items ++ maker_words makers.now) }
 {
-    if makers.first == makers.last {
-        push_words(buffer, " (made by message ")?;
-        push_number(buffer, makers.last)?;
-    } else {
-        push_words(buffer, " (made by messages ")?;
-        push_number(buffer, makers.first)?;
-        push_words(buffer, " and ")?;
-        push_number(buffer, makers.last)?;
-    }
+    push_words(
+        buffer,
+        if makers.named.len() == 1 {
+            " (made by message "
+        } else {
+            " (made by messages "
+        },
+    )?;
+    push_numbers(buffer, first_of(&makers.named, NAMED))?;
+    push_last(buffer, makers.named.len() > NAMED, makers.last)?;
     push_words(buffer, ")")
 }
 
@@ -70,11 +109,11 @@ fn push_makers(buffer: &mut Vec<u8>, makers: Makers) -> Result<(), AllocError>
 fn push_own_line(
     buffer: &mut Vec<u8>,
     number: usize,
-    makers: Makers,
+    makers: &Makers,
     line: &str,
 ) -> Result<(), AllocError>
     ensures { OnOk result
-        (buffer.new.items ≡ buffer.old.items ++ own_line number makers line.now) }
+        (buffer.new.items ≡ buffer.old.items ++ own_line number makers.now line.now) }
 {
     push_words(buffer, "line ")?;
     push_number(buffer, number as u64)?;
@@ -96,18 +135,22 @@ fn other_for<'a>(others: &[&'a str], hunk: &Hunk, index: usize) -> &'a str
     }
 }
 
-/// Returns the changes by which a line of a hunk differs from the file's in its place.
+/// Returns the changes by which a line of a hunk differs from the file's in its place. Fails only
+/// where memory runs out.
 fn line_makers(
+    alloc: Global,
     rows: &Rows<'_>,
     lines: &[&str],
     others: &[&str],
     hunk: &Hunk,
     index: usize,
-) -> Makers
-    ensures { result ≡ line_makers rows.now (map (λ line. line.now) lines.entry.now)
-        (map (λ line. line.now) others.entry.now) hunk.now index }
+) -> Result<Makers, AllocError>
+    ensures { IfOk result
+        (λ makers. makers ≡ line_makers rows.now (map (λ line. line.now) lines.entry.now)
+        (map (λ line. line.now) others.entry.now) hunk.now index) }
 {
     makers_of(
+        alloc,
         row_at(&rows.owners, index),
         row_at(&rows.places, index),
         text_at(lines, index).as_bytes(),
@@ -117,6 +160,7 @@ fn line_makers(
 
 /// Writes the lines of a hunk that the document has alone.
 fn push_own_lines(
+    alloc: Global,
     buffer: &mut Vec<u8>,
     rows: &Rows<'_>,
     lines: &[&str],
@@ -129,8 +173,8 @@ fn push_own_lines(
         hunk.now.start) }
 {
     for index in hunk.start..hunk.end {
-        let makers = line_makers(rows, lines, others, hunk, index);
-        push_own_line(buffer, index + 1, makers, text_at(lines, index))?;
+        let makers = line_makers(alloc, rows, lines, others, hunk, index)?;
+        push_own_line(buffer, index + 1, &makers, text_at(lines, index))?;
     }
     Ok(())
 }
@@ -175,6 +219,7 @@ fn push_missing(buffer: &mut Vec<u8>, count: usize, last: u64) -> Result<(), All
 
 /// Writes the lines of a hunk that the document has alone, or where lines are missing.
 fn push_head(
+    alloc: Global,
     buffer: &mut Vec<u8>,
     rows: &Rows<'_>,
     lines: &[&str],
@@ -189,13 +234,14 @@ fn push_head(
         let last = number_at(row_at(&rows.places, hunk.start), 0);
         push_missing(buffer, hunk.start, last)
     } else {
-        push_own_lines(buffer, rows, lines, others, hunk)
+        push_own_lines(alloc, buffer, rows, lines, others, hunk)
     }
 }
 
 /// Writes a place at which the texts differ.
 #[tactic(auto, unfolding(crate::specs::Report::hunk_words))]
 fn push_hunk(
+    alloc: Global,
     buffer: &mut Vec<u8>,
     rows: &Rows<'_>,
     lines: &[&str],
@@ -206,12 +252,13 @@ fn push_hunk(
         ++ hunk_words rows.now (map (λ line. line.now) lines.entry.now)
         (map (λ line. line.now) others.entry.now) hunk.now) }
 {
-    push_head(buffer, rows, lines, others, hunk)?;
+    push_head(alloc, buffer, rows, lines, others, hunk)?;
     push_file_lines(buffer, others, hunk.other_start, hunk.other_end)
 }
 
 /// Writes each place at which two texts differ.
 fn push_hunks(
+    alloc: Global,
     buffer: &mut Vec<u8>,
     rows: &Rows<'_>,
     lines: &[&str],
@@ -223,7 +270,7 @@ fn push_hunks(
         (map (λ line. line.now) others.entry.now)) found.now) }
 {
     for hunk in found {
-        push_hunk(buffer, rows, lines, others, hunk)?;
+        push_hunk(alloc, buffer, rows, lines, others, hunk)?;
     }
     Ok(())
 }
@@ -245,7 +292,7 @@ fn push_differences(
     let rows = numbers.rows(alloc, &lines)?;
     let found = hunks_of(alloc, FARTHEST, &lines, &others)?;
     push_words(buffer, "not the file's:\n")?;
-    push_hunks(buffer, &rows, &lines, &others, &found)?;
+    push_hunks(alloc, buffer, &rows, &lines, &others, &found)?;
     push_words(buffer, LAST_WORDS)?;
     Ok(())
 }

@@ -1,7 +1,7 @@
-use Rattle.std.specs.Prelude.{◌≡◌, ◌-◌, max}
+use Rattle.std.specs.Prelude.{◌≡◌, drop}
 use Rattle.line_diff.specs.Makers.{greatest}
 use Rattle.line_diff.proofs.makers.greatest.Given as goal
 
-abbrev pub invariant-loop-index : goal.invariant-loop-index
-invariant-loop-index l =
-    max (greatest l.numbers (l.end - l.index) l.index) l.most ≡ greatest l.numbers (l.end - l.start) l.start
+abbrev pub invariant-loop-number : goal.invariant-loop-number
+invariant-loop-number l =
+    greatest l.most (drop l.number-index l.numbers) ≡ greatest l.fn.most l.numbers

@@ -7,8 +7,8 @@ pub loop-index-preserved : goal.loop-index-preserved
 loop-index-preserved c =
     let words = own_line_at c.args.rows.now (map (λ (line : Bor (List ℕ)). line.now) c.args.lines.now)
     (map (λ (line : Bor (List ℕ)). line.now) c.args.others.now) c.args.hunk.now in
-    let line : own_line (c.loop-index.index + 1) c.line_makers-makers.result c.text_at.result.now
-    ≡ words c.loop-index.index = rw (c.line_makers-makers.ensures, c.text_at.ensures) refl in
+    let line : own_line (c.loop-index.index + 1) c.in_ok-makers.makers c.text_at.result.now
+    ≡ words c.loop-index.index = rw (c.in_ok-makers.ensures, c.text_at.ensures) refl in
     rw (
       c.in_ok-push_own_line.ensures,
       line,

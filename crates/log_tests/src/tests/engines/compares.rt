@@ -58,49 +58,49 @@ static ROWS: [(&[&str], &str, End, &str); 13] = [
         &[INITIALIZE, THREE_LINES, SECOND_LINE],
         "one\ntwo\u{a0}\nthree\nfour\n",
         Ended(1, 3, 0),
-        "\"file:///a\" after message 3: the text is not the file's:\nline 2 (made by message 3): \"2\\t\\n\"\n  the file has: \"two\\u{a0}\\n\"\nafter line 3 (made by message 2):\n  the file has: \"four\\n\"\nFor each line, a message named is wrong, a later one is missing or wrong, or an earlier mistake led it to the wrong line. Look at the lowest numbers first.\n",
+        "\"file:///a\" after message 3: the text is not the file's:\nline 2 (made by message 3): \"2\\t\\n\"\n  the file has: \"two\\u{a0}\\n\"\nafter line 3 (made by message 2):\n  the file has: \"four\\n\"\nFor each line, a message named is wrong, a later one is missing or wrong, or an earlier mistake led it to the wrong line. Look at the lowest numbers after the opening first.\n",
     ),
     // A line is missing at the beginning, and there are two too many at the end.
     (
         &[INITIALIZE, THREE_LINES, SECOND_LINE],
         "zero\none\n",
         Ended(1, 3, 0),
-        "\"file:///a\" after message 3: the text is not the file's:\nafter line 0 (made by message 2):\n  the file has: \"zero\\n\"\nline 2 (made by message 3): \"2\\t\\n\"\nline 3 (made by message 2): \"three\\n\"\nFor each line, a message named is wrong, a later one is missing or wrong, or an earlier mistake led it to the wrong line. Look at the lowest numbers first.\n",
+        "\"file:///a\" after message 3: the text is not the file's:\nafter line 0 (made by message 2):\n  the file has: \"zero\\n\"\nline 2 (made by message 3): \"2\\t\\n\"\nline 3 (made by message 2): \"three\\n\"\nFor each line, a message named is wrong, a later one is missing or wrong, or an earlier mistake led it to the wrong line. Look at the lowest numbers after the opening first.\n",
     ),
     // It was opened again, so each line is of that message.
     (
         &[INITIALIZE, THREE_LINES, SECOND_LINE, CLOSE, OPEN],
         "",
         Ended(1, 5, 0),
-        "\"file:///a\" after message 5: the text is not the file's:\nline 1 (made by message 5): \"abc\"\nFor each line, a message named is wrong, a later one is missing or wrong, or an earlier mistake led it to the wrong line. Look at the lowest numbers first.\n",
+        "\"file:///a\" after message 5: the text is not the file's:\nline 1 (made by message 5): \"abc\"\nFor each line, a message named is wrong, a later one is missing or wrong, or an earlier mistake led it to the wrong line. Look at the lowest numbers after the opening first.\n",
     ),
     // A letter too many is of the message that inserted it, whichever of those alike the file lacks.
     (
         &[INITIALIZE, THREE_LINES, ALIKE],
         "one\ntwo\nthree\n",
         Ended(1, 3, 0),
-        "\"file:///a\" after message 3: the text is not the file's:\nline 3 (made by messages 2 and 3): \"threee\\n\"\n  the file has: \"three\\n\"\nFor each line, a message named is wrong, a later one is missing or wrong, or an earlier mistake led it to the wrong line. Look at the lowest numbers first.\n",
+        "\"file:///a\" after message 3: the text is not the file's:\nline 3 (made by messages 2, 3): \"threee\\n\"\n  the file has: \"three\\n\"\nFor each line, a message named is wrong, a later one is missing or wrong, or an earlier mistake led it to the wrong line. Look at the lowest numbers after the opening first.\n",
     ),
     // What a message leaves between two changes isn't its own.
     (
         &[INITIALIZE, THREE_LINES, SECOND_LINE, FAR_APART],
         "One\ntwo\nthree!\n",
         Ended(1, 4, 0),
-        "\"file:///a\" after message 4: the text is not the file's:\nline 2 (made by message 3): \"2\\t\\n\"\n  the file has: \"two\\n\"\nFor each line, a message named is wrong, a later one is missing or wrong, or an earlier mistake led it to the wrong line. Look at the lowest numbers first.\n",
+        "\"file:///a\" after message 4: the text is not the file's:\nline 2 (made by message 3): \"2\\t\\n\"\n  the file has: \"two\\n\"\nFor each line, a message named is wrong, a later one is missing or wrong, or an earlier mistake led it to the wrong line. Look at the lowest numbers after the opening first.\n",
     ),
     // The second of two messages of one version was refused.
     (
         &[INITIALIZE, THREE_LINES, SECOND_LINE, ALIKE],
         "one\n2\t\nthreee\n",
         Ended(1, 4, 1),
-        "\"file:///a\" after message 3: the text is not the file's:\nline 3 (made by message 2): \"three\\n\"\n  the file has: \"threee\\n\"\nFor each line, a message named is wrong, a later one is missing or wrong, or an earlier mistake led it to the wrong line. Look at the lowest numbers first.\nRefused, so without effect: 4 (S5)\n",
+        "\"file:///a\" after message 3: the text is not the file's:\nline 3 (made by message 2): \"three\\n\"\n  the file has: \"threee\\n\"\nFor each line, a message named is wrong, a later one is missing or wrong, or an earlier mistake led it to the wrong line. Look at the lowest numbers after the opening first.\nRefused, so without effect: 4 (S5)\n",
     ),
     // What is missing at the end of a text without a line end.
     (
         &[INITIALIZE, OPEN],
         "abcd",
         Ended(1, 2, 0),
-        "\"file:///a\" after message 2: the text is not the file's:\nline 1 (made by message 2): \"abc\"\n  the file has: \"abcd\"\nFor each line, a message named is wrong, a later one is missing or wrong, or an earlier mistake led it to the wrong line. Look at the lowest numbers first.\n",
+        "\"file:///a\" after message 2: the text is not the file's:\nline 1 (made by message 2): \"abc\"\n  the file has: \"abcd\"\nFor each line, a message named is wrong, a later one is missing or wrong, or an earlier mistake led it to the wrong line. Look at the lowest numbers after the opening first.\n",
     ),
     (
         &[INITIALIZE, OPEN, OTHER],

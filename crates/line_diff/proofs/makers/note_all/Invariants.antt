@@ -1,0 +1,8 @@
+use Rattle.std.specs.Prelude.{◌≡◌, drop}
+use Rattle.line_diff.specs.Makers.{with_numbers}
+use Rattle.line_diff.proofs.makers.note_all.Given as goal
+
+abbrev pub invariant-loop-number : goal.invariant-loop-number
+invariant-loop-number l =
+    with_numbers l.found.items (drop l.number-index l.numbers)
+    ≡ with_numbers l.fn.found.items l.numbers
