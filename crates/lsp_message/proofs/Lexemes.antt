@@ -56,14 +56,6 @@ pub split_is : (text beginning rest : List ℕ) (at : ℕ) → beginning ≡ tak
 split_is text beginning rest at front back =
     sym (take-append-drop at text) ∙ ap₂ (λ a b. a ++ b) (sym front) (sym back)
 
-ended_by : (byte mark : ℕ) (rest : List ℕ) → (byte == mark) ≡ true → ends_word (mark ∷ rest) ≡ true
-    → ends_word (byte ∷ rest) ≡ true
-ended_by byte mark rest same ended = ap (λ b. ends_word (b ∷ rest)) (eqb-true byte mark same) ∙ ended
-
-    by_last : (((byte == 44) || (byte == 125)) ≡ true) ⊎ ((byte == 10) ≡ true) → ends_word (byte ∷ rest) ≡ true
-    by_last (inl e) = by_first (or_cases _ _ e)
-    by_last (inr e) = ended_by byte 10 rest e refl
-
 -- bytes before the first that stops a string's plain text are written as they are
 pub escape_up_to : (text : List ℕ) (len : ℕ) → len ≤ length text
     → ((k : ℕ) → k < len → is_stop (get_or text k 0) ≡ false) → escape (take len text) ≡ take len text
