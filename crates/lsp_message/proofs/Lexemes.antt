@@ -56,6 +56,23 @@ pub split_is : (text beginning rest : List ℕ) (at : ℕ) → beginning ≡ tak
 split_is text beginning rest at front back =
     sym (take-append-drop at text) ∙ ap₂ (λ a b. a ++ b) (sym front) (sym back)
 
+ended_by : (byte mark : ℕ) (rest : List ℕ) → (byte == mark) ≡ true → ends_word (mark ∷ rest) ≡ true
+    → ends_word (byte ∷ rest) ≡ true
+ended_by byte mark rest same ended = ap (λ b. ends_word (b ∷ rest)) (eqb-true byte mark same) ∙ ended
+
+-- a number ends before a comma, a brace and a line feed
+pub number_ended : (byte : ℕ) (rest : List ℕ) → (((byte == 44) || (byte == 125)) || (byte == 10)) ≡ true
+    → ends_word (byte ∷ rest) ≡ true
+number_ended byte rest one = by_last (or_cases _ _ one)
+  where
+    by_first : ((byte == 44) ≡ true) ⊎ ((byte == 125) ≡ true) → ends_word (byte ∷ rest) ≡ true
+    by_first (inl e) = ended_by byte 44 rest e refl
+    by_first (inr e) = ended_by byte 125 rest e refl
+
+    by_last : (((byte == 44) || (byte == 125)) ≡ true) ⊎ ((byte == 10) ≡ true) → ends_word (byte ∷ rest) ≡ true
+    by_last (inl e) = by_first (or_cases _ _ e)
+    by_last (inr e) = ended_by byte 10 rest e refl
+
 -- bytes before the first that stops a string's plain text are written as they are
 pub escape_up_to : (text : List ℕ) (len : ℕ) → len ≤ length text
     → ((k : ℕ) → k < len → is_stop (get_or text k 0) ≡ false) → escape (take len text) ≡ take len text

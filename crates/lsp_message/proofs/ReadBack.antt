@@ -151,6 +151,15 @@ is_read_back (spec.error_reply id error) h = tt
 
 -- ---- the message that a value is, as far as it was written
 
+abbrev error_named : List ℕ → Option ErrorCode
+error_named s =
+    if bytes_eq s (spec.error_message ParseError) then Some ParseError
+    else if bytes_eq s (spec.error_message InvalidRequest) then Some InvalidRequest
+    else if bytes_eq s (spec.error_message MethodNotFound) then Some MethodNotFound
+    else if bytes_eq s (spec.error_message InvalidParams) then Some InvalidParams
+    else if bytes_eq s (spec.error_message ServerNotInitialized) then Some ServerNotInitialized
+    else None
+
 abbrev called : List ℕ → Option Data → Option OutgoingData
 called m params =
     if bytes_eq m (codes "initialize") then option_map spec.initialize (offers_of params)
@@ -176,6 +185,13 @@ refused id error =
 abbrev replied : Option IdData → Option Data → Option Data → Option OutgoingData
 replied id (Some error) result = refused id error
 replied id None result = option_and_then (answered id) result
+
+abbrev written_by : Option (List ℕ) → Data → Option OutgoingData
+written_by (Some m) d = called m (get (codes "params") d)
+written_by None d = replied (id_found (get (codes "id") d)) (get (codes "error") d) (get (codes "result") d)
+
+abbrev written_as : Data → Option OutgoingData
+written_as d = written_by (text_in (get (codes "method") d)) d
 
 id_found-id_or_null : (id : Option IdData) → IfSome id IsProperId → id_found (Some (values.id_or_null id)) ≡ id
 id_found-id_or_null None h = refl

@@ -2,7 +2,7 @@
 use Rattle.std.proofs.Common.{◌≡◌, ◌∙◌, ◌++◌, ◌||◌, ap, refl, false, List, [], ◌∷◌}
 use Rattle.std.specs.Prelude.{Result, Ok, Err, IfOk, codes, map}
 use Rattle.std.proofs.Math.Bool.{or-false}
-use Rattle.std.proofs.lemmas.List.{append_assoc}
+use Rattle.std.proofs.lemmas.List.{append-nil, append_assoc}
 use Rattle.clap.specs.Words.{App, Rule, Text, app_of, rule_of, new_app, AddsArg, with_rule, with_subcommand}
 use Rattle.clap.specs.Simple.{on_top}
 use Rattle.clap.specs.declared.builder.arg.Arg.{Arg}
@@ -17,8 +17,14 @@ use Rattle.lspsync.specs.declared.command_line.options.Values.{Values}
 abbrev longer : List Rule → App → App
 longer rules = on_top (λ s. record s { rules = s.rules ++ rules })
 
+longer_none : (a : App) → a ≡ longer [] a
+longer_none a = rw (append-nil a.top.rules) refl
+
 longer_more : (xs ys : List Rule) (a : App) → longer ys (longer xs a) ≡ longer (xs ++ ys) a
 longer_more xs ys a = rw (append_assoc a.top.rules xs ys) refl
+
+pub adds_none : (c : Command) → AddsRules c [] c
+adds_none c = record { app = longer_none (app_of c); globals = refl }
 
 pub adds_one : (old new : Command) (a : Arg) (rule : Rule) → AddsArg old a new → a.global ≡ false → rule_of a ≡ rule
     → AddsRules old (rule ∷ []) new

@@ -44,6 +44,10 @@ pub first_there : (P : List ℕ → Type 0) (items : List (Vec ℕ Global)) (fir
 first_there P [] first some is holds = absurd (omega arith)
 first_there P (x ∷ xs) first some is holds = subst (λ (v : Vec ℕ Global). P v.items) (sym is) holds
 
+pub some_wait : (items : List (Vec ℕ Global)) → 0 < length items → frames items ≢ []
+some_wait [] some = absurd (omega arith)
+some_wait (x ∷ xs) some = λ none. absurd (omega (arith, ap length none))
+
 pub serve_is : (c : client.ClientData) (s new : server.ServerData) (limits : LimitsData)
     (items rest : List (Vec ℕ Global)) (back next : List (List ℕ)) (first : Vec ℕ Global) (body buffered : List ℕ)
     (given : AnswerData Sent) (result : Did)
