@@ -6,8 +6,8 @@ from .closures import Closure, Target, Unknown, definition_named, target_named
 from .tokens import Token
 
 OTHERS = ("tokens", "users", "inside")
-# A row under "In short" of docs/PROVED.md: what is said, its clause, and how long the clause's page is, alone and with those below it
-LENGTHS = re.compile(r"(?m)^\| ([^|]+) \| `([^`|]+)` \| ([\d,]+) \| ([\d,]+) \|$")
+# A row under "In short" of docs/PROVED.md: what is said, what the page is of, how long it is alone, with those below it, and its types
+LENGTHS = re.compile(r"(?m)^\| ([^|]+) \| `([^`|]+)` \| ([\d,]+) \| ([\d,]+) \| ([\d,]+) \| [\d,]+ \|$")
 
 
 def words_of(text):
@@ -81,6 +81,10 @@ class Pages:
         held = {one for it in (page, *self.all_below(page)) for one in self.closure_of(it).definitions}
         return sum(it.size for it in held)
 
+    def lengths_of(self, page):
+        """Returns the lines of a page, those with all pages that it builds on, and those of types."""
+        return self.closure_of(page).size, self.size_in_all(page), sum(it.size for it in self.closure_of(page).types)
+
     # ---- users
 
     def calls_of(self, entry):
@@ -118,7 +122,7 @@ class Pages:
             yield from self.faults_of(page)
         yield from self.faults_of_users()
         points, said = points_of(proved), {it.sentence: it for it in self.pages if it.sentence}
-        rows = {what: name for what, name, _, _ in LENGTHS.findall(proved)}
+        rows = {what: name for what, name, *_ in LENGTHS.findall(proved)}
         for sentence in points - said.keys():
             yield f"docs/PROVED.md says under \"In short\" \"{sentence}\", and no page has it as its sentence"
         for sentence in said.keys() - points:
@@ -129,8 +133,8 @@ class Pages:
         for _, name, *lines in LENGTHS.findall(proved):
             if not (page := self.page_of(name)):
                 yield f"docs/PROVED.md says how long the page of `{name}` is, and there is none"
-            elif lines != (wanted := [f"{self.closure_of(page).size:,}", f"{self.size_in_all(page):,}"]):
-                yield f"docs/PROVED.md says {' and '.join(lines)} lines of `{name}`: {' and '.join(wanted)}"
+            elif lines != (wanted := [f"{it:,}" for it in self.lengths_of(page)]):
+                yield f"docs/PROVED.md says {', '.join(lines)} lines of `{name}`: {', '.join(wanted)}"
 
     def faults_of(self, page):
         closure = self.closure_of(page)

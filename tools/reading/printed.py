@@ -118,9 +118,9 @@ def pages_table(pages):
     """Returns the table of the pages."""
     rows = ["| page | printed by `tools/definitions --of` | lines | in all | types | of Rattle's crates |", "|---|---|---|---|---|---|"]
     for page in pages.pages:
-        closure = pages.closure_of(page)
-        types, kit = sum(it.size for it in closure.types), sum(it.size for it in closure.kit_definitions)
-        rows.append(f"| {page.title} | `{page.of[0]}` | {closure.size} | {pages.size_in_all(page):,} | {types} | {kit} |")
+        kit = sum(it.size for it in pages.closure_of(page).kit_definitions)
+        lengths = " | ".join(f"{it:,}" for it in pages.lengths_of(page))
+        rows.append(f"| {page.title} | `{page.of[0]}` | {lengths} | {kit} |")
     return "\n".join(rows) + "\n"
 
 

@@ -376,7 +376,7 @@ laspidru_u32 laspidru_client_exit(laspidru_handle *client, laspidru_size *frame_
    copied until the next call; before, it stays as it is. With LASPIDRU_FAILED and LASPIDRU_BAD_FRAME no byte was taken. With
    LASPIDRU_OUT_OF_MEMORY `taken->bytes` may be more than 0: a message is whole then, and the next call handles it first, also
    with a `piece_len` of 0. With LASPIDRU_EMPTY, LASPIDRU_OTHER_KIND, LASPIDRU_ENDED of a server and LASPIDRU_WRONG_PHASE of a
-   client nothing is written. */
+   client nothing is written; with each other code the message of before is released, and laspidru_body no longer copies it. */
 laspidru_u32 laspidru_take(laspidru_handle *end, const unsigned char *piece, laspidru_size piece_len,
     laspidru_taken *taken, laspidru_answer *answer);
 
