@@ -31,11 +31,16 @@ pub record MakerNumbers : Type 0 where
   pub named : List ℕ
   pub last : ℕ
 
-abbrev pub makers_in : List ℕ → List ℕ → MakerNumbers
-makers_in owners places = record {
-  named = with_numbers (with_numbers [] owners) places;
-  last = greatest 0 places;
+abbrev pub makers_in : List ℕ → List ℕ → List ℕ → MakerNumbers
+makers_in owners places start = record {
+  named = with_numbers (with_numbers (with_numbers [] owners) places) start;
+  last = greatest (greatest 0 places) start;
 }
+
+-- The last change at a line's start, if it is later than the first byte: lines may have gone there.
+abbrev pub gone_before : List ℕ → List ℕ → List ℕ
+gone_before owners places =
+    if nat_lt (number_at owners 0) (number_at places 0) then take 1 places else []
 
 -- The changes by which a line differs from another one, without what is equal at the front and at
 -- the back. What differs may begin earlier: of letters that are alike, any may be the one too many.
@@ -45,7 +50,7 @@ makers_of owners places line other =
     (between (common_front line other)
     (length line - common_back (common_front line other) line other) owners)
     (between (min (common_front line other) (length line - common_back 0 line other))
-    (length line - common_back (common_front line other) line other + 1) places)
+    (length line - common_back (common_front line other) line other + 1) places) (gone_before owners places)
 
 -- ---- in a text with several lines
 

@@ -1,7 +1,7 @@
 //! By which changes a line differs from another one.
 
 ghost use Rattle.std.specs.Prelude.{◌≡◌, ◌≤◌, IfOk, OnOk, drop, map, take};
-ghost use Rattle.line_diff.specs.Makers.{between, greatest, makers_of, number_at, number_rows, row_at};
+ghost use Rattle.line_diff.specs.Makers.{between, gone_before, greatest, makers_of, number_at, number_rows, row_at};
 ghost use Rattle.line_diff.specs.Makers.{rows_of, with_number, with_numbers};
 
 use crate::owners::{common_back, common_front};
@@ -170,6 +170,18 @@ fn note_all(found: &mut Vec<u64>, numbers: &[u64]) -> Result<(), AllocError>
     Ok(())
 }
 
+/// Returns the last change at a line's start, if it is later than the first byte: lines may have
+/// gone there.
+fn gone_before<'a>(owners: &[u64], places: &'a [u64]) -> &'a [u64]
+    ensures { result.now ≡ gone_before owners.entry.now places.now }
+{
+    if number_at(places, 0) > number_at(owners, 0) {
+        first_of(places, 1)
+    } else {
+        &[]
+    }
+}
+
 /// Returns the changes by which a line, whose bytes and places have these numbers, differs from
 /// another one. Fails only where memory runs out.
 pub fn makers_of(
@@ -186,12 +198,14 @@ pub fn makers_of(
     let end = line.len() - common_back(front, line, other);
     // What differs may begin earlier: of letters that are alike, any may be the one too many.
     let low = front.min(line.len() - common_back(0, line, other));
-    let places = between(places, low, end + 1);
+    let differing = between(places, low, end + 1);
+    let start = gone_before(owners, places);
     let mut named = Vec::new(alloc);
     note_all(&mut named, between(owners, front, end))?;
-    note_all(&mut named, places)?;
+    note_all(&mut named, differing)?;
+    note_all(&mut named, start)?;
     Ok(Makers {
         named,
-        last: greatest(0, places),
+        last: greatest(greatest(0, differing), start),
     })
 }

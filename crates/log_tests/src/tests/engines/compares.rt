@@ -65,7 +65,7 @@ static ROWS: [(&[&str], &str, End, &str); 13] = [
         &[INITIALIZE, THREE_LINES, SECOND_LINE],
         "zero\none\n",
         Ended(1, 3, 0),
-        "\"file:///a\" after message 3: the text is not the file's:\nafter line 0 (made by message 2):\n  the file has: \"zero\\n\"\nline 2 (made by message 3): \"2\\t\\n\"\nline 3 (made by message 2): \"three\\n\"\nFor each line, a message named is wrong, a later one is missing or wrong, or an earlier mistake led it to the wrong line. Look at the lowest numbers after the opening first.\n",
+        "\"file:///a\" after message 3: the text is not the file's:\nafter line 0 (made by message 2):\n  the file has: \"zero\\n\"\nline 2 (made by messages 3, 2): \"2\\t\\n\"\nline 3 (made by message 2): \"three\\n\"\nFor each line, a message named is wrong, a later one is missing or wrong, or an earlier mistake led it to the wrong line. Look at the lowest numbers after the opening first.\n",
     ),
     // It was opened again, so each line is of that message.
     (

@@ -262,7 +262,7 @@ static RUNS: [Wanted; 17] = [
         parts: &[
             "\"file:///a\" after message 2: the text is not the file's:\nline 1 (made by message 2): \"abc\"\n  the file has: \"aYc\\n\"\nFor each line, a message named is wrong, a later one is missing or wrong, or an earlier mistake led it to the wrong line. Look at the lowest numbers after the opening first.\n",
         ],
-        lengths: &[271],
+        lengths: &[289],
         end: Ended(1, 2, 0),
     },
     // Two frames, and two records of version 2.
