@@ -7,7 +7,7 @@ from .tokens import Token
 
 OTHERS = ("tokens", "users", "inside")
 # A row under "In short" of docs/PROVED.md: what is said, what the page is of, how long it is alone, with those below it, and its types
-LENGTHS = re.compile(r"(?m)^\| ([^|]+) \| `([^`|]+)` \| ([\d,]+) \| ([\d,]+) \| ([\d,]+) \| [\d,]+ \|$")
+LENGTHS = re.compile(r"(?m)^\| ([^|]+) \| `([^`|]+)` \| ([\d,]+) \| ([\d,]+) \| ([\d,]+) \|$")
 
 
 def words_of(text):
