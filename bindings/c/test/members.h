@@ -7,6 +7,15 @@ static int is_text(laspidru_u32 code, const char *wanted) {
     return laspidru_text(code, 0, out, sizeof out, &copied) == LASPIDRU_OK && copied == strlen(wanted) && memcmp(out, wanted, copied) == 0;
 }
 
+/* Does the text of a code begin with its name and a colon? Python, Node and Lua take the names from there. */
+static int is_named(laspidru_u32 code, const char *name) {
+    unsigned char out[120];
+    laspidru_size copied = 0, len = strlen(name);
+    return laspidru_text(code, 0, out, sizeof out, &copied) == LASPIDRU_OK && copied > len && memcmp(out, name, len) == 0;
+}
+
+#define CHECK_NAME(code) CHECK(is_named(LASPIDRU_##code, #code ": "))
+
 static void test_texts(void) {
     unsigned char out[120] = "-----";
     laspidru_size copied = 9, code;
@@ -20,6 +29,16 @@ static void test_texts(void) {
     CHECK(laspidru_text(LASPIDRU_EMPTY, 27, out, 3, &copied) == LASPIDRU_OUT_OF_RANGE && copied == 3);
     for (code = 0; code < 36; code++)
         CHECK(laspidru_text((laspidru_u32)code, 0, out, 120, &copied) == LASPIDRU_OK && copied > 8 && copied < 120);
+    /* Each code has its own row: no two are exchanged. */
+    CHECK_NAME(OK); CHECK_NAME(NOT_UTF8); CHECK_NAME(OUT_OF_MEMORY); CHECK_NAME(IN_USE); CHECK_NAME(EMPTY);
+    CHECK_NAME(TOO_LONG); CHECK_NAME(INSIDE_CHARACTER); CHECK_NAME(REVERSED_RANGE); CHECK_NAME(BAD_ENCODING);
+    CHECK_NAME(BAD_LENGTH); CHECK_NAME(OTHER_KIND); CHECK_NAME(OUT_OF_RANGE); CHECK_NAME(BAD_MAX_BODY);
+    CHECK_NAME(ENDED); CHECK_NAME(NOT_OPEN); CHECK_NAME(ALREADY_OPEN); CHECK_NAME(TOO_MANY_DOCUMENTS);
+    CHECK_NAME(STALE_VERSION); CHECK_NAME(TOO_MANY_CHANGES); CHECK_NAME(INVALID_PARAMS); CHECK_NAME(CUT);
+    CHECK_NAME(BAD_FRAME); CHECK_NAME(BODY_TOO_LONG); CHECK_NAME(BAD_LOG); CHECK_NAME(TOO_MANY_TURNS);
+    CHECK_NAME(OVERLAP); CHECK_NAME(FAILED); CHECK_NAME(NO_MESSAGE); CHECK_NAME(WRONG_PHASE);
+    CHECK_NAME(NOT_AN_ANSWER); CHECK_NAME(ERROR_ANSWER); CHECK_NAME(NO_SYNC); CHECK_NAME(BAD_MAX_TEXT);
+    CHECK_NAME(BAD_MAX_DOCS); CHECK_NAME(BAD_MAX_CHANGES); CHECK_NAME(NO_DOCUMENT);
 }
 
 static int is_uri_of(const char *body, const char *uri) {
