@@ -11,9 +11,11 @@ import functools
 import hashlib
 import os
 import re
+import shutil
 import subprocess
 import sys
 import tempfile
+from importlib.machinery import SourceFileLoader
 
 from portable.retarget import SOURCE
 
@@ -91,6 +93,25 @@ def run(words, what, **how):
     return ran.stdout
 
 
+@functools.lru_cache(None)
+def take_from_gate(folder):
+    """Gives each library what `rt ci` proved of the same files on this machine and keeps beside the kit: `rt lib` alone would prove it once more.
+    These are rt's own functions, by which `rt ci` itself takes it."""
+    rt = SourceFileLoader("rt", f"{folder}/bin/rt").load_module()
+    rt.Crate.allowed = rt.handles_of(os.getcwd())
+    libraries = [it for it in rt.crates_of(os.getcwd()) if it.makes_rlib()]
+    store = rt.Kept(libraries)
+    for crate in libraries:
+        at = os.path.dirname(crate.rlib)
+        if not crate.is_built():
+            shutil.rmtree(at, ignore_errors=True)
+            if not store.give(crate, False, store.key(crate)):
+                continue
+            with open(f"{at}/stamp", "w", encoding="utf-8") as file:
+                file.write(crate.stamp())
+        store.is_built(crate)
+
+
 def kept(name, to):
     """Makes the files of a crate in a folder, where they aren't there or are of something else. Returns the path that they begin with."""
     folder, line = kit()
@@ -102,6 +123,7 @@ def kept(name, to):
                 return path
     os.makedirs(to, exist_ok=True)
     print(f"{name}: proving and building it", file=sys.stderr, flush=True)
+    take_from_gate(folder)
     # (that proves the crates below too)
     run(["rt", "lib"] if crates[name][0] else ["rt", "run", "--", "--help"], f"{name}: the proof", cwd=f"crates/{name}", stdin=subprocess.DEVNULL)
     with tempfile.TemporaryDirectory() as made:
