@@ -237,6 +237,8 @@ def in_browser(name, page, requests):
 
 def check(targets, page, logs, sessions):
     """Prints a table of what was run on what. Returns whether all was as it should be."""
+    for name in NATIVE:
+        subprocess.run([f"./{name}", "--help"], stdout=subprocess.DEVNULL, check=True)
     requests, passed, failed, left = [*vector_logs(), *random_logs(logs)], 0, 0, 0
     expected = each(of_native, requests)
 

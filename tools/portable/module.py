@@ -93,22 +93,24 @@ def run(words, what, **how):
     return ran.stdout
 
 
-@functools.lru_cache(None)
-def take_from_gate(folder):
-    """Gives each library what `rt ci` proved of the same files on this machine and keeps beside the kit: `rt lib` alone would prove it once more.
-    These are rt's own functions, by which `rt ci` itself takes it."""
+def build_below(name, crates, folder):
+    """Builds the libraries that a crate stands on. What `rt ci` has proved of the same files on this machine it keeps beside the kit, and that is taken,
+    by rt's own functions; `rt lib` alone would prove it once more."""
     rt = SourceFileLoader("rt", f"{folder}/bin/rt").load_module()
     rt.Crate.allowed = rt.handles_of(os.getcwd())
-    libraries = [it for it in rt.crates_of(os.getcwd()) if it.makes_rlib()]
+    names = below(name, crates)
+    libraries = [it for it in rt.crates_of(os.getcwd()) if it.name in names]
     store = rt.Kept(libraries)
     for crate in libraries:
         at = os.path.dirname(crate.rlib)
         if not crate.is_built():
             shutil.rmtree(at, ignore_errors=True)
-            if not store.give(crate, False, store.key(crate)):
-                continue
-            with open(f"{at}/stamp", "w", encoding="utf-8") as file:
-                file.write(crate.stamp())
+            if store.give(crate, False, store.key(crate)):
+                with open(f"{at}/stamp", "w", encoding="utf-8") as file:
+                    file.write(crate.stamp())
+            else:
+                print(f"{crate.name}: proving it", file=sys.stderr, flush=True)
+                run(["rt", "lib"], f"{crate.name}: the proof", cwd=crate.folder, stdin=subprocess.DEVNULL)
         store.is_built(crate)
 
 
@@ -122,10 +124,8 @@ def kept(name, to):
             if file.read().split("\n")[0] == made_of:
                 return path
     os.makedirs(to, exist_ok=True)
+    build_below(name, crates, folder)
     print(f"{name}: proving and building it", file=sys.stderr, flush=True)
-    take_from_gate(folder)
-    # (that proves the crates below too)
-    run(["rt", "lib"] if crates[name][0] else ["rt", "run", "--", "--help"], f"{name}: the proof", cwd=f"crates/{name}", stdin=subprocess.DEVNULL)
     with tempfile.TemporaryDirectory() as made:
         os.mkdir(f"{made}/bin")
         os.symlink(f"{folder}/toolchain/lib", f"{made}/lib")
