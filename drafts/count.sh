@@ -1,0 +1,2 @@
+for k in src specs proofs; do n=0; for d in crates/*; do b=$(basename $d); case $b in *_tests|lsp_samples) continue;; esac; if [ $k = src ]; then f=$(find $d/src -name '*.rt'  | grep -v "/tests/\|tests.rt"); else f=$(find $d/$k -name '*.antt' 2>/dev/null); fi; [ -n "$f" ] && n=$((n+$(cat $f | wc -l))); done; echo $k $n; done
+t=0; for f in $(find crates -path '*/src/*' -name '*.rt' | grep -E "_tests/|lsp_samples/|/tests/|tests\.rt"); do t=$((t+$(wc -l < $f))); done; echo tests $t
