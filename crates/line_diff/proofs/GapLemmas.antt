@@ -3,7 +3,7 @@ use Rattle.std.proofs.Common.{◌≡◌, ℕ, ◌+◌, ◌-◌, ◌<◌, true, f
 use Rattle.std.specs.Prelude.{nat_lt}
 use Rattle.std.proofs.lemmas.Bool.Decides.{Decides-ltb, nat_tests}
 use Rattle.line_diff.specs.Common.{first_with}
-use Rattle.line_diff.specs.Hunks.{gap_of, has_pair, nearest, next_gap, pair_in}
+use Rattle.line_diff.specs.Hunks.{gap_of, gap_within, has_pair, nearest, pair_in}
 use Rattle.line_diff.proofs.FirstLemmas.{first_found, first_missing}
 
 not_below_itself : (n : ℕ) → nat_lt n n ≡ false
@@ -13,8 +13,8 @@ module _ (farthest : ℕ) (lines others : List (List ℕ)) where
   pub gap_found : (sum first : ℕ) → sum < farthest
       → nearest farthest lines others ≡ first_with (has_pair lines others) (farthest - sum) sum
       → first ≡ pair_in (sum + 1) lines others → first < sum + 1
-      → Some (gap_of sum first) ≡ next_gap farthest lines others
-  unfolding next_gap
+      → Some (gap_of sum first) ≡ gap_within farthest lines others
+  unfolding gap_within
   gap_found sum first within reached is_first less =
       let hit : nat_lt (pair_in (sum + 1) lines others) (sum + 1) ≡ true =
       rw (← is_first) ((Decides-ltb first (sum + 1)).1 less) in
@@ -28,8 +28,8 @@ module _ (farthest : ℕ) (lines others : List (List ℕ)) where
 
   pub gap_missing : (sum : ℕ) → sum ≡ farthest
       → nearest farthest lines others ≡ first_with (has_pair lines others) (farthest - sum) sum
-      → None ≡ next_gap farthest lines others
-  unfolding next_gap
+      → None ≡ gap_within farthest lines others
+  unfolding gap_within
   gap_missing sum end reached =
       let far : nearest farthest lines others ≡ farthest =
       reached ∙ first_missing (has_pair lines others) farthest sum end in

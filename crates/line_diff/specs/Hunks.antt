@@ -1,5 +1,5 @@
 -- The places at which two texts have other lines.
-use Rattle.std.specs.Prelude.{ℕ, zero, suc, ◌+◌, ◌-◌, Bool, ◌&&◌, nat_lt, ◌==◌, if◌then◌else◌, length, drop, slice_get, List, [], ◌∷◌, ◌++◌, Option, Some, None}
+use Rattle.std.specs.Prelude.{ℕ, zero, suc, ◌+◌, ◌-◌, min, Bool, ◌&&◌, nat_lt, ◌==◌, if◌then◌else◌, length, drop, slice_get, List, [], ◌∷◌, ◌++◌, Option, Some, None}
 use Rattle.line_diff.specs.declared.hunks.Gap.{Gap}
 use Rattle.line_diff.specs.declared.hunks.Hunk.{Hunk}
 use Rattle.line_diff.specs.Common.{are_equal, first_with}
@@ -29,8 +29,13 @@ abbrev pub gap_if : ℕ → List (List ℕ) → List (List ℕ) → ℕ → Opti
 gap_if farthest lines others sum = if nat_lt sum farthest
     then Some (gap_of sum (pair_in (sum + 1) lines others)) else None
 
+unfoldable pub gap_within : ℕ → List (List ℕ) → List (List ℕ) → Option Gap
+gap_within farthest lines others = gap_if farthest lines others (nearest farthest lines others)
+
+-- The same: no common line comes after all others.
 unfoldable pub next_gap : ℕ → List (List ℕ) → List (List ℕ) → Option Gap
-next_gap farthest lines others = gap_if farthest lines others (nearest farthest lines others)
+next_gap farthest lines others =
+    gap_within (min farthest (length lines + length others)) lines others
 
 -- A hunk, unless no line is in it.
 abbrev pub unless_empty : Hunk → List Hunk

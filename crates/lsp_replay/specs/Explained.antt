@@ -124,7 +124,7 @@ lenient_advice strict_refusal = if strict_refusal then
 -- The line after that, by whether a kind of note came more than once and not each is on its line.
 abbrev pub habit_advice : Bool → List ℕ
 habit_advice repeated = if repeated then
-    codes "A kind of note that comes often is on its first line alone. `--all`: on each.\n"
+    codes "A kind of note that comes often is on few lines. `--all`: on each.\n"
     else []
 
 -- The lines, by what is known of all records.

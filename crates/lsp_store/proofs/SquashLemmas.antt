@@ -25,7 +25,7 @@ use Rattle.lsp_store.specs.Message.{body_refusal, change_body}
 use Rattle.lsp_store.specs.declared.store.plan.Plan.{Plan}
 use Rattle.lsp_store.specs.Opened.{StoreData, entry_under}
 use Rattle.lsp_store.specs.Plan.{IsPlanOf, IsPlanOn}
-use Rattle.lsp_store.specs.Squash.{HasReached, IsSquashAfter, SquashData, add_refusal, reached_entry, squash_after, items_meant, squash_batch, squash_refusal}
+use Rattle.lsp_store.specs.Squash.{HasReached, IsSquashAfter, SquashData, add_refusal, reached_entry, squash_after, items_meant, squash_batch, squash_refusal, squash_under}
 use Rattle.lsp_message.specs.Params.{DocumentItem}
 use Rattle.lsp_store.specs.Table.{IsLeftToMeaning, Refusal, batch_bytes, changed, greatest_batch, entry_refusal, is_stale, meant_text, too_many_changes}
 use Rattle.lsp_store.proofs.Messages.ProperLemmas.{bytes_sum}
@@ -232,6 +232,11 @@ reached_still old new was is same same_stored at uri =
     (subst (λ (k : SquashData). HasReached k (entry_under uri was)) (sym same) (at uri))
 
 -- ---- a batch that was planned
+
+-- What a squash has reached depends on neither limits nor encoding.
+pub reached_under : (limits : LimitsData) (encoding : Encoding) {squash : SquashData} {entry : DocumentItem}
+    → HasReached squash entry → HasReached (squash_under limits encoding squash) entry
+reached_under limits encoding at = record { text = at.text; version = at.version }
 
 module _ (uri : List ℕ) (limits : LimitsData) (encoding : Encoding) (joined next : JoinedData) (before next_version : ℤ)
     (kept : SquashData) (view : seen uri limits encoding joined before ≡ kept)

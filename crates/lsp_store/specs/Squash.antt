@@ -90,14 +90,19 @@ pub record IsSquashAfter (old : SquashData) (version : ℤ) (batch : List Conten
       ≡ Ok old.items
       → meaning (units_in old.encoding) (chars old.text) (before ++ batch) ≡ Ok new.items
 
--- A plan's batch is added to a squash of the same encoding and limits, which then leads to the
--- document after it.
+-- The squash, but for its limits and its encoding.
+abbrev pub squash_under : LimitsData → Encoding → SquashData → SquashData
+squash_under limits encoding squash = record squash { limits = limits; encoding = encoding }
+
+-- A plan's batch is added to a squash, whatever its limits and its encoding are, as under those of the
+-- plan. The squash then leads to the document after the plan.
 abbrev pub IsSquashOfPlan : StoreData → Plan → SquashData → SquashData → Type 0
 IsSquashOfPlan store plan old new =
     (uri : List ℕ) (version : ℤ) (encoding : Encoding) (batch : List ContentChange)
     → (planned : IsPlanOf store uri version encoding batch plan)
-    → old.encoding ≡ encoding → old.limits ≡ store.limits
-    → IsSquashAfter old version batch new
+    → IsSquashAfter (squash_under store.limits encoding old) version batch
+    (squash_under store.limits encoding new)
+    × (new.limits ≡ old.limits) × (new.encoding ≡ old.encoding)
     × HasReached new (changed (units_in encoding) planned.on.entry version batch)
 
 -- ---- the message of all batches

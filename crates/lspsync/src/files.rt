@@ -40,14 +40,17 @@ pub trait Folder {
 /// How many bytes of a log's beginning are kept.
 const KEPT: usize = 64;
 
+const SWAPPED: &str = "the file that is named first is a log: compare SAVED LOG";
+
 /// A log that is read from a file. It keeps what is said of a faulty one: the first bytes, the last
-/// error of a read, and how it is read.
+/// error of a read, how it is read, and whether the text that it is compared with is a log.
 #[derive(Drop)]
 struct LogFile<T> {
     file: T,
     first: Vec<u8>,
     error: Option<io::Error>,
     settings: Option<Settings>,
+    is_swapped: bool,
 }
 
 impl<T: Read> Read for LogFile<T> {
@@ -89,6 +92,7 @@ pub fn run_file<F: Folder, W: Sink, E: Sink>(
                 first: Vec::new(alloc),
                 error: None,
                 settings: settings_of(&call),
+                is_swapped: is_swapped(&call),
             });
             let wanted = wanted_by(alloc, &call);
             let answer = perform(alloc, call, &mut log, output);
@@ -190,6 +194,17 @@ pub fn unreadable<E: Sink>(alloc: Global, name: &str, error: io::Error, errors: 
     }
 }
 
+/// Returns whether a call compares a log with what should be one.
+fn is_swapped(call: &Call) -> bool {
+    match call {
+        Call::Compare(_, against) => {
+            against.text.starts_with("Content-Length:")
+                || against.text.starts_with("lsp-session-log 2")
+        }
+        _ => false,
+    }
+}
+
 /// Returns what a faulty log seems to be by its first bytes; else up to where it can be replayed.
 fn hint_on<T, F: Folder>(
     alloc: Global,
@@ -198,6 +213,9 @@ fn hint_on<T, F: Folder>(
     fault: EngineFault,
     folder: &F,
 ) -> Option<String> {
+    if log.is_swapped {
+        return String::from_str(alloc, SWAPPED).ok();
+    }
     if let Some(hint) = hint(&log.first) {
         return String::from_str(alloc, hint).ok();
     }

@@ -1,5 +1,5 @@
 -- A change that a running server receives: what becomes of it by its plan, or by why it is refused.
-use Rattle.std.proofs.Common.{arith, ◌≡◌, ◌≢◌, ◌<◌, ◌≤◌, length, ℕ, ℤ, List, map, Option, Some, None, option_map, Result, Ok, Err, IfOk, IfErr, OnOk, refl, sym, ap, ◌∙◌, subst}
+use Rattle.std.proofs.Common.{arith, ◌≡◌, ◌≢◌, ◌<◌, ◌≤◌, length, ℕ, ℤ, List, map, Option, Some, None, option_map, Result, Ok, Err, IfOk, IfErr, OnOk, refl, sym, ap, ap₂, ◌∙◌, subst}
 use Rattle.std.proofs.lemmas.List.{length-append}
 use Rattle.std.specs.declared.alloc.AllocError.{AllocError}
 use Rattle.lsp_frame.specs.Limits.{LimitsData}
@@ -15,7 +15,7 @@ use Rattle.lsp_store.specs.Opened.{StoreData}
 use Rattle.lsp_store.specs.Plan.{IsBodyOfPlan, IsMessageFault, IsMessageOfPlan, IsPlanOf, IsPlanOn}
 use Rattle.lsp_store.specs.Message.{canonical_body}
 use Rattle.lsp_edit.specs.Batch.{ContentChange}
-use Rattle.lsp_store.specs.Squash.{HasReached, IsSquashOfPlan, SquashData, squash_of}
+use Rattle.lsp_store.specs.Squash.{HasReached, IsSquashAfter, IsSquashOfPlan, SquashData, squash_of, squash_under}
 use Rattle.lsp_store.specs.Table.{Refusal, changed as changed_entry, entry_at}
 use Rattle.lsp_text.specs.Units.{units_in}
 use Rattle.lsp_text.specs.declared.encoding.Encoding.{Encoding}
@@ -375,6 +375,24 @@ module _ {T : Type 0} (Q : StoreFault → Type 0) where
 
 -- ---- what is read from the plan of an accepted change
 
+-- A batch that is added under the limits and the encoding that are the squash's own.
+own : (limits : LimitsData) (encoding : Encoding) (squash : SquashData) → squash.limits ≡ limits
+    → squash.encoding ≡ encoding → squash_under limits encoding squash ≡ squash
+own limits encoding squash same coded =
+    ap₂ (λ (l : LimitsData) (e : Encoding). squash_under l e squash) (sym same) (sym coded)
+
+under_own : (limits : LimitsData) (encoding : Encoding) (old new : SquashData) {version : ℤ}
+    {batch : List ContentChange} {entry : DocumentItem} → old.limits ≡ limits → old.encoding ≡ encoding
+    → IsSquashAfter (squash_under limits encoding old) version batch (squash_under limits encoding new)
+    × (new.limits ≡ old.limits) × (new.encoding ≡ old.encoding) × HasReached new entry
+    → IsSquashAfter old version batch new × HasReached new entry
+under_own limits encoding old new {version} {batch} same coded added = (
+  subst (λ (k : SquashData). IsSquashAfter k version batch new) (own limits encoding old same coded)
+      (subst (λ (k : SquashData). IsSquashAfter (squash_under limits encoding old) version batch k)
+      (own limits encoding new (added.1 ∙ same) (added.2 ∙ coded)) added.0),
+  added.3,
+)
+
 on_same : (store : StoreData) (plan : Plan) (a b : IsPlanOn store plan) → a.entry ≡ b.entry
 on_same store plan a b = let both : Some a.entry ≡ Some b.entry = sym a.at ∙ b.at in cc
 
@@ -432,7 +450,9 @@ module _ (server : ServerData) (p : ChangeData) {plan : Plan} (q : IsPlanOfChang
       ∙ ap (λ (e : Encoding). squash_of server.config.limits e document) encoding_is
       ∙ ap (squash_of server.config.limits (session_encoding server)) (document_is plan_at.on) in
       let from_here = subst (λ (k : SquashData). IsSquashOfPlan store plan k next) is added in
-      let both = from_here p.uri p.version (session_encoding server) changes plan_at refl (sym same_limits) in (
+      let both = under_own store.limits (session_encoding server)
+      (squash_of server.config.limits (session_encoding server) entry) next (sym same_limits) refl
+      (from_here p.uri p.version (session_encoding server) changes plan_at) in (
         is_begun server p entry is_open next both.0,
         begun_open server p entry is_open next both.0 both.1,
       )
@@ -447,8 +467,9 @@ module _ (server : ServerData) (p : ChangeData) {plan : Plan} (q : IsPlanOfChang
     pub plan_longer : (next : SquashData) → IsSquashOfPlan store plan squash next
         → IsLonger (Some squash) p next × IsOpenIn (server_after server p) next
     plan_longer next added =
-        let both = added p.uri p.version (session_encoding server) changes plan_at at.encoding
-        (at.limits ∙ ap (λ (d : StoreData). d.limits) (sym same)) in
+        let both = under_own store.limits (session_encoding server) squash next
+        (at.limits ∙ ap (λ (d : StoreData). d.limits) (sym same)) at.encoding
+        (added p.uri p.version (session_encoding server) changes plan_at) in
         let left = subst (λ (e : Encoding). HasReached next (changed_entry (units_in e) entry p.version changes))
         (sym at.encoding) both.1 in (
           is_longer server p entry is_open squash next uri both.0,

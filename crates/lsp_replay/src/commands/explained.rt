@@ -62,7 +62,7 @@ impl Settings {
 /// else 0.
 ///
 /// A kind of note that about one of a hundred records has that change documents is a habit: it is
-/// on its first line alone. `listing` has each note on its line, or leaves lines out.
+/// on few lines. `listing` has each note on its line, or leaves lines out.
 ///
 /// Errors and memory are those of [`check`](crate::check), with the URIs of 64 documents more. The
 /// body of a change is read once more. The notes of a change of a range cost what the change costs,

@@ -322,7 +322,7 @@ fn habit_advice(repeated: bool) -> &'static str
     ensures { result.now ≡ habit_advice repeated }
 {
     if repeated {
-        "A kind of note that comes often is on its first line alone. `--all`: on each.\n"
+        "A kind of note that comes often is on few lines. `--all`: on each.\n"
     } else {
         ""
     }

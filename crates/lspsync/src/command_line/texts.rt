@@ -25,9 +25,9 @@ refused where its word is `refused CAUSE`, `exit 1`, or an `error` other than
 With `--explain` the line of an error, a refusal or `exit 1` also has the
 document, the reason and the message to see; that of a suspicious message has
 notes. The last lines count messages, refusals and notes, each with the first
-message, and say what to do next. A kind of note that comes often is on its
-first line alone; with `--all` it is on each. With `--brief` only lines with a
-reason or notes are printed.
+message, and say what to do next. A kind of note that comes often is on few
+lines; with `--all` it is on each. With `--brief` only lines with a reason or
+notes are printed.
 
 Input that is faulty (F1) at offset 0 is no such log: `lspsync-log-from` makes
 one of what an editor wrote.

@@ -26,6 +26,9 @@ const CUT: &str =
 const NVIM: &str =
     "lspsync: nvim.log: frame fault F1 at 8: no header can have this byte here (docs/PROTOCOL.md#codes)\nlspsync: nvim.log: a log of Neovim; bin/log-from makes a session of it\n";
 
+const SWAPPED: &str =
+    "lspsync: nvim.log: frame fault F1 at 8: no header can have this byte here (docs/PROTOCOL.md#codes)\nlspsync: nvim.log: the file that is named first is a log: compare SAVED LOG\n";
+
 const BARE: &str =
     "lspsync: bare.log: frame fault F1 at 17: no header can have this byte here (docs/PROTOCOL.md#codes)\nlspsync: bare.log: its lines end in LF alone, where those of a header end in CR LF\n";
 
@@ -56,8 +59,9 @@ const BYTES: &str = "lspsync: nvim.bin: stream did not contain valid UTF-8\n";
 const NO_SAVED: &str = "lspsync: gone.txt: entity not found\n";
 
 /// Words, the status, the output, and what is printed on standard error.
-static ROWS: [(&str, u8, &str, &str); 23] = [
+static ROWS: [(&str, u8, &str, &str); 24] = [
     ("lspsync compare a good.log", 0, SAME, ""),
+    ("lspsync compare good.log nvim.log", 5, "", SWAPPED),
     ("lspsync compare --uri=a saved.txt -", 1, OTHER, ""),
     ("lspsync compare nvim.bin good.log", 3, "", BYTES),
     ("lspsync compare gone.txt", 3, "", NO_SAVED),

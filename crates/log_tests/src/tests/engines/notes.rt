@@ -198,8 +198,7 @@ static SAME: [&str; 6] = [
 const SAME_COUNTED: &str =
     "messages of the editor: 6, changed documents: 5\nnoted a CR alone: 1, first message 2\nnoted changes nothing: 3, first message 4\nNothing was refused; see the notes. `lspsync replay --at N`: the texts after message N.\n";
 
-const HABIT: &str =
-    "A kind of note that comes often is on its first line alone. `--all`: on each.\n";
+const HABIT: &str = "A kind of note that comes often is on few lines. `--all`: on each.\n";
 
 /// What `check` with reasons writes of this session: where a kind of note is a habit, each note, and
 /// only lines with a reason or notes.

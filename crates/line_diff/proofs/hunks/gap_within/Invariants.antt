@@ -1,7 +1,7 @@
 use Rattle.std.specs.Prelude.{◌≡◌, ◌-◌, map}
 use Rattle.line_diff.specs.Common.{first_with}
 use Rattle.line_diff.specs.Hunks.{has_pair, nearest}
-use Rattle.line_diff.proofs.hunks.next_gap.Given as goal
+use Rattle.line_diff.proofs.hunks.gap_within.Given as goal
 
 abbrev pub invariant-loop-sum : goal.invariant-loop-sum
 invariant-loop-sum l =
