@@ -14,6 +14,11 @@ const framed = (body) => Buffer.from(`Content-Length: ${Buffer.byteLength(body)}
 const exit = framed('{"jsonrpc":"2.0","method":"exit"}');
 const opened = (text) => TextDocument.create('file:///a', 'plain', 1, text);
 
+test('each name can be imported', async () => {
+  const { default: all, 'module.exports': _, ...names } = await import('./index.js');
+  assert.deepStrictEqual(Object.keys(names).sort(), Object.keys(all).sort());
+});
+
 test('positions and lines', () => {
   const document = opened('a\r\nb\u{1F600}');
   assert.strictEqual(document.lineCount, 2);
