@@ -292,6 +292,12 @@ test('a client\'s refused calls', () => {
   assert.throws(() => new Client({ maxDocs: 0 }), { code: 'BAD_MAX_DOCS', message: 'max_docs is out of its range, 1 to 65,536 documents' });
 });
 
+test('an option that there isn\'t is refused', () => {
+  for (const [end, option] of [[Client, 'utf_8'], [Client, 'max_docs'], [Server, 'utf8'], [Server, 'toString']]) {
+    assert.throws(() => new end({ [option]: 1 }), { name: 'TypeError', message: `there is no option ${option}` });
+  }
+});
+
 test('an event names its document, and says why it was refused', () => {
   const [server, client] = [new Server(), new Client()];
   client.receive(server.receive(client.start())[0].frame);
