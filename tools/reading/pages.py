@@ -5,8 +5,6 @@ import re
 
 from .closures import Closure, Target, Unknown, definition_named, target_named
 from .tokens import Token
-from .tried import Tried
-from .verdicts import REFUSED
 
 OTHERS = ("tokens", "users", "inside", "edits")
 # A row under "In short" of docs/PROVED.md: what is promised, what the page is of, how long it is alone, with those
@@ -150,16 +148,13 @@ class Pages:
 
     def faults_of_counts(self, proved):
         """Yields numbers in docs/PROVED.md that aren't those of the sources."""
-        calls, edits, more = self.user_calls(), self.edits_in("must-fail"), self.edits_in("more-must-fail")
-        lines = Tried(self.repository.top).lines.items()
-        refused = {f"{crate}/{edit.removesuffix('.edit')}" for (crate, edit), (verdict, _) in lines if verdict == REFUSED}
+        calls, edits = self.user_calls(), self.edits_in("must-fail")
         counts = {
             r"The (\S+) calls for users": len(calls),
             r"speak of some (\S+) lines of `specs/`": round(self.closure_of_calls(calls).size, -2),
             r"each of (\S+) mistakes in the code": len(edits),
             r"in each of (\S+) crates": len({it.partition("/")[0] for it in edits}),
-            r"Of some (\S+) more, in `more-must-fail/`": round(len(more), -2),
-            r"records some (\S+) as refused": round(len(more & refused), -2),
+            r"Of some (\S+) more, in `more-must-fail/`": round(len(self.edits_in("more-must-fail")), -2),
         }
         if self.repository.kit:
             kit_lines = lambda name: sum(it.size for it in self.closure_of(self.page_of(name)).kit_definitions)
