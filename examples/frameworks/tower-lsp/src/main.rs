@@ -4,11 +4,42 @@ use std::collections::HashMap;
 use std::sync::Mutex;
 use tower_lsp::jsonrpc::Result;
 use tower_lsp::lsp_types::*;
-use tower_lsp::{LanguageServer, LspService, Server};
+use tower_lsp::{Client, LanguageServer, LspService, Server};
 
-#[derive(Default)]
+/// A document, and its version
+struct Open {
+    document: Document,
+    version: i32,
+}
+
 struct Backend {
-    documents: Mutex<HashMap<Url, Document>>,
+    client: Client,
+    documents: Mutex<HashMap<Url, Open>>,
+}
+
+impl Backend {
+    fn open(&self, item: TextDocumentItem) -> std::result::Result<(), laspidru::Error> {
+        let document = Document::new(&item.text, Encoding::Utf16)?;
+        self.documents.lock().unwrap().insert(item.uri, Open { document, version: item.version });
+        Ok(())
+    }
+
+    /// Makes all changes, or says why it makes none.
+    fn change(&self, uri: &Url, version: i32, changes: &[Change]) -> std::result::Result<(), String> {
+        let mut documents = self.documents.lock().unwrap();
+        let open = documents.get_mut(uri).ok_or("not open")?;
+        if version <= open.version {
+            return Err(format!("version {version} was sent, and the current one is {}", open.version));
+        }
+        open.document.change(changes).map_err(|error| error.to_string())?;
+        open.version = version;
+        Ok(())
+    }
+
+    /// Warns the user: from now on the editor's text may differ.
+    async fn warn(&self, uri: &Url, why: impl std::fmt::Display) {
+        self.client.show_message(MessageType::ERROR, format!("{uri}: refused: {why}. Please reopen it.")).await;
+    }
 }
 
 #[tower_lsp::async_trait]
@@ -24,20 +55,17 @@ impl LanguageServer for Backend {
     }
 
     async fn did_open(&self, params: DidOpenTextDocumentParams) {
-        let item = params.text_document;
-        match Document::new(&item.text, Encoding::Utf16) {
-            Ok(document) => drop(self.documents.lock().unwrap().insert(item.uri, document)),
-            Err(error) => eprintln!("{}: {error}", item.uri),
+        let uri = params.text_document.uri.clone();
+        if let Err(why) = self.open(params.text_document) {
+            self.warn(&uri, why).await;
         }
     }
 
     async fn did_change(&self, params: DidChangeTextDocumentParams) {
-        let uri = params.text_document.uri;
+        let VersionedTextDocumentIdentifier { uri, version } = params.text_document;
         let changes: Vec<Change> = params.content_changes.into_iter().map(Change::from).collect();
-        match self.documents.lock().unwrap().get_mut(&uri).map(|document| document.change(&changes)) {
-            Some(Ok(())) => {}
-            Some(Err(error)) => eprintln!("{uri}: refused: {error}"), // the text is as it was
-            None => eprintln!("{uri}: not open"),
+        if let Err(why) = self.change(&uri, version, &changes) {
+            self.warn(&uri, why).await;
         }
     }
 
@@ -47,7 +75,7 @@ impl LanguageServer for Backend {
 
     async fn hover(&self, params: HoverParams) -> Result<Option<Hover>> {
         let uri = params.text_document_position_params.text_document.uri;
-        let text = self.documents.lock().unwrap().get(&uri).map(|document| document.text().to_owned());
+        let text = self.documents.lock().unwrap().get(&uri).map(|open| open.document.text().to_owned());
         Ok(text.map(|text| Hover { contents: HoverContents::Scalar(MarkedString::String(text)), range: None }))
     }
 
@@ -58,7 +86,7 @@ impl LanguageServer for Backend {
 
 #[tokio::main(flavor = "current_thread")]
 async fn main() {
-    let (service, socket) = LspService::new(|_| Backend::default());
+    let (service, socket) = LspService::new(|client| Backend { client, documents: Mutex::default() });
     // one message at a time, in their order
     Server::new(tokio::io::stdin(), tokio::io::stdout(), socket).concurrency_level(1).serve(service).await;
 }

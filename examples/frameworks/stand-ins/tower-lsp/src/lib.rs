@@ -1,10 +1,12 @@
 //! A small stand-in of tower-lsp 0.20, for the test alone: the calls and types of the server beside it, written after that crate's
 //! interface. It reads lines and no messages: the words of each are between tabs, and `\\`, `\n`, `\r` stand for what they escape.
 //!
-//!     open URI TEXT
-//!     change URI [LINE CHARACTER LINE CHARACTER TEXT ..]    (four times `-` before the text of a whole text)
-//!     hover URI                                             (the answer is a line with the text)
+//!     open URI TEXT                                                 (its version is 0)
+//!     change URI VERSION [LINE CHARACTER LINE CHARACTER TEXT ..]    (four times `-` before the text of a whole text)
+//!     hover URI                                                     (the answer is a line with the text)
 //!     close URI
+//!
+//! What the user is shown is a line on standard error.
 pub use attributes::async_trait;
 use jsonrpc::Result;
 use lsp_types::*;
@@ -99,6 +101,12 @@ pub mod lsp_types {
         Kind(TextDocumentSyncKind),
     }
 
+    pub struct MessageType(#[allow(dead_code)] i32);
+
+    impl MessageType {
+        pub const ERROR: Self = MessageType(1);
+    }
+
     #[derive(PartialEq, Eq)]
     pub struct TextDocumentSyncKind(i32);
 
@@ -122,6 +130,12 @@ pub trait LanguageServer: Send + Sync + 'static {
 }
 
 pub struct Client;
+
+impl Client {
+    pub async fn show_message<M: std::fmt::Display>(&self, _: MessageType, message: M) {
+        eprintln!("{message}");
+    }
+}
 
 pub struct ClientSocket;
 
@@ -163,8 +177,8 @@ async fn handle<S: LanguageServer>(server: &S, line: &str) {
             server.did_open(DidOpenTextDocumentParams { text_document }).await;
         }
         "change" => {
-            let text_document = VersionedTextDocumentIdentifier { uri, version: 1 };
-            let content_changes = words[2..].chunks(5).map(change).collect();
+            let text_document = VersionedTextDocumentIdentifier { uri, version: words[2].parse().unwrap() };
+            let content_changes = words[3..].chunks(5).map(change).collect();
             server.did_change(DidChangeTextDocumentParams { text_document, content_changes }).await;
         }
         "hover" => {
