@@ -91,7 +91,7 @@ def words_of(name, crates, folder):
 def run(words, what, **how):
     ran = subprocess.run(words, stdout=subprocess.PIPE, stderr=subprocess.STDOUT, text=True, errors="replace", **how)
     if ran.returncode:
-        raise Failed(f"{what} fails:\n{ran.stdout[-3000:]}")
+        raise Failed(f"{what} fails, with status {ran.returncode}:\n{ran.stdout[-3000:]}")
     return ran.stdout
 
 
