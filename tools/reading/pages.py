@@ -1,13 +1,17 @@
 """The pages of tools/pages: a sentence, the clauses that say it, what is said elsewhere, and how long the page may be."""
 import configparser
+import glob
 import re
 
 from .closures import Closure, Target, Unknown, definition_named, target_named
 from .tokens import Token
 
-OTHERS = ("tokens", "users", "inside")
-# A row under "In short" of docs/PROVED.md: what is said, what the page is of, how long it is alone, with those below it, and its types
-LENGTHS = re.compile(r"(?m)^\| ([^|]+) \| `([^`|]+)` \| ([\d,]+) \| ([\d,]+) \| ([\d,]+) \|$")
+OTHERS = ("tokens", "users", "inside", "edits")
+# A row under "In short" of docs/PROVED.md: what is promised, what the page is of, how long it is alone, with those
+# below it, its types, and what isn't covered
+LENGTHS = re.compile(r"(?m)^\| \*\*(.*?)\*\*[^|]* \| `([^`|]+)` \| ([\d,]+) \| ([\d,]+) \| ([\d,]+) \| [^|]+ \|$")
+# What a row of [edits] begins with where a call of the kit's code must not be made so: it has no clause of ours
+REQUIRES = "requires "
 
 
 def words_of(text):
@@ -40,6 +44,7 @@ class Pages:
         self.tokens = {name: Token(repository, name, subject) for name, subject in file["tokens"].items()}
         self.users = {user: words_of(calls) for user, calls in file["users"].items()}
         self.known = dict(file["inside"]) if "inside" in file else {}
+        self.edits = dict(file["edits"])
 
     def page_of(self, target):
         """Returns the page that a target is of, named as the row does or longer."""
@@ -121,20 +126,55 @@ class Pages:
         for page in self.pages:
             yield from self.faults_of(page)
         yield from self.faults_of_users()
-        points, said = points_of(proved), {it.sentence: it for it in self.pages if it.sentence}
-        rows = {what: name for what, name, *_ in LENGTHS.findall(proved)}
-        for sentence in points - said.keys():
+        yield from self.faults_of_edits()
+        yield from self.faults_of_counts(proved)
+        rows = {what.rstrip(".,:"): name for what, name, *_ in LENGTHS.findall(proved)}
+        said = {it.sentence: it for it in self.pages if it.sentence}
+        for sentence in rows.keys() - said.keys():
             yield f"docs/PROVED.md says under \"In short\" \"{sentence}\", and no page has it as its sentence"
-        for sentence in said.keys() - points:
-            yield f"tools/pages: no point under \"In short\" of docs/PROVED.md begins with \"{sentence}\""
         for sentence, page in said.items():
             if rows.get(sentence) != page.of[0]:
-                yield f"docs/PROVED.md has no row \"{sentence}\" with `{page.of[0]}`"
+                yield f"docs/PROVED.md has no row \"{sentence}\" with `{page.of[0]}` under \"In short\""
         for _, name, *lines in LENGTHS.findall(proved):
             if not (page := self.page_of(name)):
                 yield f"docs/PROVED.md says how long the page of `{name}` is, and there is none"
             elif lines != (wanted := [f"{it:,}" for it in self.lengths_of(page)]):
                 yield f"docs/PROVED.md says {', '.join(lines)} lines of `{name}`: {', '.join(wanted)}"
+
+    def edits_in(self, folder):
+        """Returns the must-fail edits in such folders, by their crates and names."""
+        paths = [it.split("/") for it in glob.glob(f"{self.repository.top}/crates/*/{folder}/*.edit")]
+        return {f"{path[-3]}/{path[-1].removesuffix('.edit')}" for path in paths}
+
+    def faults_of_counts(self, proved):
+        """Yields numbers in docs/PROVED.md that aren't those of the sources."""
+        calls, edits = self.user_calls(), self.edits_in("must-fail")
+        counts = {
+            r"The (\S+) calls for users": len(calls),
+            r"speak of some (\S+) lines of `specs/`": round(self.closure_of_calls(calls).size, -2),
+            r"each of (\S+) mistakes in the code": len(edits),
+            r"in each of (\S+) crates": len({it.partition("/")[0] for it in edits}),
+            r"Of some (\S+) more, in `more-must-fail/`": round(len(self.edits_in("more-must-fail")), -2),
+        }
+        if self.repository.kit:
+            kit_lines = lambda name: sum(it.size for it in self.closure_of(self.page_of(name)).kit_definitions)
+            counts[r"(\d+) lines for JSON"] = kit_lines("reading")
+            counts[r"(\d+) for a command line"] = kit_lines("lspsync::AreWordsReadAs")
+        for pattern, count in counts.items():
+            if re.findall(pattern, " ".join(proved.split())) != [f"{count:,}"]:
+                yield f"docs/PROVED.md doesn't have the number {count:,} in \"{pattern}\""
+
+    def faults_of_edits(self):
+        """Yields edits of the gate for which no clause is named, and rows that name what isn't there."""
+        edits = self.edits_in("must-fail")
+        yield from (f"tools/pages: [edits] has no row for {it}" for it in sorted(edits - self.edits.keys()))
+        for it in sorted(self.edits.keys() - edits):
+            yield f"tools/pages: [edits] names {it}, and the gate tries no such edit"
+        for edit, clause in self.edits.items():
+            try:
+                clause.startswith(REQUIRES) or target_named(self.repository, clause)
+            except Unknown as fault:
+                yield f"tools/pages: [edits] {edit}: {fault}"
 
     def faults_of(self, page):
         closure = self.closure_of(page)
@@ -162,9 +202,3 @@ class Pages:
         for clause in self.known:
             if clause not in inside:
                 yield f"tools/pages: the clause {clause} is listed under [inside], and reaches nothing there"
-
-
-def points_of(proved):
-    """Returns the bold beginnings of the points under "In short"."""
-    part = proved.partition("\n## In short\n")[2].partition("\n## ")[0]
-    return {it.rstrip(",.:") for it in re.findall(r"(?m)^- \*\*(.*?)\*\*", part)}

@@ -389,8 +389,8 @@ under_own : (limits : LimitsData) (encoding : Encoding) (old new : SquashData) {
 under_own limits encoding old new {version} {batch} same coded added = (
   subst (λ (k : SquashData). IsSquashAfter k version batch new) (own limits encoding old same coded)
       (subst (λ (k : SquashData). IsSquashAfter (squash_under limits encoding old) version batch k)
-      (own limits encoding new (added.1.0 ∙ same) (added.1.1.0 ∙ coded)) added.0),
-  added.1.1.1,
+      (own limits encoding new (added.1 ∙ same) (added.2 ∙ coded)) added.0),
+  added.3,
 )
 
 on_same : (store : StoreData) (plan : Plan) (a b : IsPlanOn store plan) → a.entry ≡ b.entry
