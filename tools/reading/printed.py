@@ -103,10 +103,11 @@ def print_kit(closure):
         print(f"{file}, {sum(it.size for it in held)} lines: " + ", ".join(sorted(it.name for it in held)))
     said = lambda which: ", ".join(sorted({it.said for it in closure.named if which(it)}))
     is_known = closure.repository.is_found
+    unread = "not in the sources" if closure.repository.kit else "not read, since `rt` isn't here"
     for what, which in (
         ("types of their code", lambda it: is_known(it) and it.is_of_type),
         ("of the logic below them", lambda it: is_known(it) and it.is_of_logic),
-        ("not read, since `rt` isn't here", lambda it: not is_known(it)),
+        (unread, lambda it: not is_known(it)),
     ):
         if names := said(which):
             print(f"{what}: {names}")

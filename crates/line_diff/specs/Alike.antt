@@ -1,6 +1,7 @@
 -- Texts that differ by line ends, the last line end and a byte order mark alone. Texts are bytes.
 use Rattle.std.specs.Prelude.{ℕ, ◌-◌, Bool, true, false, not, ◌&&◌, ◌||◌, ◌==◌, if◌then◌else◌, length, drop, take, List, [], ◌∷◌}
 use Rattle.std.specs.Str.{bytes_eq}
+use Rattle.line_diff.specs.Common.{common_front}
 
 -- A byte order mark.
 abbrev pub mark : List ℕ
@@ -57,3 +58,11 @@ have_same_ends text other =
     if has_last_end text && has_last_end other
     then bytes_eq (without_mark text) (without_mark other)
     else bytes_eq (without_last_end text) (without_last_end other)
+
+-- The index in a text of the first line end that another one has in another form. Where that one has
+-- a line feed after a carriage return that both have, this is the carriage return's.
+unfoldable pub first_end : List ℕ → List ℕ → ℕ
+first_end text other =
+    if ends_with_byte 13 (take (common_front text other) text)
+    && bytes_eq (take 1 (drop (common_front text other) other)) (10 ∷ [])
+    then common_front text other - 1 else common_front text other

@@ -3,8 +3,7 @@ use Rattle.std.specs.Prelude.{ℕ, zero, suc, ◌+◌, ◌-◌, Bool, true, fals
 use Rattle.std.specs.Option.{unwrap_or}
 use Rattle.std.specs.Str.{bytes_eq}
 use Rattle.line_diff.specs.declared.hunks.Hunk.{Hunk}
-use Rattle.line_diff.specs.Alike.{are_alike, has_last_end, has_mark, have_same_ends, have_same_marks}
-use Rattle.line_diff.specs.Common.{common_front}
+use Rattle.line_diff.specs.Alike.{are_alike, first_end, has_last_end, has_mark, have_same_ends, have_same_marks}
 use Rattle.line_diff.specs.Hunks.{hunks_of}
 use Rattle.line_diff.specs.Lines.{lines_of}
 use Rattle.line_diff.specs.Makers.{MakerNumbers, NumberRows, makers_of, number_at, number_rows, row_at}
@@ -120,10 +119,10 @@ ends_words same known last =
 
 -- In what a document's text and a file differ that are alike, a line for each.
 unfoldable pub alike_words : List ℕ → List ℕ → List ℕ → List ℕ
-alike_words text places file =
+alike_words text owners file =
     codes "the file's, but for\n"
     ++ ends_words (have_same_ends text file) (have_same_marks text file)
-    (number_at places (common_front text file))
+    (number_at owners (first_end text file))
     ++ alone_words (codes "  the last line end") (has_last_end text) (has_last_end file)
     ++ alone_words (codes "  a byte order mark") (has_mark text) (has_mark file)
 
@@ -133,7 +132,7 @@ alike_words text places file =
 unfoldable pub judgement : List ℕ → List ℕ → List ℕ → List ℕ → List ℕ
 judgement text owners places file =
     if bytes_eq text file then codes "the file's\n"
-    else if are_alike text file then alike_words text places file
+    else if are_alike text file then alike_words text owners file
     else difference_words owners places (lines_of text) (lines_of file)
 
 abbrev pub report_of : List ℕ → ℕ → List ℕ → List ℕ → List ℕ → List ℕ

@@ -1,9 +1,10 @@
 //! Texts that differ by line ends, the last line end and a byte order mark alone.
 
 ghost use Rattle.std.specs.Prelude.{◌≡◌, IfOk, false};
-ghost use Rattle.line_diff.specs.Alike.{are_alike, ends_with_byte, has_last_end, has_mark};
+ghost use Rattle.line_diff.specs.Alike.{are_alike, ends_with_byte, first_end, has_last_end, has_mark};
 ghost use Rattle.line_diff.specs.Alike.{have_same_ends, have_same_marks, without_last_end, with_feeds, without_last_byte, without_mark};
 
+use crate::owners::common_front;
 use std::alloc::{AllocError, Global};
 
 /// A byte order mark.
@@ -57,6 +58,20 @@ pub fn has_last_end(text: &[u8]) -> bool
     ensures { result ≡ has_last_end text.now }
 {
     ends_with_byte(b'\n', text) || ends_with_byte(b'\r', text)
+}
+
+/// Returns the index of the first line end of a text that another one has in another form. Where
+/// that one has a line feed after a carriage return that both have, this is the carriage return's.
+#[tactic(auto, unfolding(crate::specs::Alike::first_end))]
+pub fn first_end(text: &[u8], other: &[u8]) -> usize
+    ensures { result ≡ first_end text.now other.now }
+{
+    let front = common_front(text, other);
+    if ends_with_byte(b'\r', &text[..front]) && other[front..].starts_with(b"\n") {
+        front - 1
+    } else {
+        front
+    }
 }
 
 /// Copies a text, with a line feed for each line end.

@@ -7,11 +7,10 @@ ghost use Rattle.line_diff.specs.Report.{hunk_head, hunk_words, judgement, last_
 ghost use Rattle.line_diff.specs.Report.{later_number, number_words, other_for, own_line, own_line_at};
 ghost use Rattle.line_diff.specs.Report.{report_of, text_at, words_from};
 
-use crate::alike::{are_alike, has_last_end, has_mark, have_same_ends, have_same_marks};
+use crate::alike::{are_alike, first_end, has_last_end, has_mark, have_same_ends, have_same_marks};
 use crate::hunks::{Hunk, hunks_of};
 use crate::lines::{line_at, lines_of};
 use crate::makers::{Makers, NAMED, Numbers, Rows, first_of, makers_of, number_at, row_at};
-use crate::owners::common_front;
 use crate::shown::push_shown;
 use itoa::Buffer;
 use std::alloc::{AllocError, Global};
@@ -349,18 +348,18 @@ fn push_ends(buffer: &mut Vec<u8>, same: bool, known: bool, last: u64) -> Result
 fn push_alike(
     buffer: &mut Vec<u8>,
     text: &[u8],
-    places: &[u64],
+    owners: &[u64],
     file: &[u8],
 ) -> Result<(), AllocError>
     ensures { OnOk result (buffer.new.items ≡ buffer.old.items
-        ++ alike_words text.now places.now file.now) }
+        ++ alike_words text.now owners.now file.now) }
 {
     push_words(buffer, "the file's, but for\n")?;
     push_ends(
         buffer,
         have_same_ends(text, file),
         have_same_marks(text, file),
-        number_at(places, common_front(text, file)),
+        number_at(owners, first_end(text, file)),
     )?;
     push_alone(
         buffer,
@@ -393,7 +392,7 @@ fn push_judgement(
         return push_words(buffer, "the file's\n");
     }
     if are_alike(alloc, text.as_bytes(), file.as_bytes())? {
-        return push_alike(buffer, text.as_bytes(), numbers.places, file.as_bytes());
+        return push_alike(buffer, text.as_bytes(), numbers.owners, file.as_bytes());
     }
     push_differences(alloc, buffer, text, numbers, file)
 }

@@ -10,7 +10,7 @@ returns c =
       c.in_ok-push_alone.ensures,
       c.in_ok-push_ends.ensures,
       c.number_at.ensures,
-      c.common_front.ensures.value,
+      c.first_end.ensures,
       c.have_same_marks.ensures,
       c.in_ok-push_words.ensures,
       c.have_same_ends.ensures,

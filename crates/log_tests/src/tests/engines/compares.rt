@@ -11,6 +11,13 @@ const THREE_LINES: &str =
 const SECOND_LINE: &str =
     r#"{"jsonrpc":"2.0","method":"textDocument/didChange","params":{"contentChanges":[{"range":{"start":{"line":1,"character":0},"end":{"line":1,"character":3}},"text":"2\t"}],"textDocument":{"uri":"file:///a","version":2}}}"#;
 
+/// Opens a document of two lines, and inserts a letter after the end of the first.
+const TWO_LINES: &str =
+    r#"{"jsonrpc":"2.0","method":"textDocument/didOpen","params":{"textDocument":{"languageId":"c","text":"a\rb","uri":"file:///a","version":1}}}"#;
+
+const AFTER_AN_END: &str =
+    r#"{"jsonrpc":"2.0","method":"textDocument/didChange","params":{"contentChanges":[{"range":{"start":{"line":1,"character":0},"end":{"line":1,"character":0}},"text":"c"}],"textDocument":{"uri":"file:///a","version":2}}}"#;
+
 /// Inserts a letter before one that is alike.
 const ALIKE: &str =
     r#"{"jsonrpc":"2.0","method":"textDocument/didChange","params":{"contentChanges":[{"range":{"start":{"line":2,"character":3},"end":{"line":2,"character":3}},"text":"e"}],"textDocument":{"uri":"file:///a","version":2}}}"#;
@@ -27,7 +34,7 @@ const ANOTHER: &str =
     r#"{"jsonrpc":"2.0","method":"textDocument/didOpen","params":{"textDocument":{"languageId":"c","text":"","uri":"file:///b","version":1}}}"#;
 
 /// The session, the file, the end, and what is written.
-static ROWS: [(&[&str], &str, End, &str); 13] = [
+static ROWS: [(&[&str], &str, End, &str); 15] = [
     (
         &[INITIALIZE, OPEN, WHOLE],
         "aXc",
@@ -52,6 +59,19 @@ static ROWS: [(&[&str], &str, End, &str); 13] = [
         "one\r\ntwo\rthree\n",
         Ended(1, 2, 0),
         "\"file:///a\" after message 2: the text is the file's, but for\n  line ends, the first of them made by message 2\n",
+    ),
+    // A line end is of the message that made it, whatever was changed before or after it.
+    (
+        &[INITIALIZE, THREE_LINES, SECOND_LINE],
+        "one\n2\t\r\nthree\n",
+        Ended(1, 3, 0),
+        "\"file:///a\" after message 3: the text is the file's, but for\n  line ends, the first of them made by message 2\n",
+    ),
+    (
+        &[INITIALIZE, TWO_LINES, AFTER_AN_END],
+        "a\r\ncb",
+        Ended(1, 3, 0),
+        "\"file:///a\" after message 3: the text is the file's, but for\n  line ends, the first of them made by message 2\n",
     ),
     // A line differs, and one is missing at the end.
     (
