@@ -9,6 +9,7 @@ BINDIR = $(PREFIX)/bin
 LIBDIR = $(PREFIX)/lib
 INCLUDEDIR = $(PREFIX)/include
 DATADIR = $(PREFIX)/share
+DOCDIR = $(DATADIR)/doc/laspidru
 INSTALL = install
 
 # In the repository the programs lie where rt builds them, and a release has them at its top.
@@ -27,7 +28,9 @@ HEADER = crates/laspidru/include/laspidru.h
 # The programs over logs, with what they import, and the pages that say what a log, a code and a note are
 TOOLS = record log-from lines-from-log log-from-lines
 TOOL_FILES = bin/session_log.py bin/log_forms.py
-PAGES = docs/PROTOCOL.md docs/LSPSYNC.md docs/LOGS.md docs/CLIENTS.md docs/LIBRARY.md crates/laspidru/include/CODES.md
+PAGES = $(addprefix docs/,PROTOCOL.md LSPSYNC.md LOGS.md CLIENTS.md LIBRARY.md c.md) crates/laspidru/include/CODES.md
+LICENCES = LICENSE-MIT LICENSE-APACHE
+EXAMPLES = $(sort $(wildcard examples/*.log examples/*.events))
 MAN_PAGES = lspsync lsp_simulate $(TOOLS:%=lspsync-%)
 ARCHIVE = crates/laspidru/out/liblaspidru.a
 BUILD = build
@@ -100,14 +103,16 @@ $(SHARED): $(ARCHIVE) $(BUILD)/heap.o bindings/exports.map
 $(ARCHIVE):
 	@echo "$@ isn't built: tools/c proves and builds it ($$(cat install/kit); README.md, Run it)" >&2; exit 1
 
-needed:
+prefix:
 	@case "$(PREFIX)" in /*) ;; *) echo "PREFIX has to begin with /, and it is $(PREFIX)" >&2; exit 1 ;; esac
+
+needed: prefix
 	@install/needed "$(SYNC_PROGRAM)" "$(SIMULATE_PROGRAM)" "$(ARCHIVE)" "$(STATIC)" "$(SHARED)"
 
 install: needed
 	$(INSTALL) -d "$(DESTDIR)$(BINDIR)" "$(DESTDIR)$(LIBDIR)/pkgconfig" "$(DESTDIR)$(INCLUDEDIR)" "$(DESTDIR)$(DATADIR)/man/man1" \
 	    "$(DESTDIR)$(DATADIR)/bash-completion/completions" "$(DESTDIR)$(DATADIR)/zsh/site-functions" \
-	    "$(DESTDIR)$(DATADIR)/fish/vendor_completions.d" "$(DESTDIR)$(DATADIR)/laspidru" "$(DESTDIR)$(DATADIR)/doc/laspidru"
+	    "$(DESTDIR)$(DATADIR)/fish/vendor_completions.d" "$(DESTDIR)$(DATADIR)/laspidru" "$(DESTDIR)$(DOCDIR)/examples"
 	$(INSTALL) -m 755 "$(SYNC_PROGRAM)" "$(DESTDIR)$(BINDIR)/lspsync"
 	$(INSTALL) -m 755 "$(SIMULATE_PROGRAM)" "$(DESTDIR)$(BINDIR)/lsp_simulate"
 	$(INSTALL) -m 644 "$(HEADER)" "$(DESTDIR)$(INCLUDEDIR)/laspidru.h"
@@ -115,7 +120,8 @@ install: needed
 	$(INSTALL) -m 755 "$(SHARED)" "$(DESTDIR)$(LIBDIR)/liblaspidru.so.$(VERSION)"
 	ln -sf liblaspidru.so.$(VERSION) "$(DESTDIR)$(LIBDIR)/$(SONAME)"
 	ln -sf $(SONAME) "$(DESTDIR)$(LIBDIR)/liblaspidru.so"
-	sed -e 's|@PREFIX@|$(PREFIX)|; s|@LIBDIR@|$(LIBDIR)|; s|@INCLUDEDIR@|$(INCLUDEDIR)|; s|@VERSION@|$(VERSION)|' install/laspidru.pc.in \
+	sed -e 's|@LIBDIR@|$(LIBDIR)|; s|@INCLUDEDIR@|$(INCLUDEDIR)|; s|=$(PREFIX)/|=$${prefix}/|' \
+	    -e 's|@PREFIX@|$(PREFIX)|; s|@VERSION@|$(VERSION)|' install/laspidru.pc.in \
 	    >"$(DESTDIR)$(LIBDIR)/pkgconfig/laspidru.pc"
 	for name in $(MAN_PAGES); do \
 	    sed -e 's|@VERSION@|$(VERSION)|' "install/$$name.1" >"$(DESTDIR)$(DATADIR)/man/man1/$$name.1" || exit 1; \
@@ -125,22 +131,27 @@ install: needed
 	$(INSTALL) -m 755 $(TOOLS:%=bin/%) "$(DESTDIR)$(DATADIR)/laspidru"
 	$(INSTALL) -m 644 $(TOOL_FILES) "$(DESTDIR)$(DATADIR)/laspidru"
 	for name in $(TOOLS); do ln -sfr "$(DESTDIR)$(DATADIR)/laspidru/$$name" "$(DESTDIR)$(BINDIR)/lspsync-$$name" || exit 1; done
-	$(INSTALL) -m 644 $(PAGES) $(wildcard $(PAGE)) "$(DESTDIR)$(DATADIR)/doc/laspidru"
+	for page in $(PAGES); do \
+	    installed="$(DESTDIR)$(DOCDIR)/$${page##*/}"; \
+	    install/plain "$$page" $(notdir $(PAGES)) >"$$installed" && chmod 644 "$$installed" || exit 1; \
+	done
+	$(INSTALL) -m 644 $(LICENCES) $(wildcard $(PAGE)) "$(DESTDIR)$(DOCDIR)"
+	$(INSTALL) -m 644 $(EXAMPLES) "$(DESTDIR)$(DOCDIR)/examples"
 	$(INSTALL) -m 644 install/lspsync.bash "$(DESTDIR)$(DATADIR)/bash-completion/completions/lspsync"
 	$(INSTALL) -m 644 install/_lspsync "$(DESTDIR)$(DATADIR)/zsh/site-functions/_lspsync"
 	$(INSTALL) -m 644 install/lspsync.fish "$(DESTDIR)$(DATADIR)/fish/vendor_completions.d/lspsync.fish"
 	@[ -n "$(DESTDIR)" ] || install/loader "$(LIBDIR)" "$(SONAME)"
 
-uninstall:
+uninstall: prefix
 	rm -f "$(DESTDIR)$(BINDIR)/lspsync" "$(DESTDIR)$(BINDIR)/lsp_simulate" "$(DESTDIR)$(INCLUDEDIR)/laspidru.h" \
 	    "$(DESTDIR)$(LIBDIR)/liblaspidru.a" "$(DESTDIR)$(LIBDIR)/liblaspidru.so.$(VERSION)" "$(DESTDIR)$(LIBDIR)/$(SONAME)" \
 	    "$(DESTDIR)$(LIBDIR)/liblaspidru.so" "$(DESTDIR)$(LIBDIR)/pkgconfig/laspidru.pc" \
 	    $(MAN_PAGES:%="$(DESTDIR)$(DATADIR)/man/man1/%.1") $(TOOLS:%="$(DESTDIR)$(BINDIR)/lspsync-%") \
 	    $(addprefix "$(DESTDIR)$(DATADIR)/laspidru/",$(TOOLS) $(notdir $(TOOL_FILES))) \
-	    $(addprefix "$(DESTDIR)$(DATADIR)/doc/laspidru/",$(notdir $(PAGES) $(PAGE))) \
+	    $(addprefix "$(DESTDIR)$(DOCDIR)/",$(notdir $(PAGES) $(PAGE)) $(LICENCES) $(EXAMPLES)) \
 	    "$(DESTDIR)$(DATADIR)/bash-completion/completions/lspsync" "$(DESTDIR)$(DATADIR)/zsh/site-functions/_lspsync" \
 	    "$(DESTDIR)$(DATADIR)/fish/vendor_completions.d/lspsync.fish"
-	@rmdir "$(DESTDIR)$(DATADIR)/laspidru" "$(DESTDIR)$(DATADIR)/doc/laspidru" 2>/dev/null || true
+	@rmdir "$(DESTDIR)$(DATADIR)/laspidru" "$(DESTDIR)$(DOCDIR)/examples" "$(DESTDIR)$(DOCDIR)" 2>/dev/null || true
 
 packages:
 	@BUILT="$(BUILD)" install/packages "$(VERSION)" "$(RELEASE)" "$(PACKAGES)" $(KINDS)
@@ -148,7 +159,7 @@ packages:
 check-packages:
 	@install/test_packages "$(VERSION)" "$(PACKAGES)"
 
-.PHONY: help library needed install uninstall packages check-packages
+.PHONY: help library prefix needed install uninstall packages check-packages
 
 ifneq ($(wildcard launch),)
 CRATE =

@@ -3,6 +3,11 @@
 // Copy this file, and replace `answer` by what asks your library. LASPIDRU_ADDON names the addon, if it isn't in bindings/node.
 'use strict';
 const readline = require('readline');
+
+if (process.argv.length > 2) {
+  console.error(`run.js takes no words: ${process.argv[2]}`);
+  process.exit(2);
+}
 const { FrameFault, Framer, Server, TextDocument } = require('../bindings/node');
 
 const REFUSALS = {

@@ -1,6 +1,7 @@
 """Answers the vectors by laspidru, for ask.py: a vector on each line of standard input, and a line of JSON for it.
 
 Copy this file, and replace `answer` by what asks your library. LASPIDRU_LIBRARY names the shared library that `make library` builds."""
+import argparse
 import json
 import os
 import sys
@@ -9,7 +10,8 @@ sys.path.insert(0, os.path.join(os.path.dirname(os.path.realpath(__file__)), "..
 try:
     import laspidru
 except ImportError as why:
-    sys.exit(f"run.py asks laspidru until you replace `answer` and this import: {why}")
+    print(f"run.py asks laspidru until you replace `answer` and this import: {why}", file=sys.stderr)
+    sys.exit(2)
 
 REFUSALS = {"INSIDE_CHARACTER": "inside-character", "REVERSED_RANGE": "reversed-range", "OVERLAP": "overlap",
             "OUT_OF_RANGE": "invalid-params"}
@@ -76,6 +78,7 @@ def answer(vector):
 
 
 def main():
+    argparse.ArgumentParser(description=__doc__).parse_args()
     for line in sys.stdin:
         try:
             found = answer(json.loads(line))

@@ -208,6 +208,21 @@ local function demand_change(code, fault)
     demand(code)
 end
 
+local function batch_of_text_edits(edits)
+    for _, edit in ipairs(edits) do
+        if not edit.range then error("a text edit has no range", 0) end
+    end
+    return batch(edits, "newText")
+end
+
+local function demand_edits(code, fault)
+    if is(code, "INSIDE_CHARACTER", "REVERSED_RANGE", "OVERLAP") then
+        local other = is(code, "OVERLAP") and tonumber(fault.other) or nil
+        refuse(CODES[code], { edit = tonumber(fault.edit), other = other, at_end = fault.at_end })
+    end
+    demand(code)
+end
+
 local function written(edit, text)
     if edit.is_whole then return { text = text } end
     return {
@@ -274,17 +289,17 @@ end
 
 -- Makes text edits, as a formatter returns them, or none of them. All count in the text as it is.
 function Document:apply_edits(edits_)
-    for _, edit in ipairs(edits_) do
-        if not edit.range then error("a text edit has no range", 0) end
-    end
-    local edits, count, texts = batch(edits_, "newText")
+    local edits, count, texts = batch_of_text_edits(edits_)
     local fault = ffi.new("laspidru_edits_fault")
-    local code = C.laspidru_document_apply_edits(self.handle, self.encoding, edits, count, texts, #texts, fault)
-    if is(code, "INSIDE_CHARACTER", "REVERSED_RANGE", "OVERLAP") then
-        local other = is(code, "OVERLAP") and tonumber(fault.other) or nil
-        refuse(CODES[code], { edit = tonumber(fault.edit), other = other, at_end = fault.at_end })
-    end
-    demand(code)
+    demand_edits(C.laspidru_document_apply_edits(self.handle, self.encoding, edits, count, texts, #texts, fault), fault)
+end
+
+-- The canonical batch of what text edits mean: the changes of the didChange that reports them. The text stays as it is.
+function Document:batch_of_edits(edits_)
+    local edits, count, texts = batch_of_text_edits(edits_)
+    local found, fault = new_handle(), ffi.new("laspidru_edits_fault")
+    demand_edits(C.laspidru_document_batch_of_edits(self.handle, self.encoding, edits, count, texts, #texts, found, fault), fault)
+    return changes_of(found)
 end
 
 -- The one canonical batch that means the same on the text.
@@ -320,8 +335,13 @@ Client.__index = Client
 
 local LIMITS = { max_body = 16777216, max_text = 16777216, max_docs = 1024, max_changes = 65536 }
 
--- Settings with the limits of options, which may be lenient.
-local function with_limits(settings, options)
+-- Settings with the limits of options, which may be lenient, and may have these others.
+local function with_limits(settings, options, others)
+    for name in pairs(options) do
+        if not LIMITS[name] and name ~= "lenient" and not (" " .. others .. " "):find(" " .. tostring(name) .. " ", 1, true) then
+            error("there is no option " .. tostring(name), 0)
+        end
+    end
     for name, default in pairs(LIMITS) do
         settings[name] = number(options[name] or default, 0, 2 ^ 53, "BAD_" .. name:upper())
     end
@@ -335,7 +355,7 @@ end
 function Client.new(options)
     options = options or {}
     local self = setmetatable({ handle = new_handle(), rest = "" }, Client)
-    local settings = with_limits(ffi.new("laspidru_client_settings"), options)
+    local settings = with_limits(ffi.new("laspidru_client_settings"), options, "utf8 utf32")
     settings.utf8, settings.utf32 = options.utf8 and true or false, options.utf32 and true or false
     demand(C.laspidru_client_new(self.handle, settings))
     return self
@@ -513,11 +533,21 @@ function Client:position(uri, offset)
     return { line = place.line, character = place.character }
 end
 
+-- The canonical batch of what text edits mean on the open document of a URI: the changes for `edit`. The document stays as it is.
+function Client:batch_of_edits(uri, edits_)
+    local edits, count, texts = batch_of_text_edits(edits_)
+    local handle, found, fault = self.handle, new_handle(), ffi.new("laspidru_edits_fault")
+    text_of(uri, "a URI")
+    demand_edits(C.laspidru_open_batch_of_edits(handle, uri, #uri, units_of(self), edits, count, texts, #texts, found, fault), fault)
+    return changes_of(found)
+end
+
 -- The bytes of a log: they themselves, or what is left of a file that is open.
 local function bytes_of(log)
     return type(log) == "string" and log or log:read("*a")
 end
 
+local OPTIONS = "encoding explain brief all texts bodies at uri squash documents"
 local COMMANDS = { check = 0, explain = 1, trace = 2, replay = 3, normalise = 4, convert = 5 }
 
 -- Runs a command of lspsync on a log: what it wrote, and {status, messages, refused}. Options are lspsync's:
@@ -525,7 +555,8 @@ local COMMANDS = { check = 0, explain = 1, trace = 2, replay = 3, normalise = 4,
 -- `uri` of replay, `uri` of compare, `squash` and `documents` of normalise. `saved` is the text that compare compares.
 local function run(name, log, options, saved)
     options = options or {}
-    local settings, ending = with_limits(ffi.new("laspidru_log_settings"), options), ffi.new("laspidru_ending")
+    local settings = with_limits(ffi.new("laspidru_log_settings"), options, OPTIONS)
+    local ending = ffi.new("laspidru_ending")
     for _, flag in ipairs({ "squash", "documents", "texts", "bodies", "brief", "all" }) do settings[flag] = options[flag] and true or false end
     settings.encoding, settings.has_uri = encoding_of(options.encoding or "utf-16"), options.uri ~= nil
     settings.at = options.at and number(options.at, 1, 2 ^ 53) or 0

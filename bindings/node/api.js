@@ -263,8 +263,10 @@ const LIMITS = { maxBody: 16777216, maxText: 16777216, maxDocs: 1024, maxChanges
 
 const OF_LIMITS = { maxBody: 'BAD_MAX_BODY', maxText: 'BAD_MAX_TEXT', maxDocs: 'BAD_MAX_DOCS', maxChanges: 'BAD_MAX_CHANGES' };
 
-/** The four limits of options. */
-function limitsOf(options) {
+/** The four limits of options, which may have these others too. */
+function limitsOf(options, others = []) {
+  const unknown = Object.keys(options).find((it) => !Object.hasOwn(OF_LIMITS, it) && !others.includes(it));
+  if (unknown !== undefined) throw new TypeError(`there is no option ${unknown}`);
   return Object.entries(OF_LIMITS).map(([name, code]) => {
     const limit = options[name] ?? LIMITS[name];
     if (limit >>> 0 !== limit) throw refusal(code);
@@ -576,10 +578,8 @@ const FLAGS = ['lenient', 'squash', 'documents', 'texts', 'bodies', 'has_uri', '
 let read; // the bytes of a log that isn't bytes
 
 function run(command, log, { at = 0, uri, encoding = 'utf-16', ...options } = {}, has = [], saved = undefined) {
-  const unknown = Object.keys(options).find((it) => !(it in OF_LIMITS) && it !== 'lenient' && !has.includes(it));
-  if (unknown !== undefined) throw new TypeError(`there is no option ${unknown}`);
   const flags = { ...options, has_uri: uri !== undefined };
-  const numbers = [...limitsOf(options), unitsOf(encoding), ...FLAGS.map((it) => (flags[it] ? 1 : 0))];
+  const numbers = [...limitsOf(options, ['lenient', ...has]), unitsOf(encoding), ...FLAGS.map((it) => (flags[it] ? 1 : 0))];
   const given = [bytesOf(read(log)), Uint32Array.from(numbers), byteOffsetOf(at), utf8(uri ?? ''), saved];
   const ended = addon.log(COMMANDS[command], ...given);
   if (ended.code !== 0) throw new LogFault(ended);

@@ -35,7 +35,8 @@ function run(name, words) {
   try {
     process.exitCode = runProgram(compiled(fs.readFileSync(file)), [name, ...words], system);
   } catch (error) {
-    console.error(`${name}: ${error.message}`);
+    const why = error.code === 'ENOENT' ? `${file} isn't there: for Node the programs are WebAssembly` : error.message;
+    console.error(`${name}: ${why}`);
     process.exitCode = 70;
   }
 }

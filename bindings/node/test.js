@@ -14,6 +14,11 @@ const framed = (body) => Buffer.from(`Content-Length: ${Buffer.byteLength(body)}
 const exit = framed('{"jsonrpc":"2.0","method":"exit"}');
 const opened = (text) => TextDocument.create('file:///a', 'plain', 1, text);
 
+test('each name can be imported', async () => {
+  const { default: all, 'module.exports': _, ...names } = await import('./index.js');
+  assert.deepStrictEqual(Object.keys(names).sort(), Object.keys(all).sort());
+});
+
 test('positions and lines', () => {
   const document = opened('a\r\nb\u{1F600}');
   assert.strictEqual(document.lineCount, 2);
@@ -285,6 +290,12 @@ test('a client\'s refused calls', () => {
   assert.deepStrictEqual([client.phase, client.text('a')], ['failed', '\u00e9']);
   assert.throws(() => client.deliver(Buffer.from('{}')), { code: 'WRONG_PHASE' });
   assert.throws(() => new Client({ maxDocs: 0 }), { code: 'BAD_MAX_DOCS', message: 'max_docs is out of its range, 1 to 65,536 documents' });
+});
+
+test('an option that there isn\'t is refused', () => {
+  for (const [end, option] of [[Client, 'utf_8'], [Client, 'max_docs'], [Server, 'utf8'], [Server, 'toString']]) {
+    assert.throws(() => new end({ [option]: 1 }), { name: 'TypeError', message: `there is no option ${option}` });
+  }
 });
 
 test('an event names its document, and says why it was refused', () => {

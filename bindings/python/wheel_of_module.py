@@ -8,6 +8,7 @@ so `make packages` does. Then the extension has to be there, and SOURCE_DATE_EPO
 is for that one, as `win_amd64` or `linux_aarch64`, and has no extension."""
 import base64
 import hashlib
+import json
 import os
 import re
 import shlex
@@ -21,7 +22,9 @@ import zipfile
 FOLDER = os.path.dirname(os.path.abspath(__file__))
 TOP = os.path.join(FOLDER, "..", "..")
 with open(os.path.join(FOLDER, "pyproject.toml"), encoding="utf-8") as _file:
-    VERSION = re.search(r'^version = "(.*)"$', _file.read(), re.MULTILINE).group(1)
+    _PROJECT = _file.read()
+VERSION = re.search(r'^version = "(.*)"$', _PROJECT, re.MULTILINE).group(1)
+KEYWORDS = json.loads(re.search(r"^keywords = (.*)$", _PROJECT, re.MULTILINE).group(1))
 INFO = f"laspidru-{VERSION}.dist-info"
 EXTENSION = "laspidru/_fast.abi3.so"
 LIBRARIES = {"win": "laspidru.dll", "macosx": "liblaspidru.dylib", "linux": "liblaspidru.so.0"}
@@ -32,6 +35,7 @@ Version: {VERSION}
 Summary: Texts that are kept as LSP 3.17 says, by a library that is proved
 Author: The Laspidru authors
 License: MIT OR Apache-2.0
+{"".join(f"License-File: {name}" + chr(10) for name in LICENCES)}Keywords: {",".join(KEYWORDS)}
 Requires-Python: >=3.8
 """
 OLDEST_ZIP_TIME = 315532800  # 1980-01-01

@@ -1,7 +1,8 @@
 /* Copyright (c) 2026 The Laspidru authors. SPDX-License-Identifier: MIT OR Apache-2.0 */
 
-/* Laspidru: texts that are kept as LSP 3.17 says, by a library that is proved. docs/c.md has examples,
-   CODES.md beside this file what the codes mean, and the end of this file those of each function.
+/* Laspidru: texts that are kept as LSP 3.17 says, by a library that is proved. c.md has examples, CODES.md what the
+   codes mean: both in share/doc/laspidru once installed (of Debian's package in share/doc/liblaspidru-dev). The end of
+   this file has the codes of each function.
 
    Each function but laspidru_close and laspidru_version tests the bytes, numbers and handles that it is passed, and
    returns a code. Pointers, lengths and bools are yours (CODES.md). Where the code isn't LASPIDRU_OK nothing has changed;
