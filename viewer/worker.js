@@ -120,7 +120,7 @@ function systemOf(files, log, gathered, take, said) {
       if (gathered.fault) throw new Error(gathered.fault); // (which is a failed write to the program: it ends)
       return bytes.length;
     },
-    close() {}, isTerminal: () => false,
+    close() {}, isTerminal: () => false, isFile: name => files.has(name),
   };
 }
 

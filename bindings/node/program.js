@@ -1,7 +1,7 @@
 'use strict';
 // Runs a program of the repository that is a WebAssembly module. What it asks of a system is what `system` has: `read(file, bytes)` and
-// `write(file, bytes)` return how many bytes they took, `open(path)` the number of a file, and `close(file)` and `isTerminal(file)`. Each may throw
-// an error with one of the codes below. The bytes that they are passed are of the module's memory, and are gone after the call.
+// `write(file, bytes)` return how many bytes they took, `open(path)` the number of a file, and `close(file)`, `isTerminal(file)` and `isFile(path)`.
+// Each may throw an error with one of the codes below. The bytes that they are passed are of the module's memory, and are gone after the call.
 
 // Linux's numbers and words for errors, as the native program has them.
 const ERRORS = {
@@ -46,6 +46,11 @@ function runProgram(module_, words, system) {
     }, -1),
     rattle_close: asked((file) => (system.close(file), 0), -1),
     rattle_isatty: asked((file) => Number(system.isTerminal(file)), 0),
+    // (the programs ask for a file's kind alone: this is where Linux's struct statx has it)
+    rattle_statx: asked((folder, at, flags, mask, out) => {
+      put(Uint8Array.of(0, system.isFile(path(at)) ? 0x80 : 0), Number(out) + 28, 2);
+      return 0;
+    }, -1),
     rattle_signal: () => 0n,
     rattle_errno: () => errno,
     rattle_set_errno: (number) => void (errno = number),
@@ -88,6 +93,7 @@ function inMemory(input, take, takeError = take) {
     },
     open: refuse,
     close: refuse,
+    isFile: refuse,
     isTerminal: () => false,
   };
 }

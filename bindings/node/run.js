@@ -26,6 +26,7 @@ const system = {
   open: (file) => fs.openSync(file, 'r'),
   close: (file) => fs.closeSync(file),
   isTerminal: (file) => tty.isatty(file),
+  isFile: (file) => fs.statSync(file).isFile(),
 };
 
 /** Runs a program with these words, and sets the status of the process: 70 where the module can't be run to its end. */

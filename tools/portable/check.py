@@ -22,7 +22,8 @@ WINE = shutil.which("wine64") or "/usr/lib/wine/wine64"
 NATIVE = {name: f"crates/{name}/out/{name}" for name in ("lspsync", "lsp_simulate")}
 COMMANDS = ("check", "replay", "normalise", "convert")
 WORDS = ("check", "check --explain --lenient", "trace --texts --bodies", "replay", "normalise --squash", "convert", "serve")
-PLAIN_WORDS = ("--help", "check --help", "none", "check --encoding utf-7", "")
+PLAIN_WORDS = ("--help", "check --help", "none", "check --encoding utf-7", "", "check missing.log", "replay --at 2 examples/cut-short.log",
+               "compare --uri other examples/recordings/lsp-mode.saved examples/recordings/lsp-mode.log")
 # A program of Windows that reads and writes bytes as they are
 BINARY = "#include <fcntl.h>\n#include <io.h>\n__attribute__((constructor)) static void begin(void) { _setmode(0, _O_BINARY), _setmode(1, _O_BINARY); }\n"
 PAGE = """<!doctype html><meta charset="utf-8"><script type="module">%s
@@ -152,6 +153,7 @@ def program_runs():
     """Each program, the words of a run, and what it reads."""
     yield from (("lspsync", words, log) for log in recorded() for words in WORDS)
     yield from (("lspsync", words, b"") for words in PLAIN_WORDS)
+    yield from (("lspsync", f"compare --uri notes {path} {path[:-5]}log", b"") for path in sorted(glob.glob("examples/recordings/*.saved")))
     for path in glob.glob("examples/*.events"):
         with open(path, "rb") as file:
             yield from (("lsp_simulate", words, text) for text in [file.read()] for words in ("", "--utf-8", "--sync full", "--prefer utf-8 --utf-8"))

@@ -1,12 +1,14 @@
 """Has a crate proved and built for 64-bit ARM on Linux, and keeps the LLVM modules that the kit makes of it on the way.
 
 What it calls is what `rt lib` and `rt run` call, but for the target, and for --toolchain: a folder of links to the kit's, whose bin/clang keeps
-what it is given before it compiles that. Of a crate there are then, in the folder `modules` of the builds:
+what it is given before it compiles that. A proof is the same for each target, so what `rt lib` and `rt run` kept of the crate is taken, and
+they take what is kept here. Of a crate there are then, in the folder `modules` of the builds:
 
     CRATE.bc     the module before LLVM's optimisations, from which all targets but ARM's are made
     CRATE.ll     the module after them, and after the kit's own mending of it, for 64-bit ARM
     CRATE.a      the kit's own archive of a library for 64-bit ARM on Linux, or object file of a program
     CRATE.sum    what these were made of, so that nothing is done again while that is the same"""
+import contextlib
 import functools
 import hashlib
 import os
@@ -89,17 +91,21 @@ def words_of(name, crates, folder):
 def run(words, what, **how):
     ran = subprocess.run(words, stdout=subprocess.PIPE, stderr=subprocess.STDOUT, text=True, errors="replace", **how)
     if ran.returncode:
-        raise Failed(f"{what} fails:\n{ran.stdout[-3000:]}")
+        raise Failed(f"{what} fails, with status {ran.returncode}:\n{ran.stdout[-3000:]}")
     return ran.stdout
 
 
-def build_below(name, crates, folder):
-    """Builds the libraries that a crate stands on. What `rt ci` has proved of the same files on this machine it keeps beside the kit, and that is taken,
-    by rt's own functions; `rt lib` alone would prove it once more."""
+@functools.lru_cache(None)
+def rt_of(folder):
+    """rt's own functions."""
     rt = SourceFileLoader("rt", f"{folder}/bin/rt").load_module()
     rt.Crate.allowed = rt.handles_of(os.getcwd())
-    names = below(name, crates)
-    libraries = [it for it in rt.crates_of(os.getcwd()) if it.name in names]
+    return rt
+
+
+def build_below(rt, libraries):
+    """Builds the libraries that a crate stands on. What `rt ci` has proved of the same files on this machine it keeps beside the kit, and that is
+    taken; `rt lib` alone would prove it once more."""
     store = rt.Kept(libraries)
     for crate in libraries:
         at = os.path.dirname(crate.rlib)
@@ -114,6 +120,19 @@ def build_below(name, crates, folder):
         store.is_built(crate)
 
 
+@contextlib.contextmanager
+def working_in(rt, crate):
+    """Keeps other calls of rt out of a crate's folder, whose kept work begins with the best that there is on this machine, and is then offered."""
+    stamp, held = crate.stamp(), rt.rtlib.lock([crate])
+    try:
+        rt.adopt(crate)
+        yield
+        rt.offer(crate, stamp)
+    finally:
+        for it in held:
+            os.close(it)
+
+
 def kept(name, to):
     """Makes the files of a crate in a folder, where they aren't there or are of something else. Returns the path that they begin with."""
     folder, line = kit()
@@ -124,9 +143,14 @@ def kept(name, to):
             if file.read().split("\n")[0] == made_of:
                 return path
     os.makedirs(to, exist_ok=True)
-    build_below(name, crates, folder)
+    rt, names = rt_of(folder), below(name, crates)
+    every = {it.name: it for it in rt.crates_of(os.getcwd())}
+    build_below(rt, [it for it in every.values() if it.name in names])
+    crate = every[name]
+    rt.read_files(crate)
+    crate.out = sys.stderr
     print(f"{name}: proving and building it", file=sys.stderr, flush=True)
-    with tempfile.TemporaryDirectory() as made:
+    with tempfile.TemporaryDirectory() as made, working_in(rt, crate):
         os.mkdir(f"{made}/bin")
         os.symlink(f"{folder}/toolchain/lib", f"{made}/lib")
         for tool in os.listdir(f"{folder}/toolchain/bin"):

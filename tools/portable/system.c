@@ -7,6 +7,7 @@
 #include <stdint.h>
 #include <stdlib.h>
 #include <string.h>
+#include <sys/stat.h>
 #include <windows.h>
 #include <shellapi.h>
 /* No one call reads or writes more than this. */
@@ -16,6 +17,7 @@ static unsigned part(uint64_t size) { return size < 1 << 30 ? (unsigned)size : 1
 #elif defined __APPLE__
 /* Declared here, so that no headers of macOS are needed. */
 typedef __SIZE_TYPE__ size_t;
+typedef __UINT16_TYPE__ uint16_t;
 typedef __INT32_TYPE__ int32_t;
 typedef __INT64_TYPE__ int64_t;
 typedef __UINT64_TYPE__ uint64_t;
@@ -24,6 +26,12 @@ long read(int, void *, size_t), write(int, const void *, size_t);
 void *memcpy(void *, const void *, size_t), (*signal(int, void (*)(int)))(int);
 size_t strlen(const char *);
 char *strerror(int);
+struct stat { int32_t st_dev; uint16_t st_mode; unsigned char others[138]; };
+#ifdef __x86_64__
+int stat(const char *, struct stat *) __asm("_stat$INODE64");
+#else
+int stat(const char *, struct stat *);
+#endif
 #define errno (*__error())
 enum { SIGPIPE = 13, EINVAL = 22, ERANGE = 34, EAGAIN = 35, O_RDONLY = 0, O_CLOEXEC = 0x1000000 };
 #define SIG_IGN ((void (*)(int))1)
@@ -33,6 +41,7 @@ enum { SIGPIPE = 13, EINVAL = 22, ERANGE = 34, EAGAIN = 35, O_RDONLY = 0, O_CLOE
 #include <signal.h>
 #include <stdint.h>
 #include <string.h>
+#include <sys/stat.h>
 #include <unistd.h>
 #endif
 
@@ -54,11 +63,15 @@ int64_t rattle_arg(uint64_t index, unsigned char *out, uint64_t room) {
     return length <= room ? (int64_t)length : -2;
 }
 
+#ifdef _WIN32
+static wchar_t wide[32768];
+static int widened(const char *path) { return MultiByteToWideChar(CP_UTF8, MB_ERR_INVALID_CHARS, path, -1, wide, 32768); }
+#endif
+
 /* Opens a file to read it; to write is not needed, and refused. */
 int32_t rattle_open(const char *path, int32_t flags, ...) {
 #ifdef _WIN32
-    wchar_t wide[32768];
-    if (!(flags & 3) && MultiByteToWideChar(CP_UTF8, MB_ERR_INVALID_CHARS, path, -1, wide, 32768))
+    if (!(flags & 3) && widened(path))
         return _wopen(wide, _O_RDONLY | _O_BINARY | _O_NOINHERIT);
 #else
     if (!(flags & 3))
@@ -66,6 +79,21 @@ int32_t rattle_open(const char *path, int32_t flags, ...) {
 #endif
     errno = EINVAL;
     return -1;
+}
+
+/* Puts what kind of file a path names where Linux's struct statx has it. The programs ask for nothing else of a file. */
+int32_t rattle_statx(int32_t folder, const char *path, int32_t flags, int32_t mask, unsigned char *out) {
+    (void)folder, (void)flags, (void)mask;
+#ifdef _WIN32
+    struct _stat64 found;
+    int failed = widened(path) ? _wstat64(wide, &found) : (errno = EINVAL, -1);
+#else
+    struct stat found;
+    int failed = stat(path, &found);
+#endif
+    if (!failed)
+        out[28] = (unsigned char)found.st_mode, out[29] = (unsigned char)(found.st_mode >> 8);
+    return failed;
 }
 
 int32_t rattle_close(int32_t file) { return close(file); }
