@@ -1,5 +1,6 @@
 /* A server on standard input and output. It keeps the open documents, and says on standard error what becomes of them. */
 #include <stdio.h>
+#include <stdlib.h>
 #include <unistd.h>
 
 #include "laspidru.h"
@@ -25,8 +26,19 @@ static void print_text(const char *what, laspidru_u32 code) {
     fprintf(stderr, "%s: %.*s\n", what, (int)len, (const char *)text);
 }
 
+/* Says which document's message was refused, and why. */
+static void print_refused(laspidru_handle *server, laspidru_size body_len, laspidru_u32 reason) {
+    unsigned char *body = (unsigned char *)malloc(body_len), uri[4096];
+    laspidru_size copied = 0, len = 0;
+    if (body && laspidru_body(server, 0, body, body_len, &copied) == LASPIDRU_OK)
+        laspidru_message_uri(body, copied, 0, uri, sizeof uri, &len);
+    free(body);
+    fprintf(stderr, "%.*s ", (int)len, (const char *)uri);
+    print_text("refused", reason);
+}
+
 /* What becomes of a message that was taken: the status to end with, or that the session goes on. */
-static int answered(laspidru_handle *server, laspidru_answer answer) {
+static int answered(laspidru_handle *server, laspidru_size body_len, laspidru_answer answer) {
     laspidru_state state = {0};
     switch (answer.kind) {
     case LASPIDRU_REPLIED: /* with the error -32601 the request is yours: answer it instead */
@@ -38,7 +50,7 @@ static int answered(laspidru_handle *server, laspidru_answer answer) {
         fprintf(stderr, "changed: %zu open\n", (size_t)state.documents);
         return GOES_ON;
     case LASPIDRU_REFUSED:
-        print_text("refused", answer.reason);
+        print_refused(server, body_len, answer.reason);
         return GOES_ON;
     case LASPIDRU_EXITED:
         return (int)answer.status;
@@ -58,7 +70,7 @@ static int take(laspidru_handle *server, const unsigned char *piece, laspidru_si
         piece += taken.bytes;
         len -= taken.bytes;
         if (taken.is_whole)
-            status = answered(server, answer);
+            status = answered(server, taken.body_len, answer);
     }
     return status;
 }

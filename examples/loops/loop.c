@@ -87,6 +87,18 @@ static int reply(laspidru_handle *server, const laspidru_taken *taken, const las
     return is_sent;
 }
 
+/* Says which document's message was refused, and why. */
+static void print_refused(laspidru_handle *server, laspidru_size body_len, laspidru_u32 reason) {
+    unsigned char uri[4096];
+    laspidru_size len = 0;
+    char *body = copy(server, laspidru_body, body_len);
+    if (body)
+        laspidru_message_uri((const unsigned char *)body, body_len, 0, uri, sizeof uri, &len);
+    free(body);
+    fprintf(stderr, "%.*s ", (int)len, (const char *)uri);
+    print_code("refused", reason);
+}
+
 /* Handles all messages that end in a piece of the stream. Returns the status to end with, or that the session goes on. */
 static int take(laspidru_handle *server, const unsigned char *piece, laspidru_size len) {
     laspidru_taken taken;
@@ -100,7 +112,7 @@ static int take(laspidru_handle *server, const unsigned char *piece, laspidru_si
         if (answer.kind == LASPIDRU_EXITED)
             return (int)answer.status;
         if (answer.kind == LASPIDRU_REFUSED) /* from now on the editor's text may differ */
-            print_code("refused", answer.reason);
+            print_refused(server, taken.body_len, answer.reason);
         if (answer.kind == LASPIDRU_REPLIED && !reply(server, &taken, &answer))
             return FAILED;
     }

@@ -30,7 +30,7 @@ process.exitCode = 1; // where the input ends before `exit`
 process.stdin.on('data', (bytes) => {
   for (const event of server.messages(bytes)) {
     if (event.kind === 'replied') process.stdout.write(reply(event));
-    if (event.kind === 'refused') console.error('refused:', event.uri, event.why);
+    if (event.kind === 'refused') console.error(event.uri, 'refused:', event.why);
     const isFaulty = event.error === -32700 || event.error === -32600; // a change may be lost with it
     if (isFaulty) console.error('faulty:', event.error, event.body.toString('utf8', 0, 200));
     if (event.kind === 'exited') {

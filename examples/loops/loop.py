@@ -41,7 +41,7 @@ async def serve(server, loop):
             if event.kind == "exited":
                 return event.status
             if event.kind == "refused":
-                print("refused:", event.uri, event.why, file=sys.stderr)
+                print(event.uri, "refused:", event.why, file=sys.stderr)
             if event.kind == "replied" and event.error in (-32700, -32600):  # a change may be lost with it
                 print("faulty:", event.error, event.body[:200], file=sys.stderr)
             if event.kind == "replied":

@@ -1,4 +1,5 @@
 //! A language server over standard input, in Rust. Hover shows the document as the server has it.
+use laspidru::message_uri;
 use laspidru::server::{Answer, Server, Settings};
 use serde_json::{json, Value};
 use std::error::Error;
@@ -46,7 +47,7 @@ fn main() -> Result<ExitCode, Box<dyn Error>> {
                     }
                     output.write_all(&reply(&server, &body, frame, code)?)?;
                 }
-                Answer::Refused(reason) => eprintln!("refused: {reason}"),
+                Answer::Refused(reason) => eprintln!("{} refused: {reason}", message_uri(&body)?.unwrap_or_default()),
                 Answer::Exit(status) => return Ok(ExitCode::from(status)),
                 _ => {} // changed, dropped or ignored
             }
