@@ -7,6 +7,10 @@
 ;; Eglot starts the server, and keeps completion, hover, diagnostics and all other requests.  What it sends of texts is replaced: before
 ;; each message the buffers that changed are compared with the documents of laspidru's client, whatever Emacs' hooks saw of the changes.
 ;; README.md says how it is used.
+;;
+;; Changes without hooks, also after hooks were lost (C-g, an error), are sent with the next message.  A buffer that gets another name
+;; (`write-file') is closed and opened again.  An indirect clone is the same document; of two buffers of one file the server has the
+;; first.  A text over a limit, or with a byte that is no character, is kept back, and a message says so.
 
 ;;; Code:
 

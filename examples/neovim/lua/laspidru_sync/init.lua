@@ -1,5 +1,8 @@
 -- vim.lsp with laspidru's client in place of its text synchronisation (README.md). vim.lsp starts the server, and says which buffers are
 -- open in it. What changed is read from the buffer, once the command that did it is through, and sent as laspidru's client has it.
+-- A text is the bytes that Neovim would write now, in UTF-8, with the line ends of `fileformat`. On each change the buffer's lines are
+-- compared with those that were sent last. In a buffer of over 5,000 lines (`long`) those are compared that Neovim reports, and all lines
+-- 300 milliseconds later and before a request. A text that can't be sent (over a limit, not UTF-8) waits, and a message says so.
 local laspidru = require("laspidru")
 local text = require("laspidru_sync.text")
 local api, lsp = vim.api, vim.lsp
