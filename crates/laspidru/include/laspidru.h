@@ -453,9 +453,10 @@ laspidru_u32 laspidru_log_run(laspidru_handle *output, laspidru_u32 command, con
     laspidru_ending *ending);
 
 /* Whether the last text of a document of a log is `saved`, the text that its editor saved, and else which messages made each
-   line that differs, and which about the document were refused: the output of lspsync compare. The document is the one whose URI ends as `uri`, or the only one where
-   that has no bytes. Where two end so, the output names both; where none does, NOT_OPEN is `missing`. The status is 0 only for
-   equal bytes, whatever was refused. Of the settings it takes the limits and the encoding. */
+   line that differs, and which about the document were refused: the output of lspsync compare. The document is the one whose
+   URI ends as `uri`, or the only one where that has no bytes. Where two end so, the output names both; where none does,
+   NOT_OPEN is `missing`. The status is 0 only for equal bytes, whatever was refused. Of the settings it takes the limits and
+   the encoding. */
 laspidru_u32 laspidru_log_compare(laspidru_handle *output, const laspidru_log_settings *settings,
     const unsigned char *uri, laspidru_size uri_len, const unsigned char *saved, laspidru_size saved_len,
     const unsigned char *log, laspidru_size log_len, laspidru_ending *ending);
@@ -465,8 +466,9 @@ laspidru_u32 laspidru_output_copy(laspidru_handle *output, laspidru_size start,
     unsigned char *out, laspidru_size out_len, laspidru_size *copied);
 
 /* ---- Codes of each call.
-   They come in this order. A call on a full handle begins with those of what it is passed: NOT_UTF8 of the URI; BAD_ENCODING;
-   BAD_LENGTH or NOT_UTF8 of the first such edit; IN_USE of the handle that is to be filled; EMPTY, OTHER_KIND. Then come:
+   They come in this order. A call that needs a full handle first checks what it is passed: NOT_UTF8 of the URI;
+   BAD_ENCODING; BAD_LENGTH or NOT_UTF8 of the first such edit; IN_USE of the handle that is to be filled. Then it checks
+   the handle that is to be full: EMPTY, OTHER_KIND. Then come:
 
    batch_edit, document_copy, document_line, frame, output_copy, text: OUT_OF_RANGE
    body: NO_MESSAGE, OUT_OF_RANGE
