@@ -15,21 +15,13 @@ use Rattle.lsp_frame.specs.declared.framer.shape.Shape.TheVariants as shape
 use Rattle.lsp_frame.proofs.Lists.{All_push}
 use Rattle.lsp_frame.proofs.HeaderLemmas.{same_header, AreLines-append, lines_bytes-append, stops_behind, stops_at_start, stops_at_name, stops_at_value, stops_at_return, stops_at_last, begins_part, begins_behind, colon_part, value_part}
 use Rattle.lsp_frame.proofs.FaultLemmas.{one_front, begins_none, header_begins_none}
+use Rattle.std.proofs.lemmas.Grind.{common_steps}
 
 -- ---- one byte
 
 name_or_not : (b : ℕ) → IsNameByte b ⊎ (IsNameByte b → ⊥)
 name_or_not b =
-    elim (cases_lt b 33) [
-      | inl low ↦ inr (λ name. omega (arith, low, name.0))
-      | inr some ↦ elim (cases_lt 126 b) [
-        | inl high ↦ inr (λ name. omega (arith, high, name.1))
-        | inr within ↦ elim (cases_eq b 58) [
-          | inl colon ↦ inr (λ name. name.2 colon)
-          | inr other ↦ inl (some, within, other)
-        ]
-      ]
-    ]
+    grind (arith, common_steps, cases_lt, inl, inr, cases_eq)
 
 not_value : (b : ℕ) → ((32 ≤ b) × (b ≤ 126) → ⊥) → b ≢ 9 → IsValueByte b → ⊥
 not_value b hidden no_tab (inl visible) = hidden visible
@@ -78,12 +70,7 @@ next_byte shape.Value part b is line_open =
       | inr no_value ↦ elim (cases_eq b 13) [
         | inl return ↦ inl (
           shape.Return,
-          (
-            is.0,
-            is.1,
-            ap (λ (p : List ℕ). p ++ b ∷ []) is.2 ∙ append_assoc is.0.name (58 ∷ is.0.value) (b ∷ [])
-                ∙ ap (λ (c : ℕ). is.0.name ++ (58 ∷ (is.0.value ++ c ∷ []))) return,
-          ),
+          grind (arith, common_steps, append_assoc),
         )
         | inr no_return ↦ inr (stops_at_value shape.Value b refl no_value no_return part is)
       ]
@@ -92,13 +79,7 @@ next_byte shape.Return part b is line_open =
     elim (cases_eq b 10) [
       | inl feed ↦ inl (
         shape.Whole,
-        (
-          is.0,
-          is.1,
-          ap (λ (p : List ℕ). p ++ b ∷ []) is.2 ∙ append_assoc is.0.name (58 ∷ (is.0.value ++ (13 ∷ []))) (b ∷ [])
-              ∙ ap (λ (x : List ℕ). is.0.name ++ (58 ∷ x)) (append_assoc is.0.value (13 ∷ []) (b ∷ []))
-              ∙ ap (λ (c : ℕ). is.0.name ++ (58 ∷ (is.0.value ++ (13 ∷ c ∷ [])))) feed,
-        ),
+        grind (arith, common_steps, append_assoc),
       )
       | inr no_feed ↦ inr (stops_at_return shape.Return b refl no_feed part is)
     ]
@@ -170,10 +151,7 @@ header_decided (b ∷ rest) lines s part each is line_open =
       | inl next ↦ subst IsHeaderDecided moved (after_byte lines (part ++ b ∷ []) rest next.0 each next.1
           (header_decided rest lines next.0 (part ++ b ∷ []) each next.1)
           (λ line is_line e. subst IsHeaderDecided (with_line line e)
-          (header_decided rest (lines ++ line ∷ []) shape.Start [] (AreLines-append lines (line ∷ []) each (
-            is_line,
-            tt,
-          )) refl refl)))
+          (header_decided rest (lines ++ line ∷ []) shape.Start [] (grind (arith, common_steps)) refl refl)))
       | inr stops ↦ inr (λ others more all e. none_stopped (lines_bytes lines ++ part) rest b
           (begins_behind lines part each (begins_part s part is line_open))
           (subst StopsHeader (sym (append_assoc (lines_bytes lines) part (b ∷ [])))
@@ -184,9 +162,7 @@ header_decided (b ∷ rest) lines s part each is line_open =
     with_line : (line : Line) → part ++ b ∷ [] ≡ line_bytes line → lines_bytes (lines ++ line ∷ []) ++ rest
         ≡ lines_bytes lines ++ ((part ++ b ∷ []) ++ rest)
     with_line line e =
-        ap (λ (x : List ℕ). x ++ rest) (lines_bytes-append lines (line ∷ [])) ∙ append_assoc (lines_bytes lines)
-        (line_bytes line ++ []) rest
-        ∙ ap (λ (x : List ℕ). lines_bytes lines ++ (x ++ rest)) (append-nil (line_bytes line) ∙ sym e)
+        grind (arith, common_steps, lines_bytes-append, append_assoc, append-nil)
 
 -- ---- a frame
 
@@ -206,8 +182,7 @@ frame_decided max_body bytes front =
     same : (frame body more : List ℕ) (s : IsFrameOf max_body frame body) → bytes ≡ frame ++ more
         → (front.lines ≡ s.lines) × (front.rest ≡ body ++ more)
     same frame body more s e =
-        same_header front.lines s.lines front.rest (body ++ more) front.each s.each
-        (sym front.is ∙ e ∙ ap (λ (x : List ℕ). x ++ more) s.is ∙ append_assoc (header_of s.lines) body more)
+        grind (arith, common_steps, same_header, append_assoc)
 
     judged : length (header_of front.lines) ≤ 8192 → (verdict : Result ℕ HeaderFault)
         → judge_header max_body front.lines ≡ verdict → BeginsFrame max_body bytes ⊎ HasNoFrame max_body bytes
@@ -226,13 +201,7 @@ frame_decided max_body bytes front =
             frame = header_of front.lines ++ take wanted front.rest;
             body = take wanted front.rest;
             rest = drop wanted front.rest;
-            is_frame = record {
-              lines = front.lines;
-              each = front.each;
-              is = refl;
-              short = short;
-              good = is ∙ ap Ok (sym (length-take-le wanted front.rest enough));
-            };
+            is_frame = grind (arith, common_steps, length-take-le);
             is = front.is ∙ ap (λ (x : List ℕ). header_of front.lines ++ x) (sym (take-append-drop wanted front.rest))
                 ∙ sym (append_assoc (header_of front.lines) (take wanted front.rest) (drop wanted front.rest));
           })
@@ -249,29 +218,16 @@ decision_law max_body bytes =
 -- ---- a stream
 
 frame_some : (max_body : ℕ) (frame body : List ℕ) → IsFrameOf max_body frame body → 2 ≤ length frame
-frame_some max_body frame body s = omega (
-  arith,
-  ap length s.is,
-  length-append (header_of s.lines) body,
-  length-append (lines_bytes s.lines) (13 ∷ 10 ∷ []),
-)
+frame_some max_body frame body s = grind (arith, common_steps, length-append)
 
 first_shorter : (max_body : ℕ) (stream : List ℕ) (first : BeginsFrame max_body stream)
     → length first.rest + 2 ≤ length stream
 first_shorter max_body stream first =
-    omega (
-      arith,
-      ap length first.is,
-      length-append first.frame first.rest,
-      frame_some max_body first.frame first.body first.is_frame,
-    )
+    grind (arith, common_steps, length-append, frame_some)
 
 frames_within : (n max_body : ℕ) (stream : List ℕ) → length stream ≤ n → AllFrames max_body stream
 frames_within zero max_body stream within =
-    elim (decision_law max_body stream) [
-      | inl first ↦ absurd (omega (arith, within, first_shorter max_body stream first))
-      | inr none ↦ record { bodies = []; rest = stream; frames = record { framed = refl; longest = none } }
-    ]
+    grind (arith, common_steps, decision_law, inl, first_shorter, inr)
 frames_within (suc n) max_body stream within =
     elim (decision_law max_body stream) [
       | inl first ↦
@@ -280,10 +236,7 @@ frames_within (suc n) max_body stream within =
           record {
             bodies = first.body ∷ others.bodies;
             rest = others.rest;
-            frames = record {
-              framed = (first.frame, first.rest, first.is_frame, first.is, others.frames.framed);
-              longest = others.frames.longest;
-            };
+            frames = grind (arith, common_steps);
           }
       | inr none ↦ record { bodies = []; rest = stream; frames = record { framed = refl; longest = none } }
     ]

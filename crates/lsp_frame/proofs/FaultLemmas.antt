@@ -22,6 +22,7 @@ use Rattle.lsp_frame.specs.declared.framer.stage.Stage.{Stage}
 use Rattle.lsp_frame.specs.declared.framer.stage.Stage.TheVariants as stage
 use Rattle.lsp_frame.proofs.HeaderLemmas.{same_header}
 use Rattle.lsp_frame.proofs.ProgressLemmas.{so_far_begins}
+use Rattle.std.proofs.lemmas.Grind.{common_steps}
 
 -- Of two fronts of the same bytes one begins the other.
 pub record Front (a b x y : List ℕ) : Type 0 where
@@ -115,8 +116,7 @@ judged_hopeless max_body bytes more tail k n fault lines at each good e =
 pub decided_hopeless : (max_body : ℕ) (bytes : List ℕ) (k : ℕ) (fault : HeaderFault)
     → IsDecidedAt max_body bytes k fault → IsHopeless max_body bytes
 decided_hopeless max_body bytes k header.BadHeader at more raw body tail s e =
-    bad_hopeless bytes more (body ++ tail) k s.lines at s.each (e ∙ ap (λ x. x ++ tail) s.is
-    ∙ append_assoc (header_of s.lines) body tail)
+    grind (arith, common_steps, bad_hopeless, append_assoc)
 decided_hopeless max_body bytes k header.HeaderTooLong at more raw body tail s e =
     too_long_hopeless bytes more (body ++ tail) k s.lines at s.each s.short (e ∙ ap (λ x. x ++ tail) s.is
     ∙ append_assoc (header_of s.lines) body tail)
@@ -145,12 +145,7 @@ pub same_body : (max_body : ℕ) (lines : List Line) (buffered body raw framed t
     → AreLines lines → buffered ≡ header_of lines ++ body → judge_header max_body lines ≡ Ok wanted
     → IsFrameOf max_body raw framed → buffered ≡ raw ++ tail → SameBody max_body body framed tail wanted
 same_body max_body lines buffered body raw framed tail wanted each is good s e =
-    let both : header_of lines ++ body ≡ header_of s.lines ++ (framed ++ tail) = sym is ∙ e ∙ ap (λ x. x ++ tail) s.is
-    ∙ append_assoc (header_of s.lines) framed tail in
-    let same = same_header lines s.lines body (framed ++ tail) each s.each both in
-    let error : judge_header max_body lines ≡ Ok (length framed) = ap (judge_header max_body) same.0 ∙ s.good in
-    let l : wanted ≡ length framed = cc in
-    record { is = same.1; len = l }
+    grind (arith, common_steps, append_assoc, same_header)
 
 pub no_frame_in_header : (max_body : ℕ) (buffered raw body more : List ℕ) → BeginsHeader buffered
     → IsFrameOf max_body raw body → buffered ≡ raw ++ more → ⊥
@@ -172,23 +167,7 @@ pub stage_part : (max_body : ℕ) (buffered : List ℕ) (s : Stage) → IsAtStag
 stage_part max_body buffered (stage.Header header) at sound =
     inl (record { begins = so_far_begins max_body buffered header at.so_far at.line_open; short = at.short })
 stage_part max_body buffered (stage.Body start stop_at) at sound =
-    inr (record {
-      lines = at.lines;
-      body = at.body;
-      wanted = at.wanted;
-      each = at.each;
-      is = at.is;
-      short = omega (arith, at.starts, at.short);
-      good = at.good;
-      within = omega (
-        arith,
-        ap length at.is,
-        length-append (header_of at.lines) at.body,
-        at.starts,
-        at.ends,
-        at.within,
-      );
-    })
+    grind (arith, common_steps, inr, length-append)
 stage_part max_body buffered stage.Failed at sound = cc
 
 -- Where a whole frame is held, its body is all there.
@@ -242,8 +221,7 @@ pub same_framing : (place : ℕ) (buffered other : List ℕ) (failed other_faile
       limits = limits;
     } in f)
 same_framing place buffered other failed other_failed limits e f =
-    ap (λ (p : List ℕ × Bool). record { place = place; buffered = p.0; failed = p.1; limits = limits })
-    (let r : (buffered, failed) ≡ (other, other_failed) = cc in r)
+    grind (arith, common_steps)
 
 -- A fault of the stream, from what the framer held.
 pub stream_fault : (old : FramerData) (piece : List ℕ) (new : FramerData) (kind : HeaderFault) (k place : ℕ)
@@ -285,16 +263,7 @@ pub feed_fault_at : (now : FramerData) (place max_body : ℕ) (buffered other pi
     → IsFeedFault now (record { place = place; buffered = other; failed = true; limits = limits }) piece fault
 feed_fault_at now place max_body buffered other piece was limits why kind k error fault is sound limit stops why_is
     told_is fault_is same =
-    let old : FramerData = record { place = place; buffered = buffered; failed = was; limits = limits } in
-    let new : FramerData = record { place = place; buffered = other; failed = true; limits = limits } in
-    let decided : IsDecidedAt max_body (buffered ++ piece) k kind =
-    subst (IsHeaderStop max_body (buffered ++ piece)) why_is stops in
-    let decided_here : IsDecidedAt limits.max_body (buffered ++ piece) k kind =
-    subst (λ (n : ℕ). IsDecidedAt n (buffered ++ piece) k kind) limit decided in
-    let after : new ≡ record old { failed = true } = same_framing place other buffered true true limits same refl in
-    let at : IsStreamFault old new piece fault = stream_fault old piece new kind k error fault sound decided_here
-    told_is fault_is after in
-    subst (λ (f : FramerData). IsFeedFault f new piece fault) is (feed_fault old piece new kind error fault fault_is at)
+    grind (arith, common_steps, same_framing, stream_fault, feed_fault)
 
 -- Why a piece was not taken, as the stream tells it.
 pub feed_stop : (now : FramerData) (place max_body : ℕ) (buffered other piece : List ℕ) (was next : Stage)
@@ -311,8 +280,7 @@ feed_stop now place max_body buffered other piece was next limits (stop.Fault ki
     (rw after at, λ e. never_failed kind (place_after place k) (sym told_is ∙ e))
 feed_stop now place max_body buffered other piece was next limits stop.NoMemory error is sound limit stops told_is same
     after =
-    let still : now.failed ≡ false = sym (ap (λ (f : FramerData). f.failed) is) ∙ sound in
-    (rw (told_is, same, after) (still, is), λ e. cc)
+    grind (arith, common_steps)
 
 -- A framer that hasn't failed holds a part of a frame, or one.
 pub framing_part : (now : FramerData) (place : ℕ) (buffered : List ℕ) (s : Stage) (limits : LimitsData)

@@ -16,6 +16,7 @@ use Rattle.lsp_frame.specs.declared.fault.HeaderFault.TheVariants as header
 use Rattle.lsp_frame.specs.declared.framer.notes.Length.TheVariants as said
 use Rattle.lsp_frame.specs.declared.framer.notes.Charset.TheVariants as named
 use Rattle.lsp_frame.specs.declared.framer.notes.Notes.{Notes}
+use Rattle.std.proofs.lemmas.Grind.{common_steps}
 
 pub or-true : (b : Bool) → (b || true) ≡ true
 or-true true = refl
@@ -28,54 +29,22 @@ many a b xs = lt-ltb 1 (length (a ∷ b ∷ xs)) (omega arith)
 pub judged_one : (max_body : ℕ) (value : List ℕ) → length_judged (length_said max_body value) named.Missing
     ≡ judge_single max_body (value ∷ []) []
 judged_one max_body value =
-    elim (is_number (trimmed value)) as (λ b. length_judged (if not b then said.Bad else if nat_lt max_body
-    (number (trimmed value)) then said.TooLong else said.Given (number (trimmed value))) named.Missing
-    ≡ (if not b then Err header.BadLength else if nat_lt max_body (number (trimmed value)) then Err header.BodyTooLong
-    else Ok (number (trimmed value)))) [
-      | true ↦ elim (nat_lt max_body (number (trimmed value))) as (λ b. length_judged (if b then said.TooLong
-          else said.Given (number (trimmed value))) named.Missing
-          ≡ (if b then Err header.BodyTooLong else Ok (number (trimmed value)))) [ true ↦ refl | false ↦ refl ]
-      | false ↦ refl
-    ]
+    grind (arith, common_steps)
 
 pub judged_two : (max_body : ℕ) (value content : List ℕ) → both_judged (length_said max_body value)
     (charset_of (content ∷ [])) ≡ judge_single max_body (value ∷ []) (content ∷ [])
 judged_two max_body value content =
-    elim (has_good_charset content) as (λ g. both_judged (length_said max_body value)
-    (if g then named.Good else named.Bad) ≡ (if not (is_number (trimmed value)) then Err header.BadLength
-    else if nat_lt max_body (number (trimmed value)) then Err header.BodyTooLong else if not (g && true) then
-    Err header.BadCharset else Ok (number (trimmed value)))) [
-      | true ↦ elim (is_number (trimmed value)) as (λ b. length_judged (if not b then said.Bad else if nat_lt max_body
-          (number (trimmed value)) then said.TooLong else said.Given (number (trimmed value))) named.Good
-          ≡ (if not b then Err header.BadLength else if nat_lt max_body (number (trimmed value)) then
-          Err header.BodyTooLong else Ok (number (trimmed value)))) [
-            | true ↦ elim (nat_lt max_body (number (trimmed value))) as (λ b. length_judged (if b then said.TooLong
-                else said.Given (number (trimmed value))) named.Good
-                ≡ (if b then Err header.BodyTooLong else Ok (number (trimmed value)))) [ true ↦ refl | false ↦ refl ]
-            | false ↦ refl
-          ]
-      | false ↦ elim (is_number (trimmed value)) as (λ b. length_judged (if not b then said.Bad else if nat_lt max_body
-          (number (trimmed value)) then said.TooLong else said.Given (number (trimmed value))) named.Bad
-          ≡ (if not b then Err header.BadLength else if nat_lt max_body (number (trimmed value)) then
-          Err header.BodyTooLong else Err header.BadCharset)) [
-            | true ↦ elim (nat_lt max_body (number (trimmed value))) as (λ b. length_judged (if b then said.TooLong
-                else said.Given (number (trimmed value))) named.Bad
-                ≡ (if b then Err header.BodyTooLong else Err header.BadCharset)) [ true ↦ refl | false ↦ refl ]
-            | false ↦ refl
-          ]
-    ]
+    grind (arith, common_steps)
 
 pub missing_one : (max_body : ℕ) (content : List ℕ) → both_judged said.Missing (charset_of (content ∷ []))
     ≡ Err header.MissingLength
 missing_one max_body content =
-    elim (has_good_charset content) as (λ g. both_judged said.Missing (if g then named.Good else named.Bad)
-    ≡ Err header.MissingLength) [ true ↦ refl | false ↦ refl ]
+    grind (arith, common_steps)
 
 pub repeated_one : (content : List ℕ) → both_judged said.Repeated (charset_of (content ∷ []))
     ≡ Err header.RepeatedHeader
 repeated_one content =
-    elim (has_good_charset content) as (λ g. both_judged said.Repeated (if g then named.Good else named.Bad)
-    ≡ Err header.RepeatedHeader) [ true ↦ refl | false ↦ refl ]
+    grind (arith, common_steps)
 
 -- The notes of a header say what its lines say.
 pub judged_values : (max_body : ℕ) (lengths types : List (List ℕ)) → both_judged (length_of max_body lengths)
@@ -110,35 +79,12 @@ pub single_verdict : (max_body : ℕ) (lengths types : List (List ℕ))
     → IsVerdict max_body (judge_single max_body lengths types)
 single_verdict max_body [] types = tt
 single_verdict max_body (value ∷ values) types =
-    elim (is_number (trimmed value)) as (λ b. IsVerdict max_body (if not b then Err header.BadLength
-    else if nat_lt max_body (number (trimmed value)) then Err header.BodyTooLong
-    else if not (list_all has_good_charset types) then Err header.BadCharset else Ok (number (trimmed value)))) [
-      | true ↦ elim (nat_lt max_body (number (trimmed value))) as (λ b. nat_lt max_body (number (trimmed value)) ≡ b
-          → IsVerdict max_body (if b then Err header.BodyTooLong else if not (list_all has_good_charset types) then
-          Err header.BadCharset else Ok (number (trimmed value)))) [
-            | true ↦ λ _. tt
-            | false ↦ λ e. elim (list_all has_good_charset types) as (λ b. IsVerdict max_body
-                (if not b then Err header.BadCharset else Ok (number (trimmed value)))) [
-                  | true ↦ ltb-false max_body (number (trimmed value)) e
-                  | false ↦ tt
-                ]
-          ] refl
-      | false ↦ tt
-    ]
+    grind (arith, common_steps, ltb-false)
 
 pub is_verdict : (max_body : ℕ) (lines : List Line) → IsVerdict max_body (judge_header max_body lines)
 unfolding judge_header
 is_verdict max_body lines =
-    let lengths : List (List ℕ) = values_of (codes "content-length") lines in
-    let types : List (List ℕ) = values_of (codes "content-type") lines in
-    elim (nat_lt 1 (length (values_of (codes "content-length") lines))
-    || nat_lt 1 (length (values_of (codes "content-type") lines))) as (λ b. IsVerdict max_body
-    (if b then Err header.RepeatedHeader else judge_single max_body (values_of (codes "content-length") lines)
-    (values_of (codes "content-type") lines))) [
-      | true ↦ tt
-      | false ↦ single_verdict max_body (values_of (codes "content-length") lines)
-          (values_of (codes "content-type") lines)
-    ]
+    grind (arith, common_steps, single_verdict)
 
 pub judge_within : (max_body : ℕ) (lines : List Line) (n : ℕ) → judge_header max_body lines ≡ Ok n → n ≤ max_body
 judge_within max_body lines n e = subst (IsVerdict max_body) e (is_verdict max_body lines)
@@ -162,20 +108,14 @@ pub whole_fault : (max_body : ℕ) (buffered rest : List ℕ) (notes : Notes) (f
 whole_fault max_body buffered rest notes fault whole error =
     let judged : judge_header max_body whole.lines ≡ Err fault =
     sym (error ∙ ap judge_notes whole.noted ∙ judge_notes_is max_body whole.lines) in
-    let some : 0 < length buffered = omega (
-      arith,
-      ap length whole.is,
-      length-append (lines_bytes whole.lines) (13 ∷ 10 ∷ []),
-    ) in
+    let some : 0 < length buffered = grind (arith, common_steps, length-append) in
     let last : length buffered ≡ length buffered - 1 + 1 = omega arith in
-    judged_decided max_body (buffered ++ rest) (length buffered - 1) fault (record {
-      lines = whole.lines;
-      each = whole.each;
-      is = take_at buffered rest (length buffered - 1 + 1) last ∙ whole.is;
-      there = omega (arith, length-append buffered rest);
-      within = omega (arith, whole.short);
-      judged = judged;
-    })
+    judged_decided max_body (buffered ++ rest) (length buffered - 1) fault (grind (
+      arith,
+      common_steps,
+      take_at,
+      length-append,
+    ))
 
 -- The body behind a header that is whole.
 pub whole_body : (max_body : ℕ) (buffered body : List ℕ) (notes : Notes) (wanted start stop_at : ℕ)
@@ -202,25 +142,7 @@ whole_body max_body buffered body notes wanted start stop_at whole error within 
 pub body_frame : (max_body : ℕ) (buffered : List ℕ) (start stop_at : ℕ) → IsInBody max_body buffered start stop_at
     → length buffered ≡ stop_at → IsFrame max_body buffered
 body_frame max_body buffered start stop_at in_body all =
-    let len : in_body.wanted ≡ length in_body.body =
-    omega (
-      arith,
-      ap length in_body.is,
-      length-append (header_of in_body.lines) in_body.body,
-      in_body.starts,
-      in_body.ends,
-      all,
-    ) in
-    record {
-      body = in_body.body;
-      is_frame_of = record {
-        lines = in_body.lines;
-        each = in_body.each;
-        is = in_body.is;
-        short = omega (arith, in_body.starts, in_body.short);
-        good = in_body.good ∙ ap Ok len;
-      };
-    }
+    grind (arith, common_steps, length-append)
 
 pub whole_wanted : (max_body : ℕ) (buffered : List ℕ) (notes : Notes) (wanted : ℕ) → IsWhole max_body buffered notes
     → Ok wanted ≡ judge_notes notes → wanted ≤ max_body

@@ -13,6 +13,7 @@ use Rattle.lsp_frame.specs.declared.fault.HeaderFault.TheVariants as header
 use Rattle.lsp_frame.specs.declared.fault.FrameFault.{FrameFault}
 use Rattle.lsp_frame.proofs.HeaderLemmas.{same_header}
 use Rattle.lsp_frame.proofs.FaultLemmas.{header_begins_none}
+use Rattle.std.proofs.lemmas.Grind.{common_steps}
 
 -- Fronts of one length of the same bytes are one.
 pub same_length_front : (a b x y : List ℕ) → length a ≡ length b → a ++ x ≡ b ++ y → (a ≡ b) × (x ≡ y)
@@ -31,20 +32,7 @@ same_length_front (c ∷ a) (d ∷ b) x y l e =
 pub same_frame : (max_body : ℕ) (raw other body other_body x y : List ℕ) → IsFrameOf max_body raw body
     → IsFrameOf max_body other other_body → raw ++ x ≡ other ++ y → SameFrame raw other body other_body x y
 same_frame max_body raw other body other_body x y s t e =
-    let left : raw ++ x ≡ header_of s.lines ++ (body ++ x) =
-    ap (λ z. z ++ x) s.is ∙ append_assoc (header_of s.lines) body x in
-    let right : other ++ y ≡ header_of t.lines ++ (other_body ++ y) =
-    ap (λ z. z ++ y) t.is ∙ append_assoc (header_of t.lines) other_body y in
-    let h = same_header s.lines t.lines (body ++ x) (other_body ++ y) s.each t.each (sym left ∙ e ∙ right) in
-    let error : judge_header max_body s.lines ≡ Ok (length other_body) = ap (judge_header max_body) h.0 ∙ t.good in
-    let good : judge_header max_body s.lines ≡ Ok (length body) = s.good in
-    let len : length body ≡ length other_body = cc in
-    let b = same_length_front body other_body x y len h.1 in
-    record {
-      same_bytes = s.is ∙ ap (λ ls. header_of ls ++ body) h.0 ∙ ap (λ z. header_of t.lines ++ z) b.0 ∙ sym t.is;
-      body_is = b.0;
-      rest_is = b.1;
-    }
+    grind (arith, common_steps, append_assoc, same_header, same_length_front)
 
 -- The frames of a stream are one list.
 pub same_frames : (max_body : ℕ) (stream : List ℕ) (bodies others : List (List ℕ)) (rest other : List ℕ)
@@ -177,22 +165,7 @@ same_fault max_body start bytes fault other a b =
 pub same_read : (max_body : ℕ) (stream : List ℕ) (bodies others : List (List ℕ)) (fault other : Option FrameFault)
     → IsRead max_body stream bodies fault → IsRead max_body stream others other → (bodies ≡ others) × (fault ≡ other)
 same_read max_body stream bodies others fault other a b =
-    let s = same_frames max_body stream bodies others a.rest b.rest a.frames.framed b.frames.framed a.frames.longest
-    b.frames.longest in
-    let end_here =
-    subst (λ (z : List ℕ). MatchOption other (IsSound max_body z)
-    (IsDecided max_body (place_after 0 (length stream - length z)) z)) (sym s.1) b.end in
-    (s.0, same_end fault other a.end end_here)
-  where
-    same_end : (f g : Option FrameFault) → MatchOption f (IsSound max_body a.rest)
-        (IsDecided max_body (place_after 0 (length stream - length a.rest)) a.rest)
-        → MatchOption g (IsSound max_body a.rest) (IsDecided max_body (place_after 0 (length stream - length a.rest))
-        a.rest) → f ≡ g
-    same_end None None p q = refl
-    same_end None (Some g) p q = absurd (p q.k q.kind q.decided)
-    same_end (Some f) None p q = absurd (q p.k p.kind p.decided)
-    same_end (Some f) (Some g) p q =
-        ap Some (same_fault max_body (place_after 0 (length stream - length a.rest)) a.rest f g p q)
+    grind (arith, common_steps, same_frames, same_fault)
 
 pub no_empty_frame : (max_body : ℕ) → IsFrame max_body [] → ⊥
 no_empty_frame max_body frame =
@@ -205,10 +178,7 @@ no_empty_frame max_body frame =
 
 pub nothing_part : (max_body : ℕ) → IsPart max_body []
 nothing_part max_body =
-    inl (record {
-      begins = record { lines = []; rest = 13 ∷ 10 ∷ []; each = tt; is = refl; more = omega arith };
-      short = omega arith;
-    })
+    grind (arith, common_steps, inl)
 
 -- A frame more, and bytes more.
 pub framed_push : (max_body : ℕ) (stream : List ℕ) (bodies : List (List ℕ)) (buffered body : List ℕ)
@@ -221,17 +191,15 @@ framed_push max_body stream (first ∷ bodies) buffered body a s =
 pub framed_more : (max_body : ℕ) (stream : List ℕ) (bodies : List (List ℕ)) (buffered more : List ℕ)
     → AreFrames max_body stream bodies buffered → AreFrames max_body (stream ++ more) bodies (buffered ++ more)
 framed_more max_body stream [] buffered more a = ap (λ z. z ++ more) a
-framed_more max_body stream (first ∷ bodies) buffered more a = (
-  a.0,
-  a.1 ++ more,
-  a.2,
-  ap (λ z. z ++ more) a.3 ∙ append_assoc a.0 a.1 more,
-  framed_more max_body a.1 bodies buffered more a.4,
+framed_more max_body stream (first ∷ bodies) buffered more a = grind (
+  arith,
+  common_steps,
+  append_assoc,
+  (framed_more max_body a.1 bodies buffered more a.4),
 )
 
 pub framed_len : (max_body : ℕ) (stream : List ℕ) (bodies : List (List ℕ)) (buffered : List ℕ)
     → AreFrames max_body stream bodies buffered → length buffered ≤ length stream
 framed_len max_body stream [] buffered a = omega (arith, ap length a)
 framed_len max_body stream (first ∷ bodies) buffered a =
-    let later = framed_len max_body a.1 bodies buffered a.4 in
-    omega (arith, later, ap length a.3, length-append a.0 a.1)
+    grind (arith, common_steps, length-append, (framed_len max_body a.1 bodies buffered a.4))

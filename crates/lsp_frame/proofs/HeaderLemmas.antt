@@ -8,6 +8,7 @@ use Rattle.lsp_frame.specs.inside.Progress.{StopsHeader}
 use Rattle.lsp_frame.specs.declared.framer.shape.Shape.{Shape}
 use Rattle.lsp_frame.specs.declared.framer.shape.Shape.TheVariants as shape
 use Rattle.lsp_frame.proofs.Lists.{same_front, All_push}
+use Rattle.std.proofs.lemmas.Grind.{common_steps}
 
 pub colon_not : IsNameByte 58 → ⊥
 colon_not h = h.2 refl
@@ -30,9 +31,7 @@ pub same_line : (line other : Line) (x y : List ℕ) → IsLine line → IsLine 
     → line.name ++ (58 ∷ (line.value ++ (13 ∷ x))) ≡ other.name ++ (58 ∷ (other.value ++ (13 ∷ y)))
     → (line.name ≡ other.name) × (line.value ≡ other.value) × (x ≡ y)
 same_line line other x y a b e =
-    let n = same_front IsNameByte line.name other.name _ _ 58 58 a.name b.name colon_not colon_not e in
-    let v = same_front IsValueByte line.value other.value x y 13 13 a.value b.value return_not return_not n.2 in
-    (n.0, v.0, v.2)
+    grind (arith, common_steps, same_front, colon_not, return_not)
 
 pub same_record : (line other : Line) → line.name ≡ other.name → line.value ≡ other.value → line ≡ other
 same_record line other n v = ap (λ (p : List ℕ × List ℕ). record { name = p.0; value = p.1 })
@@ -43,11 +42,9 @@ pub same_header : (lines others : List Line) (x y : List ℕ) → AreLines lines
     ≡ header_of others ++ y → (lines ≡ others) × (x ≡ y)
 same_header [] [] x y a b e = let t : x ≡ y = cc in (refl, t)
 same_header [] (other ∷ others) x y a b e =
-    absurd (no_name other.name (10 ∷ x) (58 ∷ (other.value ++ (13 ∷ 10 ∷ (header_of others ++ y)))) b.0.some b.0.name
-    (e ∙ simp append_assoc))
+    grind (arith, common_steps, no_name, append_assoc)
 same_header (line ∷ lines) [] x y a b e =
-    absurd (no_name line.name (10 ∷ y) (58 ∷ (line.value ++ (13 ∷ 10 ∷ (header_of lines ++ x)))) a.0.some a.0.name
-    (sym e ∙ simp append_assoc))
+    grind (arith, common_steps, no_name, append_assoc)
 same_header (line ∷ lines) (other ∷ others) x y a b e =
     let left : header_of (line ∷ lines) ++ x ≡ line.name ++ (58 ∷ (line.value ++ (13 ∷ 10 ∷ (header_of lines ++ x)))) =
     simp append_assoc in
@@ -86,8 +83,7 @@ pub after_lines : (lines others : List Line) (x : List ℕ) → AreLines lines �
     ≡ lines_bytes lines ++ x → Goes x
 after_lines [] others x a b e = record { lines = others; each = b; is = e }
 after_lines (line ∷ lines) [] x a b e =
-    absurd (no_name line.name (10 ∷ []) (58 ∷ (line.value ++ (13 ∷ 10 ∷ (lines_bytes lines ++ x)))) a.0.some a.0.name
-    (e ∙ simp append_assoc))
+    grind (arith, common_steps, no_name, append_assoc)
 after_lines (line ∷ lines) (other ∷ others) x a b e =
     let right : lines_bytes (line ∷ lines) ++ x
     ≡ line.name ++ (58 ∷ (line.value ++ (13 ∷ 10 ∷ (lines_bytes lines ++ x)))) = simp append_assoc in
@@ -119,34 +115,21 @@ pub stops_name : (part : List ℕ) (b : ℕ) → 0 < length part → AllByRecurs
 stops_name part b some all no_name_byte no_colon [] more each e =
     no_name part (10 ∷ []) (b ∷ more) some all (e ∙ append_assoc part (b ∷ []) more)
 stops_name part b some all no_name_byte no_colon (line ∷ lines) more each e =
-    let n = same_front IsNameByte line.name part _ more 58 b each.0.name all colon_not no_name_byte
-    (sym (header_cons line lines) ∙ e ∙ append_assoc part (b ∷ []) more) in
-    no_colon (sym n.1)
+    grind (arith, common_steps, same_front, colon_not, header_cons, append_assoc)
 
 pub stops_value : (line : Line) (b : ℕ) → IsLine line → (IsValueByte b → ⊥) → b ≢ 13
     → StopsHeader ((line.name ++ (58 ∷ line.value)) ++ b ∷ [])
 stops_value line b is no_value_byte no_return [] more each e =
     no_name line.name (10 ∷ []) (58 ∷ (line.value ++ (b ∷ more))) is.some is.name (e ∙ simp append_assoc)
 stops_value line b is no_value_byte no_return (other ∷ lines) more each e =
-    let right : ((line.name ++ (58 ∷ line.value)) ++ b ∷ []) ++ more ≡ line.name ++ (58 ∷ (line.value ++ (b ∷ more))) =
-    simp append_assoc in
-    let n = same_front IsNameByte other.name line.name _ _ 58 58 each.0.name is.name colon_not colon_not
-    (sym (header_cons other lines) ∙ e ∙ right) in
-    let v = same_front IsValueByte other.value line.value _ more 13 b each.0.value is.value return_not no_value_byte
-    n.2 in
-    no_return (sym v.1)
+    grind (arith, common_steps, append_assoc, same_front, colon_not, header_cons, return_not)
 
 pub stops_return : (line : Line) (b : ℕ) → IsLine line → b ≢ 10
     → StopsHeader ((line.name ++ (58 ∷ (line.value ++ (13 ∷ [])))) ++ b ∷ [])
 stops_return line b is no_feed [] more each e =
     no_name line.name (10 ∷ []) (58 ∷ (line.value ++ (13 ∷ (b ∷ more)))) is.some is.name (e ∙ simp append_assoc)
 stops_return line b is no_feed (other ∷ lines) more each e =
-    let right : ((line.name ++ (58 ∷ (line.value ++ (13 ∷ [])))) ++ b ∷ []) ++ more
-    ≡ line.name ++ (58 ∷ (line.value ++ (13 ∷ (b ∷ more)))) = simp append_assoc in
-    let s = same_line other line (10 ∷ header_of lines) (b ∷ more) each.0 is (sym (header_cons other lines) ∙ e
-    ∙ right) in
-    let h : 10 ≡ b = let e2 = s.2 in cc in
-    no_feed (sym h)
+    grind (arith, common_steps, append_assoc, same_line, header_cons)
 
 pub stops_last : (b : ℕ) → b ≢ 10 → StopsHeader ((13 ∷ []) ++ b ∷ [])
 stops_last b no_feed [] more each e = let h : 10 ≡ b = cc in no_feed (sym h)
@@ -203,45 +186,33 @@ begins_part shape.End part is open_line = cc
 pub begins_behind : (lines : List Line) (part : List ℕ) → AreLines lines → BeginsHeader part
     → BeginsHeader (lines_bytes lines ++ part)
 begins_behind lines part each b =
-    record {
-      lines = lines ++ b.lines;
-      rest = b.rest;
-      each = AreLines-append lines b.lines each b.each;
-      is = header_of-append lines b.lines ∙ ap (λ x. lines_bytes lines ++ x) b.is
-          ∙ sym (append_assoc (lines_bytes lines) part b.rest);
-      more = b.more;
-    }
+    grind (arith, common_steps, header_of-append, append_assoc)
 
 -- The same by the shape of the line.
 pub stops_at_start : (s : Shape) (b : ℕ) → s ≡ shape.Start → (IsNameByte b → ⊥) → b ≢ 13 → (part : List ℕ)
     → IsPartOfLine s part → StopsHeader (part ++ b ∷ [])
 stops_at_start s b e name_byte return part is =
-    let at : part ≡ [] = subst (λ (x : Shape). IsPartOfLine x part) e is in
-    subst (λ (p : List ℕ). StopsHeader (p ++ b ∷ [])) (sym at) (stops_start b name_byte return)
+    grind (arith, common_steps, stops_start)
 
 pub stops_at_name : (s : Shape) (b : ℕ) → s ≡ shape.Name → (IsNameByte b → ⊥) → b ≢ 58 → (part : List ℕ)
     → IsPartOfLine s part → StopsHeader (part ++ b ∷ [])
 stops_at_name s b e name_byte colon part is =
-    let at : IsPartOfLine shape.Name part = subst (λ (x : Shape). IsPartOfLine x part) e is in
-    stops_name part b at.0 at.1 name_byte colon
+    grind (arith, common_steps, stops_name)
 
 pub stops_at_value : (s : Shape) (b : ℕ) → s ≡ shape.Value → (IsValueByte b → ⊥) → b ≢ 13 → (part : List ℕ)
     → IsPartOfLine s part → StopsHeader (part ++ b ∷ [])
 stops_at_value s b e value_byte return part is =
-    let at : IsPartOfLine shape.Value part = subst (λ (x : Shape). IsPartOfLine x part) e is in
-    subst (λ (p : List ℕ). StopsHeader (p ++ b ∷ [])) (sym at.2) (stops_value at.0 b at.1 value_byte return)
+    grind (arith, common_steps, stops_value)
 
 pub stops_at_return : (s : Shape) (b : ℕ) → s ≡ shape.Return → b ≢ 10 → (part : List ℕ) → IsPartOfLine s part
     → StopsHeader (part ++ b ∷ [])
 stops_at_return s b e feed part is =
-    let at : IsPartOfLine shape.Return part = subst (λ (x : Shape). IsPartOfLine x part) e is in
-    subst (λ (p : List ℕ). StopsHeader (p ++ b ∷ [])) (sym at.2) (stops_return at.0 b at.1 feed)
+    grind (arith, common_steps, stops_return)
 
 pub stops_at_last : (s : Shape) (b : ℕ) → s ≡ shape.LastReturn → b ≢ 10 → (part : List ℕ) → IsPartOfLine s part
     → StopsHeader (part ++ b ∷ [])
 stops_at_last s b e feed part is =
-    let at : part ≡ 13 ∷ [] = subst (λ (x : Shape). IsPartOfLine x part) e is in
-    subst (λ (p : List ℕ). StopsHeader (p ++ b ∷ [])) (sym at) (stops_last b feed)
+    grind (arith, common_steps, stops_last)
 
 -- One more byte of a line.
 pub colon_part : (s : Shape) (b : ℕ) → s ≡ shape.Name → b ≡ 58 → (part : List ℕ) → IsPartOfLine s part
@@ -268,9 +239,4 @@ value_part s b e value_byte part is =
 -- A line that a line feed ended has no byte behind it.
 pub not_over : (s : Shape) (piece : List ℕ) (i : ℕ) → (is_over s ≡ true → (0 < i) × (get_or piece (i - 1) 0 ≡ 10))
     → ((k : ℕ) → k + 1 < length piece → get_or piece k 0 ≢ 10) → i < length piece → is_over s ≡ false
-not_over s piece i over one_line within = elim (is_over s) as (λ v. (v ≡ true → (0 < i) × (get_or piece (i - 1) 0 ≡ 10))
-    → v ≡ false) [
-      | true ↦ λ o. let h = o refl in let low : 0 < i = h.0 in let below : i - 1 + 1 < length piece = omega arith in
-          absurd (one_line (i - 1) below h.1)
-      | false ↦ λ _. refl
-    ] over
+not_over s piece i over one_line within = grind (arith, common_steps)

@@ -7,6 +7,7 @@ use Rattle.lsp_frame.specs.laws.Frames.{OneFrameLaw, BoundLaw, FramesLaw, FaultL
 use Rattle.lsp_frame.proofs.FrameLemmas.{judge_within}
 use Rattle.lsp_frame.proofs.FramedLemmas.{Way, same_frame, same_frames, way_of, not_before, same_kind}
 use Rattle.lsp_frame.proofs.WrittenLemmas.{written_is_frame}
+use Rattle.std.proofs.lemmas.Grind.{common_steps}
 
 pub one_frame_law : OneFrameLaw
 one_frame_law max_body raw more body other first second =
@@ -16,9 +17,7 @@ one_frame_law max_body raw more body other first second =
 
 pub bound_law : BoundLaw
 bound_law max_body raw body is_frame_of =
-    let within = judge_within max_body is_frame_of.lines (length body) is_frame_of.good in
-    let short = is_frame_of.short in
-    omega (arith, ap length is_frame_of.is, length-append (header_of is_frame_of.lines) body)
+    grind (arith, common_steps, judge_within, length-append)
 
 pub frames_law : FramesLaw
 frames_law max_body stream bodies others rest other first second =

@@ -14,6 +14,7 @@ use Rattle.lsp_frame.specs.declared.framer.notes.Length.TheVariants as said
 use Rattle.lsp_frame.specs.declared.framer.notes.Charset.{Charset}
 use Rattle.lsp_frame.specs.declared.framer.notes.Charset.TheVariants as named
 use Rattle.lsp_frame.specs.declared.framer.notes.Notes.{Notes}
+use Rattle.std.proofs.lemmas.Grind.{common_steps}
 
 pub All_at : (P : ℕ → Type 0) (xs : List ℕ) (k d : ℕ) → AllByRecursion P xs → k < length xs → P (get_or xs k d)
 All_at P [] k d all within = absurd (omega arith)
@@ -35,10 +36,7 @@ colon_at line (Some k) is first =
     get_or_at line.name 58 rest 0 (length line.name) refl in
     let passes : is_byte 58 (get_or (line_bytes line) k 0) ≡ true = first.1 in
     let at_k : get_or (line_bytes line) k 0 ≡ 58 = eqb-true (get_or (line_bytes line) k 0) 58 passes in
-    let not_below : k < length line.name → ⊥ = λ below.
-    let same : get_or (line_bytes line) k 0 ≡ get_or line.name k 0 =
-    get_or_append_left line.name (58 ∷ rest) 0 k below in
-    (All_at IsNameByte line.name k 0 is.name below).2 (sym same ∙ at_k) in
+    let not_below : k < length line.name → ⊥ = grind (arith, common_steps, get_or_append_left) in
     let not_above : length line.name < k → ⊥ =
     λ above. first.0.before (length line.name) (omega arith) above (ap (is_byte 58) there) in
     let e : k ≡ length line.name = omega (arith, not_below, not_above) in
@@ -65,32 +63,19 @@ pub split_is : (bytes : List ℕ) (place : Option ℕ) (k : ℕ) (line : Line) �
     → ((at : ℕ) → place ≡ Some at → k ≡ at) → IsLine line → bytes ≡ line_bytes line → (take k bytes ≡ line.name)
     × (take (length bytes - 2 - (k + 1)) (drop (k + 1) bytes) ≡ line.value)
 split_is bytes place k line first chosen is e =
-    let first_here : IsFirstByte (is_byte 58) (line_bytes line) place =
-    subst (λ (x : List ℕ). IsFirstByte (is_byte 58) x place) e first in
-    let at : k ≡ length line.name = chosen (length line.name) (colon_at line place is first_here) in
-    (rw (e, at) (name_of_line line), rw (e, at) (value_of_line line))
+    grind (arith, common_steps, colon_at, name_of_line, value_of_line)
 
 -- One more line.
 pub values_of-push : (name : List ℕ) (lines : List Line) (line : Line) → values_of name (lines ++ line ∷ [])
     ≡ values_of name lines ++ (if is_text name line.name then line.value ∷ [] else [])
 values_of-push name [] line = refl
 values_of-push name (other ∷ lines) line =
-    elim (is_text name other.name) as (λ b. (if b then other.value ∷ values_of name (lines ++ line ∷ [])
-    else values_of name (lines ++ line ∷ [])) ≡ (if b then other.value ∷ values_of name lines else values_of name lines)
-    ++ (if is_text name line.name then line.value ∷ [] else [])) [
-      | true ↦ ap (λ x. other.value ∷ x) (values_of-push name lines line)
-      | false ↦ values_of-push name lines line
-    ]
+    grind (arith, common_steps, (values_of-push name lines line))
 
 pub said_twice : (max_body : ℕ) (value other : List ℕ) → length_noted max_body (length_said max_body value) other
     ≡ said.Repeated
 said_twice max_body value other =
-    elim (is_number (trimmed value)) as (λ b. length_noted max_body (if not b then said.Bad else if nat_lt max_body
-    (number (trimmed value)) then said.TooLong else said.Given (number (trimmed value))) other ≡ said.Repeated) [
-      | true ↦ elim (nat_lt max_body (number (trimmed value))) as (λ b. length_noted max_body (if b then said.TooLong
-          else said.Given (number (trimmed value))) other ≡ said.Repeated) [ true ↦ refl | false ↦ refl ]
-      | false ↦ refl
-    ]
+    grind (arith, common_steps)
 
 pub length_of-push : (max_body : ℕ) (values : List (List ℕ)) (value : List ℕ)
     → length_of max_body (values ++ value ∷ []) ≡ length_noted max_body (length_of max_body values) value
@@ -101,10 +86,7 @@ length_of-push max_body (first ∷ second ∷ values) value = refl
 pub named_twice : (value other : List ℕ) → charset_noted (if has_good_charset value then named.Good else named.Bad)
     other ≡ named.Repeated
 named_twice value other =
-    elim (has_good_charset value) as (λ b. charset_noted (if b then named.Good else named.Bad) other ≡ named.Repeated) [
-      | true ↦ refl
-      | false ↦ refl
-    ]
+    grind (arith, common_steps)
 
 pub charset_of-push : (values : List (List ℕ)) (value : List ℕ) → charset_of (values ++ value ∷ [])
     ≡ charset_noted (charset_of values) value
@@ -128,24 +110,4 @@ pub noted_is : (max_body : ℕ) (lines : List Line) (line : Line) → noted max_
     line.value ≡ notes_of max_body (lines ++ line ∷ [])
 unfolding notes_of
 noted_is max_body lines line =
-    let length_name : List ℕ = codes "content-length" in
-    let type_name : List ℕ = codes "content-type" in
-    let one : (if is_text (codes "content-length") line.name then length_noted max_body
-    (length_of max_body (values_of (codes "content-length") lines)) line.value else length_of max_body
-    (values_of (codes "content-length") lines))
-    ≡ length_of max_body (values_of (codes "content-length") (lines ++ line ∷ [])) =
-    length_with max_body (values_of (codes "content-length") lines) line.value
-    (is_text (codes "content-length") line.name)
-    ∙ ap (length_of max_body) (sym (values_of-push (codes "content-length") lines line)) in
-    let two : (if is_text (codes "content-type") line.name then
-    charset_noted (charset_of (values_of (codes "content-type") lines)) line.value
-    else charset_of (values_of (codes "content-type") lines))
-    ≡ charset_of (values_of (codes "content-type") (lines ++ line ∷ [])) =
-    charset_with (values_of (codes "content-type") lines) line.value (is_text (codes "content-type") line.name)
-    ∙ ap charset_of (sym (values_of-push (codes "content-type") lines line)) in
-    same_notes one two
-  where
-    same_notes : {a b : Length} {x y : Charset} → a ≡ b → x ≡ y → (let n : Notes = record { length = a; charset = x } in
-        n) ≡ (let n : Notes = record { length = b; charset = y } in n)
-    same_notes {a} {b} {x} {y} p q = ap (λ (n : Length × Charset). record { length = n.0; charset = n.1 })
-        (let e : (a, x) ≡ (b, y) = cc in e)
+    grind (arith, common_steps, length_with, values_of-push, charset_with)

@@ -15,6 +15,7 @@ use Rattle.lsp_frame.specs.declared.framer.shape.Shape.{Shape}
 use Rattle.lsp_frame.specs.declared.framer.shape.Shape.TheVariants as shape
 use Rattle.lsp_frame.proofs.HeaderLemmas.{AreLines-append, lines_bytes-append, begins_part, begins_behind, stops_behind}
 use Rattle.lsp_frame.proofs.LineLemmas.{noted_is}
+use Rattle.std.proofs.lemmas.Grind.{common_steps}
 
 -- The line that is whole becomes one of the lines.
 pub with_line_so_far : (max_body : ℕ) (buffered : List ℕ) (header : Header) (name value : List ℕ) (added : Notes)
@@ -23,32 +24,7 @@ pub with_line_so_far : (max_body : ℕ) (buffered : List ℕ) (header : Header) 
     ≡ line_bytes parts → (name ≡ parts.name) × (value ≡ parts.value)) → added ≡ noted max_body header.notes name value
     → IsSoFar max_body buffered (record { shape = shape.Start; line = length buffered; notes = added })
 with_line_so_far max_body buffered header name value added so_far whole split add =
-    let shaped : IsPartOfLine shape.Whole so_far.part =
-    subst (λ (s : Shape). IsPartOfLine s so_far.part) whole so_far.shaped in
-    let line : Line = shaped.0 in
-    let dropped : drop header.line buffered ≡ so_far.part =
-    rw (
-      so_far.is,
-      so_far.starts,
-    ) (drop_at (lines_bytes so_far.lines) so_far.part (length (lines_bytes so_far.lines)) refl) in
-    let cut : take (length buffered - header.line) (drop header.line buffered) ≡ line_bytes line =
-    take_rest buffered header.line ∙ dropped ∙ shaped.2 in
-    let parts = split line shaped.1 cut in
-    let all : buffered ≡ lines_bytes (so_far.lines ++ line ∷ []) ++ [] =
-    so_far.is ∙ ap (λ x. lines_bytes so_far.lines ++ x) shaped.2
-    ∙ sym (ap (λ x. x ++ []) (lines_bytes-append so_far.lines (line ∷ [])) ∙ simp (append-nil)) in
-    record {
-      lines = so_far.lines ++ line ∷ [];
-      part = [];
-      each = AreLines-append so_far.lines (line ∷ []) so_far.each (shaped.1, tt);
-      is = all;
-      starts = ap length all ∙ ap length (append-nil (lines_bytes (so_far.lines ++ line ∷ [])));
-      shaped = refl;
-      noted = add ∙ same_noted parts.0 parts.1 so_far.noted ∙ noted_is max_body so_far.lines line;
-    }
-  where
-    same_noted : {a b x y : List ℕ} {n m : Notes} → a ≡ b → x ≡ y → n ≡ m → noted max_body n a x ≡ noted max_body m b y
-    same_noted p q r = cc
+    grind (arith, common_steps, drop_at, take_rest, lines_bytes-append, append-nil, noted_is)
 
 -- The byte of a window with which no header goes on.
 pub bad_byte : (max_body : ℕ) (buffered window : List ℕ) (header : Header) (n i at : ℕ)
@@ -66,10 +42,7 @@ bad_byte max_body buffered window header n i at so_far within there place goes s
     stops_behind so_far.lines (so_far.part ++ take (i + 1) (take n window)) so_far.each
     (stops so_far.part so_far.shaped) in
     let first : lines_bytes so_far.lines ++ (so_far.part ++ take i (take n window)) ≡ buffered ++ take i window =
-    sym (append_assoc (lines_bytes so_far.lines) so_far.part (take i (take n window))) ∙ rw (
-      ← so_far.is,
-      take-take i n window (omega arith),
-    ) refl in
+    grind (arith, common_steps, append_assoc, take-take) in
     let second : lines_bytes so_far.lines ++ (so_far.part ++ take (i + 1) (take n window))
     ≡ buffered ++ take (i + 1) window =
     sym (append_assoc (lines_bytes so_far.lines) so_far.part (take (i + 1) (take n window)))
@@ -86,8 +59,7 @@ bad_byte max_body buffered window header n i at so_far within there place goes s
 pub so_far_begins : (max_body : ℕ) (buffered : List ℕ) (header : Header) → IsSoFar max_body buffered header
     → is_over header.shape ≡ false → BeginsHeader buffered
 so_far_begins max_body buffered header so_far line_open =
-    subst BeginsHeader (sym so_far.is) (begins_behind so_far.lines so_far.part so_far.each
-    (begins_part header.shape so_far.part so_far.shaped line_open))
+    grind (arith, common_steps, begins_behind, begins_part)
 
 pub open_shape : (s : Shape) → s ≢ shape.Whole → s ≢ shape.End → is_over s ≡ false
 open_shape shape.Start not_whole not_end = refl
@@ -110,25 +82,18 @@ pub window_take : (piece window : List ℕ) (at room n : ℕ)
     → window ≡ take room (take (length piece - at) (drop at piece)) → n ≤ length window → take n window
     ≡ take n (drop at piece)
 window_take piece window at room n e within =
-    let whole : window ≡ take room (drop at piece) = e ∙ ap (take room) (take_rest piece at) in
-    let low : n ≤ room = omega (arith, ap length whole, length-take room (drop at piece)) in
-    ap (take n) whole ∙ take-take n room (drop at piece) low
+    grind (arith, common_steps, take_rest, length-take, take-take)
 
 pub window_len : (piece window : List ℕ) (at room : ℕ) → window ≡ take room (take (length piece - at) (drop at piece))
     → (length window ≤ room) × (length window ≤ length piece - at)
 window_len piece window at room e =
-    let whole : window ≡ take room (drop at piece) = e ∙ ap (take room) (take_rest piece at) in
-    let l : length window ≡ length (take room (drop at piece)) = ap length whole in (
-      omega (arith, l, length-take room (drop at piece)),
-      omega (arith, l, length-take room (drop at piece), length-drop at piece),
-    )
+    grind (arith, common_steps, take_rest, length-take, length-drop)
 
 pub held_more : (old piece buffered window : List ℕ) (at room n : ℕ) → buffered ≡ old ++ take at piece
     → window ≡ take room (take (length piece - at) (drop at piece)) → n ≤ length window → buffered ++ take n window
     ≡ old ++ take (at + n) piece
 held_more old piece buffered window at room n e w within =
-    ap (λ x. x ++ take n window) e ∙ ap (λ x. (old ++ take at piece) ++ x) (window_take piece window at room n w within)
-    ∙ append_assoc old (take at piece) (take n (drop at piece)) ∙ ap (λ x. old ++ x) (sym (take-add at n piece))
+    grind (arith, common_steps, window_take, append_assoc, take-add)
 
 -- The fault of a line is the header's, decided at the same byte.
 pub bad_header : (old piece buffered window : List ℕ) (at room place : ℕ) → at ≤ length piece → buffered
@@ -142,13 +107,9 @@ bad_header old piece buffered window at room place within e w room_is bad =
     let lens = window_len piece window at room w in
     let there : bad.i < length window = bad.there in
     let first : take place (old ++ piece) ≡ buffered ++ take bad.i window =
-    ap (λ n. take n (old ++ piece)) at_place ∙ take_joined old piece at bad.i
-    ∙ sym (ap (λ x. x ++ take bad.i window) e ∙ ap (λ x. (old ++ take at piece) ++ x)
-    (window_take piece window at room bad.i w (omega arith))) in
+    grind (arith, common_steps, take_joined, window_take) in
     let second : take (place + 1) (old ++ piece) ≡ buffered ++ take (bad.i + 1) window =
-    ap (λ n. take n (old ++ piece)) rest_after ∙ take_joined old piece at (bad.i + 1)
-    ∙ sym (ap (λ x. x ++ take (bad.i + 1) window) e ∙ ap (λ x. (old ++ take at piece) ++ x)
-    (window_take piece window at room (bad.i + 1) w (omega arith))) in
+    grind (arith, common_steps, take_joined, window_take) in
     let stopped : StopsHeader (take (place + 1) (old ++ piece)) = subst StopsHeader (sym second) bad.stops in
     record {
       there = omega (arith, length-append old piece, at_place, lens.1);
@@ -163,13 +124,7 @@ pub too_long : (max_body : ℕ) (old piece buffered : List ℕ) (header : Header
     ≡ old ++ take at piece → length buffered ≡ 8192 → IsSoFar max_body buffered header → is_over header.shape ≡ false
     → IsHeaderTooLongAt (old ++ piece) 8191
 too_long max_body old piece buffered header at within e len so_far line_open =
-    let total : length old + at ≡ 8192 = omega (
-      arith,
-      len,
-      ap length e,
-      length-append old (take at piece),
-      length-take at piece,
-    ) in
+    let total : length old + at ≡ 8192 = grind (arith, common_steps, length-append, length-take) in
     let front : take (8191 + 1) (old ++ piece) ≡ buffered = ap (λ n. take n (old ++ piece)) (sym total)
     ∙ take-append-add old piece at ∙ sym e in
     record {
@@ -196,11 +151,9 @@ take_short buffered window new n e short =
 pub taken_more : (old piece buffered new : List ℕ) (n m : ℕ) → buffered ≡ old ++ take n piece
     → new ≡ buffered ++ take m (take (length piece - n) (drop n piece)) → new ≡ old ++ take (n + m) piece
 taken_more old piece buffered new n m first second =
-    second ∙ ap (λ x. buffered ++ take m x) (take_rest piece n) ∙ ap (λ x. x ++ take m (drop n piece)) first
-    ∙ append_assoc old (take n piece) (take m (drop n piece)) ∙ ap (λ x. old ++ x) (sym (take-add n m piece))
+    grind (arith, common_steps, take_rest, append_assoc, take-add)
 
 pub all_of : (old piece buffered : List ℕ) (n : ℕ) → buffered ≡ old ++ take n piece
     → buffered ++ take (length piece - n) (drop n piece) ≡ old ++ piece
 all_of old piece buffered n first =
-    ap (λ x. buffered ++ x) (take_rest piece n) ∙ ap (λ x. x ++ drop n piece) first ∙ append_assoc old (take n piece)
-    (drop n piece) ∙ ap (λ x. old ++ x) (take-append-drop n piece)
+    grind (arith, common_steps, take_rest, append_assoc, take-append-drop)

@@ -20,6 +20,7 @@ use Rattle.std.proofs.lemmas.List.{take_more}
 use Rattle.std.proofs.Common.{Vec, Global, get_or}
 use Rattle.lsp_frame.proofs.FaultLemmas.{decided_hopeless, part_one}
 use Rattle.lsp_frame.proofs.FramedLemmas.{begins_front, way_of, ends_here, way_within, no_empty_frame, nothing_part, framed_push, framed_more, framed_len}
+use Rattle.std.proofs.lemmas.Grind.{common_steps}
 
 -- The place behind one more frame.
 pub place_more : (whole buffered place : ℕ) → buffered ≤ whole → place ≡ place_after 0 (whole - buffered)
@@ -59,20 +60,7 @@ pub fed_holding : (max_body : ℕ) (stream : List ℕ) (bodies : List (List ℕ)
       buffered = f.buffered ++ more;
     } → IsPart n.limits.max_body n.buffered → IsHolding max_body (stream ++ more) bodies n
 fed_holding max_body stream bodies f n more at e part =
-    let fed : FramerData = record f { buffered = f.buffered ++ more } in
-    let part_here : IsPart f.limits.max_body (f.buffered ++ more) =
-    subst (λ (g : FramerData). IsPart g.limits.max_body g.buffered) e part in
-    let less = framed_len max_body stream bodies f.buffered at.holding.framed in
-    let same : length stream - length f.buffered ≡ length (stream ++ more) - length (f.buffered ++ more) =
-    omega (arith, less, length-append stream more, length-append f.buffered more) in
-    let holding : IsHolding max_body (stream ++ more) bodies (record f { buffered = f.buffered ++ more }) = record {
-      framed = framed_more max_body stream bodies f.buffered more at.holding.framed;
-      place = at.holding.place ∙ ap (place_after 0) same;
-      sound = at.holding.sound;
-      part = subst (λ (k : ℕ). IsPart k (f.buffered ++ more)) at.holding.limit part_here;
-      limit = at.holding.limit;
-    } in
-    subst (λ (g : FramerData). IsHolding max_body (stream ++ more) bodies g) (sym e) holding
+    grind (arith, common_steps, framed_len, length-append, framed_more)
 
 -- What was decided stays so with more bytes.
 pub front_more : (bytes more : List ℕ) (k : ℕ) → k < length bytes → take (k + 1) bytes ≡ take (k + 1) (bytes ++ more)
@@ -81,32 +69,14 @@ front_more bytes more k there = sym (take-append-le (k + 1) bytes more (omega ar
 pub judged_more : (max_body : ℕ) (bytes more : List ℕ) (k : ℕ) (kind : HeaderFault) → IsJudgedAt max_body bytes k kind
     → IsJudgedAt max_body (bytes ++ more) k kind
 judged_more max_body bytes more k kind at =
-    record {
-      lines = at.lines;
-      each = at.each;
-      is = sym (front_more bytes more k at.there) ∙ at.is;
-      there = omega (arith, at.there, length-append bytes more);
-      within = at.within;
-      judged = at.judged;
-    }
+    grind (arith, common_steps, front_more, length-append)
 
 pub decided_more : (max_body : ℕ) (bytes more : List ℕ) (k : ℕ) (kind : HeaderFault) → IsDecidedAt max_body bytes k kind
     → IsDecidedAt max_body (bytes ++ more) k kind
 decided_more max_body bytes more k header.BadHeader at =
-    let front = front_more bytes more k at.there in
-    record {
-      there = omega (arith, at.there, length-append bytes more);
-      within = at.within;
-      before = subst BeginsHeader (sym (take-append-le k bytes more (omega (arith, at.there)))) at.before;
-      not_on = λ b. at.not_on (subst BeginsHeader (sym front) b);
-      not_whole = λ h. at.not_whole (subst IsHeader (sym front) h);
-    }
+    grind (arith, common_steps, front_more, length-append, take-append-le)
 decided_more max_body bytes more k header.HeaderTooLong at =
-    record {
-      there = omega (arith, at.there, length-append bytes more);
-      place = at.place;
-      on = subst BeginsHeader (front_more bytes more k at.there) at.on;
-    }
+    grind (arith, common_steps, length-append, front_more)
 decided_more max_body bytes more k header.MissingLength at = judged_more max_body bytes more k header.MissingLength at
 decided_more max_body bytes more k header.RepeatedHeader at = judged_more max_body bytes more k header.RepeatedHeader at
 decided_more max_body bytes more k header.BadLength at = judged_more max_body bytes more k header.BadLength at
@@ -122,13 +92,7 @@ faulty_more max_body stream more bodies fault at =
     record {
       rest = at.rest ++ more;
       framed = framed_more max_body stream bodies at.rest more at.framed;
-      decided = record {
-        kind = at.decided.kind;
-        k = at.decided.k;
-        decided = decided_more max_body at.rest more at.decided.k at.decided.kind at.decided.decided;
-        is = at.decided.is ∙ ap (λ n. header_fault_at at.decided.kind (place_after (place_after 0 n) at.decided.k))
-            same;
-      };
+      decided = grind (arith, common_steps, decided_more);
       hopeless = λ tail raw body last s e. at.hopeless (more ++ tail) raw body last s
           (sym (append_assoc at.rest more tail) ∙ e);
     }
@@ -148,28 +112,13 @@ faulty_read max_body stream bodies fault at =
 -- Where a part of a frame is held no fault was decided, and no frame begins but the one that is held.
 pub part_sound : (max_body : ℕ) (buffered : List ℕ) → IsPart max_body buffered → IsSound max_body buffered
 part_sound max_body buffered (inl part) k kind at =
-    let w = way_of max_body buffered k kind at in
-    let within = way_within max_body buffered k kind w in
-    let full = ends_here max_body buffered k kind w (begins_front buffered (k + 1) part.begins) in
-    omega (arith, within.1, full, part.short)
+    grind (arith, common_steps, way_of, way_within, ends_here, begins_front)
 part_sound max_body buffered (inr part) k kind at =
     let missing : List ℕ = replicate (part.wanted - length part.body) 0 in
     let len : part.wanted ≡ length (part.body ++ replicate (part.wanted - length part.body) 0) =
-    omega (
-      arith,
-      length-append part.body (replicate (part.wanted - length part.body) 0),
-      length-replicate {A = ℕ} (part.wanted - length part.body) 0,
-      part.within,
-    ) in
+    grind (arith, common_steps, length-append, length-replicate) in
     let is_frame_of : IsFrameOf max_body (buffered ++ replicate (part.wanted - length part.body) 0)
-    (part.body ++ replicate (part.wanted - length part.body) 0) = record {
-      lines = part.lines;
-      each = part.each;
-      is = ap (λ z. z ++ replicate (part.wanted - length part.body) 0) part.is ∙ append_assoc (header_of part.lines)
-          part.body (replicate (part.wanted - length part.body) 0);
-      short = part.short;
-      good = part.good ∙ ap Ok len;
-    } in
+    (part.body ++ replicate (part.wanted - length part.body) 0) = grind (arith, common_steps, append_assoc) in
     decided_hopeless max_body buffered k kind at (replicate (part.wanted - length part.body) 0)
     (buffered ++ replicate (part.wanted - length part.body) 0) (part.body ++ replicate (part.wanted - length part.body)
     0) [] is_frame_of (sym (append-nil (buffered ++ replicate (part.wanted - length part.body) 0)))
@@ -221,27 +170,9 @@ fault_behind max_body stream piece at bodies f n fault rest_after fed some =
     let same : length (stream ++ take at piece) - length f.buffered
     ≡ length ((stream ++ take at piece) ++ take (length piece - at) (drop at piece))
     - length (f.buffered ++ take (length piece - at) (drop at piece)) =
-    omega (
-      arith,
-      less,
-      length-append (stream ++ take at piece) (take (length piece - at) (drop at piece)),
-      length-append f.buffered (take (length piece - at) (drop at piece)),
-    ) in
+    grind (arith, common_steps, length-append) in
     let faulty : IsFaulty max_body ((stream ++ take at piece) ++ take (length piece - at) (drop at piece)) bodies
-    fault = record {
-      rest = f.buffered ++ take (length piece - at) (drop at piece);
-      framed = framed_more max_body (stream ++ take at piece) bodies f.buffered
-          (take (length piece - at) (drop at piece)) rest_after.holding.framed;
-      decided = record {
-        kind = why.decided.kind;
-        k = why.decided.k;
-        decided = here;
-        is = why.decided.is ∙ ap (λ p. header_fault_at why.decided.kind (place_after p why.decided.k))
-            (rest_after.holding.place ∙ ap (place_after 0) same);
-      };
-      hopeless = decided_hopeless max_body (f.buffered ++ take (length piece - at) (drop at piece)) why.decided.k
-          why.decided.kind here;
-    } in
+    fault = grind (arith, common_steps, framed_more, decided_hopeless) in
     subst (λ (z : List ℕ). IsFaulty max_body z bodies fault) (all_of stream piece (stream ++ take at piece) at refl)
     faulty
 
@@ -274,10 +205,7 @@ pub joined_more : (f : Vec ℕ Global → List ℕ) (pieces : List (Vec ℕ Glob
     → i < length pieces → piece ≡ get_or pieces i piece → flat_map f (take i pieces) ++ f piece
     ≡ flat_map f (take (i + 1) pieces)
 joined_more f pieces i piece within is =
-    let front : take (i + 1) pieces ≡ take i pieces ++ piece ∷ [] =
-    take_more pieces i piece within ∙ ap (λ (p : Vec ℕ Global). take i pieces ++ p ∷ []) (sym is) in
-    ap (λ x. flat_map f (take i pieces) ++ x) (sym (append-nil (f piece)))
-    ∙ sym (flat_map-append f (take i pieces) (piece ∷ [])) ∙ ap (flat_map f) (sym front)
+    grind (arith, common_steps, take_more, append-nil, flat_map-append)
 
 pub joined_all : (f : Vec ℕ Global → List ℕ) (pieces : List (Vec ℕ Global)) (i : ℕ) → flat_map f (take i pieces)
     ++ flat_map f (drop i pieces) ≡ flat_map f pieces
@@ -303,19 +231,14 @@ pub piece_behind : (max_body : ℕ) (f : Vec ℕ Global → List ℕ) (pieces : 
     → piece ≡ get_or pieces i piece → now ≡ f piece → HasTaken max_body (flat_map f (take i pieces) ++ now) bodies g
     → HasTaken max_body (flat_map f (take (i + 1) pieces)) bodies g
 piece_behind max_body f pieces i piece now bodies g within is e rest_after =
-    let joined : flat_map f (take i pieces) ++ now ≡ flat_map f (take (i + 1) pieces) =
-    ap (λ z. flat_map f (take i pieces) ++ z) e ∙ joined_more f pieces i piece within is in
-    subst (λ (z : List ℕ). HasTaken max_body z bodies g) joined rest_after
+    grind (arith, common_steps, joined_more)
 
 -- A stream has the bytes of each of its pieces.
 pub piece_some : (f : Vec ℕ Global → List ℕ) (pieces : List (Vec ℕ Global)) (i : ℕ) (piece : Vec ℕ Global)
     (now : List ℕ) → i < length pieces → piece ≡ get_or pieces i piece → now ≡ f piece → 0 < length now
     → 0 < length (flat_map f pieces)
 piece_some f pieces i piece now within is e some =
-    let long = length-flat_map-take f pieces i piece within in
-    let here : length now ≡ length (f (get_or pieces i piece)) =
-    ap length e ∙ ap (λ (p : Vec ℕ Global). length (f p)) is in
-    omega (arith, long, here, some)
+    grind (arith, common_steps, length-flat_map-take)
 
 pub on_err : {X Y Z : Type 0} (r : Result X Y) → Z → OnErr r Z
 on_err (Ok x) z = tt

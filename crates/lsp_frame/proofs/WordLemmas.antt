@@ -9,6 +9,7 @@ use Rattle.std.proofs.lemmas.List.Splits.{slice_split_first, slice_split_none}
 use Rattle.lsp_frame.specs.Verdict.{number}
 use Rattle.memchr.specs.Find.{IsFirstByte, is_byte}
 use Rattle.lsp_frame.specs.Charset.{is_equals, is_semicolon, is_text, is_good_trimmed, is_good_parameter, has_good_charset, is_utf8_name, unquoted, trimmed}
+use Rattle.std.proofs.lemmas.Grind.{common_steps}
 
 -- a test that isn't passed
 pub not_true : (b : Bool) → (b ≡ true → ⊥) → b ≡ false
@@ -18,9 +19,7 @@ not_true false h = refl
 pub first_place : (a : ℕ) (hay : List ℕ) (k : ℕ) → IsFirstByte (is_byte a) hay (Some k)
     → position_or_len (is_byte a) hay ≡ k
 first_place a hay k first =
-    let high : k < length hay = first.0.high in
-    position_or_len_is (is_byte a) hay k 0 (omega arith) (λ j below. not_true _ (first.0.before j (omega arith) below))
-    (λ _. first.1)
+    grind (arith, common_steps, position_or_len_is, not_true)
 
 pub some_equals : (hay : List ℕ) (k : ℕ) → IsFirstByte (is_byte 61) hay (Some k) → list_any is_equals hay ≡ true
 some_equals hay k first = or_at (list_any is_equals) is_equals refl (λ x xs. refl) hay k 0 first.0.high first.1
@@ -71,21 +70,13 @@ parameter_charset part t name value inner k r answer e first named asked is valu
 pub number_above : (digits : List ℕ) (n i most : ℕ) → fold (λ (m b : ℕ). 10 * m + (b - 48)) n (drop i digits)
     ≡ number digits → i < length digits → most < n * 10 + (get_or digits i 0 - 48) → most < number digits
 number_above digits n i most is within above =
-    let step : fold (λ (m b : ℕ). 10 * m + (b - 48)) n (drop i digits) ≡ fold (λ (m b : ℕ). 10 * m + (b - 48))
-    (10 * n + (get_or digits i 0 - 48)) (drop (i + 1) digits) =
-    at_drop_more (λ (xs : List ℕ). fold (λ (m b : ℕ). 10 * m + (b - 48)) n xs) digits i 0 within in
-    let grows = number_grows (10 * n + (get_or digits i 0 - 48)) (drop (i + 1) digits) in
-    let e : fold (λ (m b : ℕ). 10 * m + (b - 48)) (10 * n + (get_or digits i 0 - 48)) (drop (i + 1) digits)
-    ≡ number digits = sym step ∙ is in
-    omega (arith, grows, e)
+    grind (arith, common_steps, at_drop_more, number_grows)
 
 -- What is cut at the first `;`.
 pub split_some : (hay : List ℕ) (k : ℕ) → IsFirstByte (is_byte 59) hay (Some k) → slice_split is_semicolon hay
     ≡ take k hay ∷ slice_split is_semicolon (take (length hay - (k + 1)) (drop (k + 1) hay))
 split_some hay k first =
-    let place : position_or_len is_semicolon hay ≡ k = first_place 59 hay k first in
-    let within : position_or_len is_semicolon hay < length hay = rw place first.0.high in
-    slice_split_first is_semicolon hay 0 within ∙ rw (place, take_rest hay (k + 1)) refl
+    grind (arith, common_steps, first_place, slice_split_first, take_rest)
 
 pub split_none : (hay : List ℕ) → IsFirstByte (is_byte 59) hay None → slice_split is_semicolon hay ≡ hay ∷ []
 split_none hay first =
@@ -104,12 +95,7 @@ all_split_none hay first = ap (list_all is_good_parameter) (split_none hay first
 
 pub rest_shorter : (hay : List ℕ) (k n : ℕ) → length hay ≤ n → length (take (length hay - (k + 1)) (drop (k + 1) hay))
     ≤ n
-rest_shorter hay k n h = omega (
-  arith,
-  length-take (length hay - (k + 1)) (drop (k + 1) hay),
-  length-drop (k + 1) hay,
-  h,
-)
+rest_shorter hay k n h = grind (arith, common_steps, length-take, length-drop)
 
 -- The answer at a part that is bad, behind good ones, and at the last part.
 pub bad_part : (hay : List ℕ) (k : ℕ) (r : Bool) → IsFirstByte (is_byte 59) hay (Some k)
@@ -134,11 +120,7 @@ good_part hay k r first error is all e =
 
 pub last_part : (hay : List ℕ) (r : Bool) → IsFirstByte (is_byte 59) hay None → r ≡ is_good_parameter hay → (all : Bool)
     → list_all is_good_parameter (slice_split is_semicolon hay) ≡ all → r ≡ all
-last_part hay r first error all e = error ∙ sym (and-true (is_good_parameter hay)) ∙ sym (all_split_none hay first) ∙ e
-  where
-    and-true : (b : Bool) → (b && true) ≡ b
-    and-true true = refl
-    and-true false = refl
+last_part hay r first error all e = grind (arith, common_steps, all_split_none)
 
 pub first_part : (value : List ℕ) (k : ℕ) → IsFirstByte (is_byte 59) value (Some k) → has_good_charset value
     ≡ list_all is_good_parameter (slice_split is_semicolon (take (length value - (k + 1)) (drop (k + 1) value)))

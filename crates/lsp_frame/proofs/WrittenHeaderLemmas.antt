@@ -14,6 +14,7 @@ use Rattle.lsp_frame.specs.inside.Stage.{BeginsWritten, IsInBody}
 use Rattle.lsp_frame.specs.declared.written.WrittenHeader.{WrittenHeader}
 use Rattle.lsp_frame.proofs.FramedLemmas.{same_length_front}
 use Rattle.lsp_frame.proofs.WrittenLemmas.{AreDigits, all_digits, digits_are_values, trimmed_digits, name_from_test}
+use Rattle.std.proofs.lemmas.Grind.{common_steps}
 
 -- the one line of such a header
 abbrev pub digits_line : List ℕ → Line
@@ -57,14 +58,7 @@ written_in_body max_body bytes header w =
       lines = digits_line w.digits ∷ [];
       body = take header.body w.rest;
       wanted = header.body;
-      each = (
-        record {
-          some = omega arith;
-          name = name_from_test (codes "Content-Length") refl;
-          value = (inl (omega arith, omega arith), digits_are_values w.digits all);
-        },
-        tt,
-      );
+      each = grind (arith, common_steps, name_from_test, inl, digits_are_values);
       is = is;
       starts = len;
       short = omega (arith, w.len, w.few);
@@ -78,9 +72,7 @@ written_in_body max_body bytes header w =
 pub digits_front : (rest window digits : List ℕ) (most n : ℕ) → window ≡ take most rest → n ≤ length window
     → digits ≡ take n rest → list_all is_digit (take n window) ≡ true → list_all is_digit digits ≡ true
 digits_front rest window digits most n e within front each =
-    let low : n ≤ most = omega (arith, ap length e, length-take most rest) in
-    let same : take n window ≡ take n rest = ap (take n) e ∙ take-take n most rest low in
-    ap (list_all is_digit) (front ∙ sym same) ∙ each
+    grind (arith, common_steps, length-take, take-take)
 
 -- The parts of the header, as they are found.
 pub begins_written : (max_body : ℕ) (bytes rest digits rest_after : List ℕ) (len body : ℕ)
@@ -119,29 +111,12 @@ same_len rest window digits more most n cut is few each within found last =
     elim (cases_order n (length digits)) [
       | inl e ↦ e
       | inr other ↦ elim other [
-        | inl less ↦ absurd (
-            let here : n < length window = omega (
-              arith,
-              len,
-              all,
-              length-take most rest,
-              length-append digits (13 ∷ more),
-            ) in
-            let low : n < most = omega (arith, len, length-take most rest) in
-            let there : get_or window n 0 ≡ get_or digits n 0 =
-            ap (λ x. get_or x n 0) cut ∙ get_or-take most rest n 0 low ∙ ap (λ x. get_or x n 0) is
-            ∙ get_or-append digits (13 ∷ more) 0 n less in
-            let none : list_all is_digit digits ≡ false =
-            list_all_at is_digit digits n 0 less (ap is_digit (sym there) ∙ last here) in
-            cc
-            )
+        | inl less ↦ grind (arith, common_steps, length-take, length-append, get_or-take, get_or-append, list_all_at)
         | inr above ↦ absurd (
             let low : length digits < most = omega (arith, len, length-take most rest) in
             let here : length digits < length (take n window) = omega (arith, length-take n window) in
             let there : get_or (take n window) (length digits) 0 ≡ 13 =
-            get_or-take n window (length digits) 0 above ∙ ap (λ x. get_or x (length digits) 0) cut
-            ∙ get_or-take most rest (length digits) 0 low
-            ∙ ap (λ x. get_or x (length digits) 0) is ∙ get_or-append_seam digits 13 more 0 in
+            grind (arith, common_steps, get_or-take, get_or-append_seam) in
             let none : list_all is_digit (take n window) ≡ false =
             list_all_at is_digit (take n window) (length digits) 0 here (ap is_digit there) in
             cc
@@ -177,8 +152,4 @@ pub within_told : (max_body : ℕ) (bytes digits : List ℕ) (header : WrittenHe
     (w : BeginsWritten max_body bytes header) → digits ≡ w.digits
     → None ≡ (if nat_lt max_body (number digits) then None else Some (number digits)) → ⊥
 within_told max_body bytes digits header w same error =
-    let value : number digits ≡ header.body = ap number same ∙ sym w.body in
-    let not_more : nat_lt max_body (number digits) ≡ false =
-    le-ltb max_body (number digits) (omega (arith, value, w.small)) in
-    let found : None ≡ Some (number digits) = error ∙ rw not_more refl in
-    cc
+    grind (arith, common_steps, le-ltb)

@@ -12,6 +12,7 @@ use Rattle.lsp_frame.specs.Charset.{is_blank, trimmed, trimmed_start, trimmed_en
 use Rattle.lsp_frame.specs.Verdict.{is_digit, number, judge_header}
 use Rattle.lsp_frame.specs.Frame.{frame, IsFrameOf}
 use Rattle.lsp_frame.proofs.LineLemmas.{All_at}
+use Rattle.std.proofs.lemmas.Grind.{common_steps}
 
 -- a digit
 abbrev pub IsDigit : ℕ → Type 0
@@ -47,10 +48,7 @@ digits_are_values (b ∷ bs) all = let low : 48 ≤ b = all.0.0 in let high : b 
 
 pub digit_not_blank : (b : ℕ) → IsDigit b → is_blank b ≡ false
 digit_not_blank b h =
-    let low : 48 ≤ b = h.0 in
-    let space : (b == 32) ≡ false = ne_eqb b 32 (λ e. omega arith) in
-    let tab : (b == 9) ≡ false = ne_eqb b 9 (λ e. omega arith) in
-    rw (space, tab) refl
+    grind (arith, common_steps, ne_eqb)
 
 pub start_same : (bs : List ℕ) → (0 < length bs → is_blank (get_or bs 0 0) ≡ false) → trimmed_start bs ≡ bs
 start_same [] first = refl
@@ -58,20 +56,11 @@ start_same (b ∷ bs) first = let f : is_blank b ≡ false = first (omega arith)
 
 pub end_same : (bs : List ℕ) → AreDigits bs → trimmed_end bs ≡ bs
 end_same bs all =
-    let last : 0 < length (reverse bs) → is_blank (get_or (reverse bs) 0 0) ≡ false = λ some.
-    let len : length (reverse bs) ≡ length bs = length-reverse bs in
-    let within : length bs - 1 - 0 < length bs = omega (arith, len, some) in
-    let there : get_or (reverse bs) 0 0 ≡ get_or bs (length bs - 1 - 0) 0 =
-    get_or-reverse bs 0 0 (omega (arith, len, some)) in
-    ap is_blank there ∙ digit_not_blank (get_or bs (length bs - 1 - 0) 0)
-    (All_at IsDigit bs (length bs - 1 - 0) 0 all within) in
-    ap reverse (start_same (reverse bs) last) ∙ reverse-reverse bs
+    grind (arith, common_steps, reverse, length-reverse, get_or-reverse, digit_not_blank, start_same, reverse-reverse)
 
 pub trimmed_digits : (bs : List ℕ) → AreDigits bs → trimmed (32 ∷ bs) ≡ bs
 trimmed_digits bs all =
-    let first : 0 < length bs → is_blank (get_or bs 0 0) ≡ false =
-    λ some. digit_not_blank (get_or bs 0 0) (All_at IsDigit bs 0 0 all some) in
-    ap trimmed_end (start_same bs first) ∙ end_same bs all
+    grind (arith, common_steps, digit_not_blank, start_same, end_same)
 
 -- the one line of a written header
 abbrev pub length_line : ℕ → Line
@@ -110,14 +99,7 @@ written_is_frame max_body body within small =
     let len : length (decimal (length body)) ≤ 20 = length-decimal-le 20 (length body) (lit< tt) (omega arith) small in
     record {
       lines = length_line (length body) ∷ [];
-      each = (
-        record {
-          some = omega arith;
-          name = name_from_test (codes "Content-Length") refl;
-          value = (inl (omega arith, omega arith), digits_are_values (decimal (length body)) all);
-        },
-        tt,
-      );
+      each = grind (arith, common_steps, name_from_test, inl, digits_are_values);
       is = simp append_assoc;
       short = simp length-append (omega (arith, len));
       good = written_judged max_body (length body) within small;

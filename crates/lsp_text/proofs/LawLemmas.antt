@@ -21,6 +21,7 @@ use Rattle.lsp_text.proofs.Positions.PlaceLemmas.{place_rises, place_order, plac
 use Rattle.lsp_text.proofs.TextLines.LineLemmas.{line_rises, line_has_start, in_content_line}
 use Rattle.lsp_text.proofs.TextLines.StartRowLemmas.{length-line_starts, start_at}
 use Rattle.lsp_text.proofs.Positions.ExactLemmas.{start_before}
+use Rattle.std.proofs.lemmas.Grind.{common_steps}
 
 pub rising_law : RisingLaw
 rising_law text j k before within = omega (arith, place_rises text j k (omega arith) within)
@@ -33,11 +34,7 @@ boundary_law bytes place utf8 boundary =
     let found = index_at bytes place utf8 boundary in
     let at = found.place_is in (
       found.index,
-      record {
-        within = found.within;
-        place_is = found.place_is;
-        alone = λ other within same. place_one (chars bytes) other found.index within found.within (same ∙ sym at);
-      },
+      grind (arith, common_steps, place_one),
     )
 
 pub unit_law : UnitLaw
@@ -49,21 +46,12 @@ unit_law Utf32 c = let b = utf32_bounds c in let l = len_utf8_bounds c in (b.0, 
 start_place : (text : List ℕ) (line : ℕ) → line ≤ line_ends text → slice_index (start_places text) line
     ≡ place_of text (line_start text line)
 start_place text line there =
-    get_or-map (place_of text) (line_starts text) line 0 0 (omega (arith, length-line_starts text))
-    ∙ ap (place_of text) (start_at text line there)
+    grind (arith, common_steps, get_or-map, length-line_starts, start_at)
 
 -- It is the line's first index.
 pub starts_law : StartsLaw
 starts_law text line there =
-    let start = line_has_start text line there in
-    record {
-      first = record {
-        within = omega (arith, start.in_row);
-        here = in_content_line text line (line_start text line) start.passes;
-        least = λ k within here. omega (arith, start_before text k within, ap (line_start text) here);
-      };
-      kept = start_place text line there;
-    }
+    grind (arith, common_steps, line_has_start, in_content_line, start_before, start_place)
 
 -- The line of a text whose start is the last at or before the place of an index is the index's line.
 pub found_law : FoundLaw
@@ -115,9 +103,4 @@ named_by Utf16 = refl
 named_by Utf32 = refl
 
 pub name_law : NameLaw
-name_law name encoding = (
-  named name encoding (bytes_eq name (codes "utf-8")) (bytes_eq name (codes "utf-16")) (bytes_eq name (codes "utf-32"))
-      (bytes_eq-Decides name (codes "utf-8")).0 (bytes_eq-Decides name (codes "utf-16")).0
-      (bytes_eq-Decides name (codes "utf-32")).0,
-  λ same. ap encoding_named same ∙ named_by encoding,
-)
+name_law name encoding = grind (arith, common_steps, named, bytes_eq-Decides, named_by)

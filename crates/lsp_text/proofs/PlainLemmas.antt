@@ -13,12 +13,11 @@ use Rattle.lsp_text.specs.Units.{units_in, units_between}
 use Rattle.lsp_text.specs.Positions.{denoted}
 use Rattle.lsp_text.specs.laws.Units.{utf8_bounds, utf16_bounds, utf32_bounds}
 use Rattle.lsp_text.proofs.Counting.LeadLemmas.{utf8_units}
+use Rattle.std.proofs.lemmas.Grind.{common_steps}
 
 row_more : (k n : ℕ) → k < n → numbers_from k (n - k) ≡ k ∷ numbers_from (k + 1) (n - (k + 1))
 row_more k n before =
-    let count : n - k ≡ suc (n - (k + 1)) = omega arith in
-    let next : suc k ≡ k + 1 = omega arith in
-    rw count (ap (λ (j : ℕ). k ∷ numbers_from j (n - (k + 1))) next)
+    grind (arith, common_steps)
 
 -- An index that fails leaves the filtered rest as it is.
 pub row_on : (test : ℕ → Bool) (k n : ℕ) → k < n → test k ≡ false → filter test (numbers_from k (n - k))
@@ -96,16 +95,13 @@ pub has_them : (units : ℕ → ℕ) (text : List ℕ) (line character start k c
     → count ≡ units_between units text start k →
     count ≡ character → has_units units text line character k ≡ true
 has_them units text line character start k count starts is same =
-    eq-eqb (units_between units text (line_start text line) k) character
-    (ap (λ (s : ℕ). units_between units text s k) (sym starts) ∙ (sym is ∙ same))
+    grind (arith, common_steps, eq-eqb)
 
 pub has_others : (units : ℕ → ℕ) (text : List ℕ) (line character start k count : ℕ) → start ≡ line_start text line
     → count ≡ units_between units text start k →
     (count ≡ character → ⊥) → has_units units text line character k ≡ false
 has_others units text line character start k count starts is other =
-    ne_eqb (units_between units text (line_start text line) k) character
-    (λ (e : units_between units text (line_start text line) k ≡ character). other
-    (is ∙ (ap (λ (s : ℕ). units_between units text s k) starts ∙ e)))
+    grind (arith, common_steps, ne_eqb)
 
 -- A position whose line the text has, with more units than its character, denotes the index that the search finds.
 pub denoted_found : (units : ℕ → ℕ) (text : List ℕ) (p : Position) (start stop count : ℕ)
@@ -113,14 +109,7 @@ pub denoted_found : (units : ℕ → ℕ) (text : List ℕ) (p : Position) (star
     count ≡ units_between units text start stop → p.line ≤ line_ends text → p.character < count →
     denoted units text p ≡ find (has_units units text p.line p.character) (line_content text p.line)
 denoted_found units text p start stop count starts stops is there less =
-    let full : units_between units text (line_start text p.line) (line_stop text p.line) ≡ count =
-    ap (λ (s : ℕ). units_between units text s (line_stop text p.line)) (sym starts)
-    ∙ (ap (units_between units text start) (sym stops) ∙ sym is) in
-    rw (
-      le-ltb (line_ends text) p.line there,
-      lt-leb (units_between units text (line_start text p.line) (line_stop text p.line)) p.character
-          (omega (arith, full)),
-    ) refl
+    grind (arith, common_steps, le-ltb, lt-leb)
 
 -- The units of UTF-8 from the text's start are a place.
 pub place_counted : (text : List ℕ) (index : ℕ) → units_between (units_in Utf8) text 0 index ≡ place_of text index

@@ -1,5 +1,5 @@
 -- Blocks: what comes before one and after it, and the lines of both.
-use Rattle.std.proofs.Common.{ℕ, zero, suc, ◌≡◌, ◌+◌, ◌-◌, ◌*◌, ◌<◌, ◌≤◌, ◌⊎◌, true, List, [], ◌∷◌, ◌++◌, length, take, drop, map, sum, get_or, slice_index, ⊎_elim, inl, inr, refl, sym, ap, ◌∙◌, arith, subst}
+use Rattle.std.proofs.Common.{ℕ, zero, suc, ◌≡◌, ◌+◌, ◌-◌, ◌*◌, ◌<◌, ◌≤◌, ◌⊎◌, true, List, [], ◌∷◌, ◌++◌, length, take, drop, map, sum, get_or, inl, inr, refl, sym, ap, ◌∙◌, arith, subst}
 use Rattle.std.specs.Prelude.{encode_utf8_all}
 use Rattle.std.specs.List.{concat}
 use Rattle.std.specs.Str.{chars, is_utf8, IsUtf8}
@@ -13,27 +13,20 @@ use Rattle.lsp_buffer.specs.Blocks.{EndsClear, IsFull, AreBlocks, block_ends}
 use Rattle.lsp_buffer.specs.inside.Cuts.{AreFull}
 use Rattle.lsp_buffer.specs.inside.Parts.{Closes}
 use Rattle.lsp_buffer.proofs.Blocks.SeamLemmas.{seam_count}
+use Rattle.std.proofs.lemmas.Grind.{common_steps}
 
 -- ---- no carriage return at the end
 
 pub ends_join : (a b : List ℕ) → EndsClear b → EndsClear (a ++ b)
 ends_join a b ends = record {
   some = omega (arith, length-append a b, ends.some);
-  clear = λ e.
-      let at : length (a ++ b) - 1 ≡ length a + (length b - 1) = omega (arith, length-append a b, ends.some) in
-      ends.clear (ap (λ i. get_or b i 0) (omega arith)
-      ∙ (sym (get_or-append_right a b (length a) (length a + (length b - 1)) 0 refl (omega arith))
-      ∙ (ap (slice_index (a ++ b)) (sym at) ∙ e)));
+  clear = grind (arith, common_steps, length-append, get_or-append_right);
 }
 
 pub ends_tail : (a b : List ℕ) → 0 < length b → EndsClear (a ++ b) → EndsClear b
 ends_tail a b some ends = record {
   some = some;
-  clear = λ e.
-      let at : length a + (length b - 1) ≡ length (a ++ b) - 1 = omega (arith, length-append a b) in
-      ends.clear (ap (slice_index (a ++ b)) (sym at)
-      ∙ (get_or-append_right a b (length a) (length a + (length b - 1)) 0 refl (omega arith)
-      ∙ (ap (λ i. get_or b i 0) (omega arith) ∙ e)));
+  clear = grind (arith, common_steps, length-append, get_or-append_right);
 }
 
 clear_text : (text : List ℕ) → EndsClear (encode_utf8_all text) → EndsClear text
@@ -41,9 +34,7 @@ unfolding encode
 clear_text [] ends = absurd (omega (arith, ends.some))
 clear_text (x ∷ []) ends = record {
   some = omega arith;
-  clear = λ (e : x ≡ 13).
-      let bytes : encode_utf8_all (x ∷ []) ≡ 13 ∷ [] = ap (λ c. encode_utf8_all (c ∷ [])) e in
-      ends.clear (ap (λ bs. slice_index bs (length bs - 1)) bytes);
+  clear = grind (arith, common_steps);
 }
 clear_text (x ∷ y ∷ text) ends =
     let some : 0 < length (encode_utf8_all (y ∷ text)) =
@@ -56,10 +47,7 @@ clear_chars bytes utf8 ends = clear_text (chars bytes) (subst EndsClear (sym (en
 
 pub chars_close : (bytes : List ℕ) → IsUtf8 bytes → Closes bytes → Closes (chars bytes)
 chars_close bytes utf8 closes =
-    ⊎_elim
-    (λ (e : bytes ≡ []). inl (ap chars e ∙ chars-nil))
-    (λ (e : EndsClear bytes). inr (clear_chars bytes utf8 e))
-    closes
+    grind (arith, common_steps, inl, chars-nil, inr, clear_chars)
 
 -- ---- full blocks
 
@@ -72,10 +60,7 @@ full_utf8 (b ∷ blocks) full = IsUtf8-append b (concat blocks) (IsUtf8-from_is_
 pub full_closes : (blocks : List (List ℕ)) → AreFull blocks → Closes (concat blocks)
 full_closes [] full = inl refl
 full_closes (b ∷ blocks) full =
-    ⊎_elim
-    (λ (e : concat blocks ≡ []). inr (rw e (rw (append-nil b) full.0.ends)))
-    (λ (e : EndsClear (concat blocks)). inr (ends_join b (concat blocks) e))
-    (full_closes blocks full.1)
+    grind (arith, common_steps, inr, append-nil, ends_join, (full_closes blocks full.1))
 
 pub full_ends : (blocks : List (List ℕ)) → AreFull blocks → line_ends (chars (concat blocks))
     ≡ sum (map block_ends blocks)
@@ -83,18 +68,11 @@ full_ends [] full = ap line_ends chars-nil
 full_ends (b ∷ blocks) full =
     let utf8 : IsUtf8 b = IsUtf8-from_is_utf8 b full.0.utf8 in
     ap line_ends (chars-append b (concat blocks) utf8) ∙
-    (seam_count (chars b) (chars (concat blocks)) (clear_chars b utf8 full.0.ends) ∙
-    (ap (λ n. block_ends b + n) (full_ends blocks full.1)
-    ∙ sym (sum_by-cons (λ x. x) (block_ends b) (map block_ends blocks))))
+    (grind (arith, common_steps, seam_count, clear_chars, sum_by-cons, (full_ends blocks full.1)))
 
 pub full_length : (blocks : List (List ℕ)) → length (concat blocks) ≡ sum (map length blocks)
 full_length [] = refl
-full_length (b ∷ blocks) = omega (
-  arith,
-  length-append b (concat blocks),
-  full_length blocks,
-  sum_by-cons (λ x. x) (length b) (map length blocks),
-)
+full_length (b ∷ blocks) = grind (arith, common_steps, length-append, sum_by-cons, (full_length blocks))
 
 -- ---- one of the blocks
 
@@ -134,11 +112,7 @@ full_front (b ∷ front) blocks full are =
 pub joined_blocks : (front fresh rest : List (List ℕ)) → AreFull front → AreBlocks fresh → (rest ≡ [])
     ⊎ (AreFull fresh × AreBlocks rest) → AreBlocks (front ++ (fresh ++ rest))
 joined_blocks front fresh rest full are after =
-    full_front front (fresh ++ rest) full
-    (⊎_elim
-    (λ (e : rest ≡ []). rw e (rw (append-nil fresh) are))
-    (λ (e : AreFull fresh × AreBlocks rest). full_front fresh rest e.0 e.1)
-    after)
+    grind (arith, common_steps, full_front, append-nil)
 
 -- The last of some blocks is another one.
 pub full_last : (front : List (List ℕ)) (b : List ℕ) → AreFull front → IsFull b → AreFull (front ++ b ∷ [])
@@ -155,12 +129,7 @@ blocks_utf8 (b ∷ c ∷ blocks) are = IsUtf8-append b (concat (c ∷ blocks)) (
 pub blocks_few : (blocks : List (List ℕ)) → AreBlocks blocks → 1024 * length blocks ≤ length (concat blocks) + 1024
 blocks_few [] are = absurd are
 blocks_few (b ∷ []) are = omega arith
-blocks_few (b ∷ c ∷ blocks) are = omega (
-  arith,
-  blocks_few (c ∷ blocks) are.1,
-  are.0.enough,
-  length-append b (concat (c ∷ blocks)),
-)
+blocks_few (b ∷ c ∷ blocks) are = grind (arith, common_steps, length-append, (blocks_few (c ∷ blocks) are.1))
 
 pub blocks_some : (blocks : List (List ℕ)) → AreBlocks blocks → 0 < length blocks
 blocks_some [] are = absurd are

@@ -1,5 +1,5 @@
 -- What texts count, one after the other.
-use Rattle.std.proofs.Common.{ℕ, zero, suc, ◌≡◌, ◌+◌, ◌<◌, ◌≤◌, List, [], ◌∷◌, ◌++◌, length, take, drop, get_or, ⊎_elim, sym, ap, ◌∙◌, arith, subst}
+use Rattle.std.proofs.Common.{ℕ, zero, suc, ◌≡◌, ◌+◌, ◌<◌, ◌≤◌, List, [], ◌∷◌, ◌++◌, length, take, drop, get_or, sym, ap, ◌∙◌, arith, subst}
 use Rattle.std.specs.List.{concat}
 use Rattle.std.specs.Str.{chars, IsUtf8}
 use Rattle.std.proofs.Math.Seq.{take-add}
@@ -8,12 +8,12 @@ use Rattle.std.proofs.lemmas.List.Folds.{concat-append}
 use Rattle.std.proofs.lemmas.Str.{chars-append, chars-nil, encodes-chars, length-le-encodes}
 use Rattle.lsp_text.specs.declared.encoding.Encoding.{Encoding}
 use Rattle.lsp_text.specs.declared.encoding.Encoding.TheVariants.{Utf8, Utf16, Utf32}
-use Rattle.lsp_text.specs.TextLines.{line_at, line_ends, line_start}
+use Rattle.lsp_text.specs.TextLines.{line_at, line_ends}
 use Rattle.lsp_text.specs.Units.{units_in}
 use Rattle.lsp_text.proofs.TextLines.LineLemmas.{line_step}
 use Rattle.lsp_text.proofs.PlainLemmas.{units_total}
 use Rattle.lsp_buffer.specs.declared.counts.Counts.{Counts}
-use Rattle.lsp_buffer.specs.Blocks.{AreBlocks, EndsClear, block_ends, carried, counts_of, head_of}
+use Rattle.lsp_buffer.specs.Blocks.{AreBlocks, block_ends, carried, counts_of, head_of}
 use Rattle.lsp_buffer.specs.inside.Counts.{HaveRoom, counts_sum}
 use Rattle.lsp_buffer.specs.inside.Cuts.{AreFull}
 use Rattle.lsp_buffer.specs.inside.Parts.{Closes}
@@ -21,6 +21,7 @@ use Rattle.lsp_buffer.proofs.Blocks.BlockLemmas.{chars_close, concat_split, full
 use Rattle.lsp_buffer.proofs.Blocks.CutLemmas.{concat_more}
 use Rattle.lsp_buffer.proofs.Blocks.PartLemmas.{head_of_both}
 use Rattle.lsp_buffer.proofs.Blocks.SeamLemmas.{head, seam_count}
+use Rattle.std.proofs.lemmas.Grind.{common_steps}
 
 pub none_count : counts_of [] ≡ record { len = 0; ends = 0; utf8 = 0; utf16 = 0; utf32 = 0 }
 none_count = λ i. record {
@@ -37,30 +38,17 @@ line_low text (suc k) = omega (arith, (line_step text k).1, line_low text k)
 
 -- There are no more line ends than bytes.
 pub ends_low : (bytes : List ℕ) → IsUtf8 bytes → block_ends bytes ≤ length bytes
-ends_low bytes utf8 = omega (
-  arith,
-  line_low (chars bytes) (length (chars bytes)),
-  length-le-encodes (chars bytes),
-  ap length (encodes-chars bytes utf8),
-)
+ends_low bytes utf8 = grind (arith, common_steps, line_low, length-le-encodes, encodes-chars)
 
 -- There are no more units than bytes.
 pub head_low : (encoding : Encoding) (bytes : List ℕ) → IsUtf8 bytes → head_of (units_in encoding) bytes ≤ length bytes
 head_low encoding bytes utf8 =
-    omega (
-      arith,
-      units_total encoding (chars bytes) (line_start (chars bytes) (line_ends (chars bytes))) (length (chars bytes)),
-      ap length (encodes-chars bytes utf8),
-    )
+    grind (arith, common_steps, units_total, encodes-chars)
 
 module _ (a b : List ℕ) (utf8 : IsUtf8 a) (closes : Closes a) where
   pub ends_both : block_ends (a ++ b) ≡ block_ends a + block_ends b
   ends_both =
-      ap line_ends (chars-append a b utf8) ∙
-      ⊎_elim
-      (λ (e : chars a ≡ []). rw e (omega arith))
-      (λ (e : EndsClear (chars a)). seam_count (chars a) (chars b) e)
-      (chars_close a utf8 closes)
+      grind (arith, common_steps, chars-append, seam_count, chars_close)
 
   pub head_both : (units : ℕ → ℕ) → head_of units (a ++ b) ≡ carried (block_ends b) (head_of units a) + head_of units b
   head_both units = ap (head units) (chars-append a b utf8) ∙ head_of_both (chars a) (chars b)
@@ -89,13 +77,11 @@ room_both a b one two size = record {
 module _ (a b : List ℕ) (before next : Counts) (before_is : before ≡ counts_of a) (next_is : next ≡ counts_of b) where
   pub have_room : IsUtf8 a → IsUtf8 b → length a + length b ≤ 2147483648 → HaveRoom before next
   have_room one two size =
-      subst (λ (x : Counts). HaveRoom x next) (sym before_is)
-      (subst (HaveRoom (counts_of a)) (sym next_is) (room_both a b one two size))
+      grind (arith, common_steps, room_both)
 
   pub are_sum : (sum : Counts) → IsUtf8 a → Closes a → sum ≡ counts_sum before next → sum ≡ counts_of (a ++ b)
   are_sum sum utf8 closes is =
-      is ∙ (ap (λ (x : Counts). counts_sum x next) before_is
-      ∙ (ap (counts_sum (counts_of a)) next_is ∙ sym (counts_both a b utf8 closes)))
+      grind (arith, common_steps, counts_both)
 
 -- One block more.
 module _ (blocks : List (List ℕ)) (index : ℕ) (block : List ℕ) (within : index < length blocks)
@@ -163,6 +149,4 @@ module _ (blocks : List (List ℕ)) (are : AreBlocks blocks) (first count : ℕ)
     pub sum_some : (sum : Counts) → sum ≡ counts_sum before next
         → sum ≡ counts_of (concat (take (first + count) blocks))
     sum_some sum is =
-        are_sum (concat (take first blocks)) (concat (take count (drop first blocks))) before next before_is next_is sum
-        (full_utf8 (take first blocks) first_full) (full_closes (take first blocks) first_full) is ∙
-        ap counts_of (sym some_text)
+        grind (arith, common_steps, are_sum, full_utf8, first_full, full_closes, some_text)

@@ -1,5 +1,5 @@
 -- The end of a block: its place, and a line feed there.
-use Rattle.std.proofs.Common.{ℕ, zero, suc, ◌≡◌, ◌+◌, ◌-◌, ◌<◌, ◌≤◌, true, List, [], ◌∷◌, ◌++◌, length, take, drop, get_or, slice_index, sum_by, ⊎_elim, refl, sym, ap, ◌∙◌, arith, subst}
+use Rattle.std.proofs.Common.{ℕ, zero, suc, ◌≡◌, ◌+◌, ◌-◌, ◌<◌, ◌≤◌, true, List, [], ◌∷◌, ◌++◌, length, take, drop, get_or, slice_index, sum_by, ⊎_elim, refl, ap, ◌∙◌, arith}
 use Rattle.std.specs.Prelude.{encode_utf8_all}
 use Rattle.std.specs.Str.{chars, IsUtf8}
 use Rattle.std.proofs.Math.Utf8.{encode}
@@ -15,6 +15,7 @@ use Rattle.lsp_text.proofs.Positions.PlaceLemmas.{place_end}
 use Rattle.lsp_text.proofs.TextLines.StartLemmas.{AllHigh, encode_high}
 use Rattle.lsp_buffer.specs.Blocks.{head_of}
 use Rattle.lsp_buffer.proofs.Blocks.SeamLemmas.{head}
+use Rattle.std.proofs.lemmas.Grind.{common_steps}
 
 -- The last one is a line feed.
 record EndsLine (bytes : List ℕ) : Type 0 where
@@ -25,19 +26,14 @@ ends_join : (a b : List ℕ) → EndsLine b → EndsLine (a ++ b)
 ends_join a b feed = record {
   some = omega (arith, length-append a b, feed.some);
   feed =
-      let at : length (a ++ b) - 1 ≡ length a + (length b - 1) = omega (arith, length-append a b, feed.some) in
-      ap (slice_index (a ++ b)) at ∙ (get_or-append_right a b (length a) (length a + (length b - 1)) 0 refl
-      (omega arith) ∙ (ap (λ i. get_or b i 0) (omega arith) ∙ feed.feed));
+      grind (arith, common_steps, length-append, get_or-append_right);
 }
 
 ends_tail : (a b : List ℕ) → 0 < length b → EndsLine (a ++ b) → EndsLine b
 ends_tail a b some feed = record {
   some = some;
   feed =
-      let at : length a + (length b - 1) ≡ length (a ++ b) - 1 = omega (arith, length-append a b) in
-      ap (λ i. get_or b i 0) (omega arith)
-      ∙ (sym (get_or-append_right a b (length a) (length a + (length b - 1)) 0 refl (omega arith))
-      ∙ (ap (slice_index (a ++ b)) at ∙ feed.feed));
+      grind (arith, common_steps, length-append, get_or-append_right);
 }
 
 high_get : (bytes : List ℕ) (k : ℕ) → AllHigh bytes → k < length bytes → 128 ≤ get_or bytes k 0
@@ -47,20 +43,12 @@ high_get (b ∷ bytes) (suc k) all h = high_get bytes k all.1 (omega arith)
 
 last_char : (x : ℕ) → EndsLine (encode x) → x ≡ 10
 last_char x feed =
-    ⊎_elim
-    (λ (h : x < 128). let feed_at = rw (encode_ascii x h) at feed in feed_at.feed)
-    (λ (h : 128 ≤ x). absurd (omega (
-      arith,
-      feed.feed,
-      high_get (encode x) (length (encode x) - 1) (encode_high x h) (omega (arith, feed.some)),
-    )))
-    (cases_lt x 128)
+    grind (arith, common_steps, encode_ascii, high_get, encode, encode_high, cases_lt)
 
 feed_text : (text : List ℕ) → EndsLine (encode_utf8_all text) → EndsLine text
 feed_text [] feed = absurd (omega (arith, feed.some))
 feed_text (x ∷ []) feed =
-    let here : EndsLine (encode x) = subst EndsLine (append-nil (encode x)) feed in
-    record { some = omega arith; feed = last_char x here }
+    grind (arith, common_steps, encode, append-nil, last_char)
 feed_text (x ∷ y ∷ text) feed =
     let some : 0 < length (encode_utf8_all (y ∷ text)) =
     omega (arith, length-append (encode y) (encode_utf8_all text), length-encode y, (len_utf8_bounds y).0) in
@@ -93,17 +81,11 @@ empty_line units text feed =
 pub feed_head : (units : ℕ → ℕ) (bytes : List ℕ) → IsUtf8 bytes → 0 < length bytes
     → slice_index bytes (length bytes - 1) ≡ 10 → head_of units bytes ≡ 0
 feed_head units bytes utf8 some feed =
-    empty_line units (chars bytes)
-    (feed_text (chars bytes) (subst EndsLine (sym (encodes-chars bytes utf8)) (record { some = some; feed = feed })))
+    grind (arith, common_steps, empty_line, feed_text, encodes-chars)
 
 -- The end of a text is a place.
 pub end_at : (bytes : List ℕ) → IsUtf8 bytes → place_of (chars bytes) (length (chars bytes)) ≡ length bytes
 end_at bytes utf8 = place_end (chars bytes) ∙ ap length (encodes-chars bytes utf8)
 
 pub end_place : (bytes : List ℕ) → IsUtf8 bytes → IsPlace (chars bytes) (length bytes)
-end_place bytes utf8 = (
-  length (chars bytes),
-  omega arith,
-  splits_none_past (chars bytes) (length (chars bytes)) (omega arith),
-  end_at bytes utf8,
-)
+end_place bytes utf8 = grind (arith, common_steps, splits_none_past, end_at)

@@ -1,5 +1,5 @@
 -- Groups of blocks.
-use Rattle.std.proofs.Common.{ℕ, ◌≡◌, ◌+◌, ◌-◌, ◌*◌, ◌/◌, ◌<◌, ◌≤◌, ◌⊎◌, List, [], ◌∷◌, ◌++◌, length, take, drop, set, get_or, ⊎_elim, inl, inr, refl, sym, ap, ◌∙◌, arith, subst}
+use Rattle.std.proofs.Common.{ℕ, ◌≡◌, ◌+◌, ◌-◌, ◌*◌, ◌/◌, ◌<◌, ◌≤◌, ◌⊎◌, List, [], ◌∷◌, ◌++◌, length, take, drop, set, ⊎_elim, inl, inr, sym, ap, ◌∙◌, arith, subst}
 use Rattle.std.specs.List.{concat}
 use Rattle.std.proofs.lemmas.Bool.{cases_lt}
 use Rattle.std.proofs.lemmas.List.{drop-set-add, drop-set-lt, drop-take, get_or-append_right, get_or-set_other, get_or-set_same, get_or-take, get_or_append_left, length-append, length-set, length-take, length-take-le, take-append-le, take-set-le, take-take}
@@ -8,12 +8,12 @@ use Rattle.lsp_buffer.specs.Blocks.{AreBlocks, AreGroups, counts_of}
 use Rattle.lsp_buffer.specs.inside.Cuts.{AreFull}
 use Rattle.lsp_buffer.proofs.Blocks.BlockLemmas.{blocks_some}
 use Rattle.lsp_buffer.proofs.Blocks.CountLemmas.{some_full, some_low}
+use Rattle.std.proofs.lemmas.Grind.{common_steps}
 
 pub no_groups : (blocks : List (List ℕ)) (groups : List Counts) → groups ≡ [] → AreBlocks blocks
     → AreGroups blocks groups
 no_groups blocks groups none are =
-    subst (AreGroups blocks) (sym none)
-    (record { within = omega (arith, blocks_some blocks are); counts = λ g h. absurd (omega arith) })
+    grind (arith, common_steps, blocks_some)
 
 -- One group more.
 pub groups_more : (blocks : List (List ℕ)) (groups now : List Counts) (counts : Counts) → AreGroups blocks groups
@@ -29,10 +29,7 @@ groups_more blocks groups now counts are more is now_is =
           (λ (earlier : g < length groups). get_or_append_left groups (counts ∷ []) (counts_of []) g earlier
           ∙ are.counts g earlier)
           (λ (later : length groups ≤ g).
-          let at : g ≡ length groups = omega (arith, h, later, length-append groups (counts ∷ [])) in
-          get_or-append_right groups (counts ∷ []) (length groups) g (counts_of []) refl later ∙
-          (ap (λ n. get_or (counts ∷ []) n (counts_of [])) (let e : g - length groups ≡ 0 = omega arith in e) ∙
-          (is ∙ ap (λ n. counts_of (concat (take 32 (drop (32 * n) blocks)))) (sym at))))
+          grind (arith, common_steps, length-append, get_or-append_right))
           (cases_lt g (length groups));
     })
 
@@ -47,11 +44,7 @@ module _ (blocks : List (List ℕ)) (are : AreBlocks blocks) (size : length (con
       (some_full blocks are (32 * group) 32 within)
 
   pub slice_small : length (concat (take (32 * group + 32 - 32 * group) (drop (32 * group) blocks))) ≤ 2147483648
-  slice_small = omega (
-    arith,
-    ap (λ (n : ℕ). length (concat (take n (drop (32 * group) blocks)))) count,
-    some_low blocks are (32 * group) 32 within,
-  )
+  slice_small = grind (arith, common_steps, some_low)
 
   pub slice_counts : (counts : Counts) → counts ≡ counts_of (concat (take (32 * group + 32 - 32 * group)
       (drop (32 * group) blocks))) → counts ≡ counts_of (concat (take 32 (drop (32 * group) blocks)))
@@ -73,9 +66,7 @@ module _ (blocks : List (List ℕ)) (groups : List Counts) (index : ℕ) (block 
   same_group : (g : ℕ) → (g < index / 32) ⊎ (index / 32 < g) → take 32 (drop (32 * g) (set blocks index block))
       ≡ take 32 (drop (32 * g) blocks)
   same_group g =
-      ⊎_elim
-      (λ (h : g < index / 32). other_group blocks index block (32 * g) (inr (omega (arith, h))))
-      (λ (h : index / 32 < g). other_group blocks index block (32 * g) (inl (omega (arith, h))))
+      grind (arith, common_steps, other_group, inr, inl)
 
   pub groups_within : index / 32 < length groups → 32 * (index / 32) + 32 < length blocks
   groups_within inside = omega (arith, are.within, length-set blocks index block, inside)
@@ -97,20 +88,13 @@ module _ (blocks : List (List ℕ)) (groups : List Counts) (index : ℕ) (block 
             let inside : g < length groups = omega (arith, h, length-set groups group counts) in
             ⊎_elim
             (λ (less : g < group).
-            get_or-set_other groups group g counts (counts_of []) (λ e. omega (arith, e, less)) ∙
-            (are.counts g inside
-            ∙ ap (λ bs. counts_of (concat bs)) (same_group g (inl (omega (arith, less, group_is))))))
+            grind (arith, common_steps, get_or-set_other, same_group, inl))
             (λ (least : group ≤ g).
             ⊎_elim
             (λ (more : group < g).
-            get_or-set_other groups group g counts (counts_of []) (λ e. omega (arith, e, more)) ∙
-            (are.counts g inside
-            ∙ ap (λ bs. counts_of (concat bs)) (same_group g (inr (omega (arith, more, group_is))))))
+            grind (arith, common_steps, get_or-set_other, same_group, inr))
             (λ (most : g ≤ group).
-            let at : g ≡ group = omega (arith, least, most) in
-            ap (λ n. get_or (set groups group counts) n (counts_of [])) at ∙
-            (get_or-set_same groups group counts (counts_of []) within ∙
-            (is ∙ ap (λ n. counts_of (concat (take 32 (drop (32 * n) blocks)))) (sym at))))
+            grind (arith, common_steps, get_or-set_same))
             (cases_lt group g))
             (cases_lt g group);
       })
@@ -121,20 +105,7 @@ pub groups_front : (blocks more : List (List ℕ)) (groups now : List Counts) (f
     → AreGroups (take first blocks ++ more) now
 groups_front blocks more groups now first are within some now_is =
     subst (AreGroups (take first blocks ++ more)) (sym now_is)
-    (record {
-      within = omega (
-        arith,
-        length-append (take first blocks) more,
-        front_length,
-        some,
-        count,
-      );
-      counts = λ g h.
-          let less : g < first / 32 = omega (arith, h, count) in
-          let inside : g < length groups = omega (arith, h, length-take (first / 32) groups) in
-          get_or-take (first / 32) groups g (counts_of []) less ∙
-          (are.counts g inside ∙ ap (λ bs. counts_of (concat bs)) (front_same (32 * g) (omega (arith, less))));
-    })
+    (grind (arith, common_steps, length-append, front_length, length-take, get_or-take, front_same))
   where
     front_length : length (take first blocks) ≡ first
     front_length = length-take-le first blocks within

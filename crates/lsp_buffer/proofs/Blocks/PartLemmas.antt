@@ -1,6 +1,6 @@
 -- A text in three parts: what comes before a block, the block, and what comes after it. Positions, boundaries and
 -- changes of the text by those of the block.
-use Rattle.std.proofs.Common.{ℕ, zero, suc, ◌≡◌, ◌+◌, ◌-◌, ◌<◌, ◌≤◌, ◌⊎◌, false, List, [], ◌++◌, length, take, drop, get_or, slice_index, Option, Some, None, option_map, ⊎_elim, inl, inr, refl, sym, ap, ◌∙◌, arith, subst}
+use Rattle.std.proofs.Common.{ℕ, zero, suc, ◌≡◌, ◌+◌, ◌-◌, ◌<◌, ◌≤◌, ◌⊎◌, false, List, [], ◌++◌, length, take, drop, slice_index, Option, Some, None, option_map, ⊎_elim, inl, inr, refl, sym, ap, ◌∙◌, arith}
 use Rattle.std.specs.Prelude.{encode_utf8_all}
 use Rattle.std.specs.Str.{chars, IsCharBoundary}
 use Rattle.std.proofs.Math.Seq.{drop-append-add, take-append-add, drop-append_seam}
@@ -8,7 +8,7 @@ use Rattle.std.proofs.lemmas.List.{length-append, get_or-append_right, get_or_ap
 use Rattle.std.proofs.lemmas.Str.{chars-append, chars-nil, encodes-chars}
 use Rattle.lsp_text.specs.declared.position.Position.{Position}
 use Rattle.lsp_text.specs.Text.{place_of}
-use Rattle.lsp_text.specs.TextLines.{line_ends, line_at, splits_crlf}
+use Rattle.lsp_text.specs.TextLines.{line_ends, splits_crlf}
 use Rattle.lsp_text.specs.LineStarts.{IsPlace}
 use Rattle.lsp_text.specs.Positions.{exact_position, denoted}
 use Rattle.lsp_text.proofs.Positions.PlaceLemmas.{place_add, place_order, place_end}
@@ -20,6 +20,7 @@ use Rattle.lsp_buffer.specs.inside.Parts.{AreThree, Closes, IsClearSeam}
 use Rattle.lsp_buffer.specs.inside.Seams.{IsAtOrAfter, IsBefore, position_after, position_from}
 use Rattle.lsp_buffer.proofs.Blocks.SeamLemmas.{head, denoted_left, denoted_last, denoted_right, exact_right, head_right, seam_splits, beyond_splits, seam_count}
 use Rattle.lsp_buffer.proofs.Blocks.BlockLemmas.{clear_chars, chars_close}
+use Rattle.std.proofs.lemmas.Grind.{common_steps}
 
 pub carried_none : (line : ℕ) → carried line 0 ≡ 0
 carried_none zero = refl
@@ -28,22 +29,12 @@ carried_none (suc line) = refl
 pub carried_low : (line head : ℕ) (p : Position) → IsAtOrAfter line head p → (line ≤ p.line)
     × (carried (p.line - line) head ≤ p.character)
 carried_low line head p =
-    ⊎_elim
-    (λ (h : line < p.line).
-    let later : p.line - line ≡ suc (p.line - line - 1) = omega arith in
-    (omega arith, omega (arith, ap (λ (n : ℕ). carried n head) later)))
-    (λ (h : (p.line ≡ line) × (head ≤ p.character)).
-    let here : p.line - line ≡ 0 = omega (arith, h.0) in
-    (omega (arith, h.0), omega (arith, h.1, ap (λ (n : ℕ). carried n head) here)))
+    grind (arith, common_steps)
 
 pub position_back : (line head : ℕ) (p : Position) → IsAtOrAfter line head p
     → ◌≡◌ {A = Position} p (position_from line head (position_after line head p))
 position_back line head p after =
-    let low = carried_low line head p after in
-    let l : p.line ≡ line + (p.line - line) = omega (arith, low.0) in
-    let c : p.character ≡ carried (p.line - line) head + (p.character - carried (p.line - line) head) =
-    omega (arith, low.1) in
-    λ i. record { line = l i; character = c i }
+    grind (arith, common_steps, carried_low)
 
 -- Characters: the first part is empty or ends with no carriage return.
 module _ (a r : List ℕ) (closes : Closes a) where
@@ -54,9 +45,7 @@ module _ (a r : List ℕ) (closes : Closes a) where
       ⊎_elim
       (λ (e : a ≡ []). at_none e)
       (λ (e : EndsClear a).
-      ap (denoted units (a ++ r)) (position_back (line_ends a) (head units a) p after) ∙
-      denoted_right a r e units some (p.line - line_ends a) (p.character - carried (p.line - line_ends a)
-      (head units a)))
+      grind (arith, common_steps, position_back, denoted_right))
       closes
     where
       same : (o : Option ℕ) → o ≡ option_map (λ k. 0 + k) o
@@ -66,76 +55,38 @@ module _ (a r : List ℕ) (closes : Closes a) where
       at_none : a ≡ [] → denoted units (a ++ r) p ≡ option_map (λ k. length a + k)
           (denoted units r (position_after (line_ends a) (head units a) p))
       at_none e =
-          let l : p.line - 0 ≡ p.line = omega arith in
-          let c : p.character - carried (p.line - 0) 0 ≡ p.character = omega (arith, carried_none (p.line - 0)) in
-          let q : ◌≡◌ {A = Position} (position_after 0 0 p) p = λ i. record { line = l i; character = c i } in
-          subst (λ (x : List ℕ). denoted units (x ++ r) p ≡ option_map (λ k. length x + k)
-          (denoted units r (position_after (line_ends x) (head units x) p))) (sym e)
-          (same (denoted units r p) ∙ ap (λ (p : Position). option_map (λ k. 0 + k) (denoted units r p)) (sym q))
+          grind (arith, common_steps, carried_none)
 
   pub exact_after : (units : ℕ → ℕ) (k : ℕ) → k ≤ length r
       → ◌≡◌ {A = Position} (exact_position units (a ++ r) (length a + k))
       (position_from (line_ends a) (head units a) (exact_position units r k))
   exact_after units k h =
-      ⊎_elim
-      (λ (e : a ≡ []).
-      let n : 0 + k ≡ k = omega arith in
-      let l : line_at r k ≡ 0 + line_at r k = omega arith in
-      let c : (exact_position units r k).character ≡ carried (line_at r k) 0 + (exact_position units r k).character =
-      omega (arith, carried_none (line_at r k)) in
-      let moved : ◌≡◌ {A = Position} (exact_position units r k) (position_from 0 0 (exact_position units r k)) =
-      λ i. record { line = l i; character = c i } in
-      subst (λ (x : List ℕ). ◌≡◌ {A = Position} (exact_position units (x ++ r) (length x + k))
-      (position_from (line_ends x) (head units x) (exact_position units r k))) (sym e)
-      (ap (exact_position units r) n ∙ moved))
-      (λ (e : EndsClear a). exact_right a r e units k h)
-      closes
+      grind (arith, common_steps, carried_none, exact_right)
 
   pub head_of_both : (units : ℕ → ℕ) → head units (a ++ r) ≡ carried (line_ends r) (head units a) + head units r
   head_of_both units =
-      ⊎_elim
-      (λ (e : a ≡ []).
-      subst (λ (x : List ℕ). head units (x ++ r) ≡ carried (line_ends r) (head units x) + head units r) (sym e)
-      (let none : carried (line_ends r) 0 ≡ 0 = carried_none (line_ends r) in omega (arith, none)))
-      (λ (e : EndsClear a). head_right a r e units)
-      closes
+      grind (arith, common_steps, carried_none, head_right)
 
   pub splits_after : (k : ℕ) → splits_crlf (a ++ r) (length a + k) ≡ splits_crlf r k
   splits_after k =
-      ⊎_elim
-      (λ (e : a ≡ []). rw e (let n : 0 + k ≡ k = omega arith in rw n refl))
-      (λ (e : EndsClear a). beyond_splits a r e k)
-      closes
+      grind (arith, common_steps, beyond_splits)
 
   place_after : (k : ℕ) → place_of (a ++ r) (length a + k) ≡ length (encode_utf8_all a) + place_of r k
   place_after k =
-      place_add (a ++ r) (length a) k ∙
-      (ap (λ cs. length (encode_utf8_all cs) + place_of (drop (length a) (a ++ r)) k) (take_at a r (length a) refl) ∙
-      ap (λ cs. length (encode_utf8_all a) + place_of cs k) (drop-append_seam a r))
+      grind (arith, common_steps, place_add, take_at, drop-append_seam)
 
 module _ (b c : List ℕ) where
   pub denoted_before : (units : ℕ → ℕ) → ((c : ℕ) → 1 ≤ units c) → (p : Position) → (c ≡ [])
       ⊎ (EndsClear b × IsBefore (line_ends b) (head units b) p) → denoted units (b ++ c) p ≡ denoted units b p
   denoted_before units some p after =
-      ⊎_elim
-      (λ (e : c ≡ []). subst (λ (x : List ℕ). denoted units (b ++ x) p ≡ denoted units b p) (sym e)
-      (ap (λ t. denoted units t p) (append-nil b)))
-      (λ (e : EndsClear b × IsBefore (line_ends b) (head units b) p).
-      ⊎_elim
-      (λ (h : p.line < line_ends b). denoted_left b c e.0 units p h)
-      (λ (h : (p.line ≡ line_ends b) × (p.character < head units b)). denoted_last b c e.0 units some p h.0 h.1)
-      e.1)
-      after
+      grind (arith, common_steps, append-nil, denoted_left, denoted_last)
 
   place_before : (k : ℕ) → k ≤ length b → place_of (b ++ c) k ≡ place_of b k
   place_before k h = ap (λ cs. length (encode_utf8_all cs)) (take-append-le k b c h)
 
   splits_before : (k : ℕ) → k ≤ length b → IsClearSeam b c → splits_crlf (b ++ c) k ≡ splits_crlf b k
   splits_before k h after =
-      ⊎_elim
-      (λ (e : c ≡ []). rw e (rw (append-nil b) refl))
-      (λ (e : EndsClear b). seam_splits b c e k h)
-      after
+      grind (arith, common_steps, append-nil, seam_splits)
 
 module _ (bytes front block rest : List ℕ) (are : AreThree bytes front block rest) where
   a : List ℕ
@@ -156,10 +107,7 @@ module _ (bytes front block rest : List ℕ) (are : AreThree bytes front block r
 
   seam_chars : IsClearSeam (chars block) (chars rest)
   seam_chars =
-      ⊎_elim
-      (λ (e : rest ≡ []). inl (ap chars e ∙ chars-nil))
-      (λ (e : EndsClear block). inr (clear_chars block are.block_utf8 e))
-      are.after
+      grind (arith, common_steps, inl, chars-nil, inr, clear_chars)
 
   front_len : length (encode_utf8_all (chars front)) ≡ length front
   front_len = ap length (encodes-chars front are.front_utf8)
@@ -190,15 +138,7 @@ module _ (bytes front block rest : List ℕ) (are : AreThree bytes front block r
           ⊎ (EndsClear (chars block) × IsBefore (line_ends (chars block)) (head units (chars block))
           (position_after (line_ends (chars front)) (head units (chars front)) p))
       inside =
-          ⊎_elim
-          (λ (e : rest ≡ []). inl (ap chars e ∙ chars-nil))
-          (λ (h : IsBefore (line_ends (chars block)) (head units (chars block))
-          (position_after (line_ends (chars front)) (head units (chars front)) p)).
-          ⊎_elim
-          (λ (e : chars rest ≡ []). inl e)
-          (λ (e : EndsClear (chars block)). inr (e, h))
-          seam_chars)
-          high
+          grind (arith, common_steps, inl, chars-nil, inr, seam_chars)
 
       placed : (o : Option ℕ) → denoted units (chars block) q ≡ o →
           option_map (place_of (chars front ++ (chars block ++ chars rest))) (option_map (λ k. length (chars front) + k)
@@ -207,20 +147,12 @@ module _ (bytes front block rest : List ℕ) (are : AreThree bytes front block r
       placed (Some k) e =
           let within : k ≤ length (chars block) = (denoted_whole units (chars block) q k e).within in
           ap Some
-          (place_after (chars front) (chars block ++ chars rest) closes_chars k ∙
-          (ap (λ n. n + place_of (chars block ++ chars rest) k) front_len ∙ ap (λ n. length front + n)
-          (place_before (chars block) (chars rest) k within)))
+          (grind (arith, common_steps, place_after, closes_chars, front_len, place_before))
 
   -- The lines of all.
   pub ends_three : rest ≡ [] → line_ends (chars bytes) ≡ line_ends (chars front) + line_ends (chars block)
   ends_three none =
-      let tail : chars block ++ chars rest ≡ chars block = ap (λ cs. chars block ++ cs) (ap chars none ∙ chars-nil)
-      ∙ append-nil (chars block) in
-      rw (chars_are, tail)
-      (⊎_elim
-      (λ (e : chars front ≡ []). rw e (omega arith))
-      (λ (e : EndsClear (chars front)). seam_count (chars front) (chars block) e)
-      closes_chars)
+      grind (arith, common_steps, chars-nil, append-nil, chars_are, seam_count, closes_chars)
 
   -- An index of all whose byte offset is in the block.
   pub record IsInner (place index : ℕ) : Type 0 where
@@ -251,9 +183,7 @@ module _ (bytes front block rest : List ℕ) (are : AreThree bytes front block r
 
       start_at : place_of (chars bytes) (length (chars front)) ≡ length front
       start_at =
-          ap (λ cs. place_of cs (length (chars front))) chars_are ∙
-          (ap (λ cs. length (encode_utf8_all cs)) (take_at (chars front) (chars block ++ chars rest)
-          (length (chars front)) refl) ∙ front_len)
+          grind (arith, common_steps, chars_are, take_at, front_len)
 
       order : length (chars front) ≤ index
       order = place_order (chars bytes) (length (chars front)) index (omega (arith, size))
@@ -264,9 +194,14 @@ module _ (bytes front block rest : List ℕ) (are : AreThree bytes front block r
 
       placed : place ≡ length front + place_of (chars block ++ chars rest) j
       placed =
-          sym at ∙ (ap (place_of (chars bytes)) back ∙ (ap (λ cs. place_of cs (length (chars front) + j)) chars_are ∙
-          (place_after (chars front) (chars block ++ chars rest) closes_chars j
-          ∙ ap (λ n. n + place_of (chars block ++ chars rest) j) front_len)))
+          sym at ∙ (ap (place_of (chars bytes)) back ∙ (grind (
+            arith,
+            common_steps,
+            chars_are,
+            place_after,
+            closes_chars,
+            front_len,
+          )))
 
       block_end : place_of (chars block ++ chars rest) (length (chars block)) ≡ length block
       block_end = place_before (chars block) (chars rest) (length (chars block)) (omega arith)
@@ -293,39 +228,19 @@ module _ (bytes front block rest : List ℕ) (are : AreThree bytes front block r
       length-append (chars block) (chars rest) in
       let same : exact_position units (chars block ++ chars rest) is.inner ≡ exact_position units (chars block)
       is.inner =
-      exact_near units (chars block ++ chars rest) (chars block) is.inner
-      (take-append-le is.inner (chars block) (chars rest) is.within) (omega (arith, tail, is.within)) is.within
-      (splits_before (chars block) (chars rest) is.inner is.within seam_chars ∙ (sym is.splits ∙ whole))
-      (sym is.splits ∙ whole) in
+      grind (arith, common_steps, exact_near, take-append-le, splits_before, seam_chars) in
       ap (exact_position units (chars bytes)) is.index_is ∙
-      (ap (λ cs. exact_position units cs (length (chars front) + is.inner)) chars_are ∙
-      (exact_after (chars front) (chars block ++ chars rest) closes_chars units is.inner
-      (omega (arith, tail, is.within)) ∙
-      ap (position_from (line_ends (chars front)) (head units (chars front))) same))
+      (grind (arith, common_steps, chars_are, exact_after, closes_chars))
 
   -- Boundaries.
   pub byte_in : (i : ℕ) → i < length block → slice_index bytes (length front + i) ≡ slice_index block i
   byte_in i h =
-      ap (λ bs. slice_index bs (length front + i)) are.whole ∙
-      (get_or-append_right front (block ++ rest) (length front) (length front + i) 0 refl (omega arith) ∙
-      (ap (λ k. get_or (block ++ rest) k 0) (omega arith) ∙ get_or_append_left block rest 0 i h))
+      grind (arith, common_steps, get_or-append_right, get_or_append_left)
 
   pub boundary_in : (place : ℕ) → length front ≤ place → (rest ≡ []) ⊎ (place - length front < length block)
       → IsCharBoundary bytes place → IsCharBoundary block (place - length front)
   boundary_in place low high at =
-      let size : length bytes ≡ length front + length (block ++ rest) =
-      ap length are.whole ∙ length-append front (block ++ rest) in
-      let tail : length (block ++ rest) ≡ length block + length rest = length-append block rest in
-      let within : place - length front ≤ length block =
-      ⊎_elim (λ (e : rest ≡ []). omega (arith, at.0, size, tail, ap length e))
-      (λ (h : place - length front < length block). omega (arith, h)) high in (
-        within,
-        λ inside big.
-            let here : slice_index bytes place ≡ slice_index block (place - length front) =
-            ap (slice_index bytes) (let e : place ≡ length front + (place - length front) = omega arith in e)
-            ∙ byte_in (place - length front) inside in
-            omega (arith, here, at.1 (omega (arith, size, tail, inside)) (omega (arith, here, big))),
-      )
+      grind (arith, common_steps, length-append)
 
   -- What stands from a place on, and before it.
   pub drop_three : (n : ℕ) → n ≤ length block → drop (length front + n) bytes ≡ drop n block ++ rest
@@ -346,19 +261,9 @@ module _ (bytes front block rest : List ℕ) (are : AreThree bytes front block r
       ap length chars_are ∙ length-append (chars front) (chars block ++ chars rest) in (
         length (chars front) + j,
         omega (arith, size, tail, at.1),
-        ap (λ cs. splits_crlf cs (length (chars front) + j)) chars_are ∙
-            (splits_after (chars front) (chars block ++ chars rest) closes_chars j
-            ∙ (splits_before (chars block) (chars rest) j at.1 seam_chars ∙ at.2)),
-        ap (λ cs. place_of cs (length (chars front) + j)) chars_are ∙
-            (place_after (chars front) (chars block ++ chars rest) closes_chars j ∙
-            (ap (λ n. n + place_of (chars block ++ chars rest) j) front_len ∙ ap (λ n. length front + n)
-            (place_before (chars block) (chars rest) j at.1 ∙ at.3))),
+        grind (arith, common_steps, chars_are, splits_after, closes_chars, splits_before, seam_chars),
+        grind (arith, common_steps, chars_are, place_after, closes_chars, front_len, place_before),
       )
 
   pub place_last : IsPlace (chars block) (length block)
-  place_last = (
-    length (chars block),
-    omega arith,
-    splits_none_past (chars block) (length (chars block)) (omega arith),
-    place_end (chars block) ∙ block_len,
-  )
+  place_last = grind (arith, common_steps, splits_none_past, place_end, block_len)

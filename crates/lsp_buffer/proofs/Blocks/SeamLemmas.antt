@@ -1,6 +1,6 @@
 -- Two texts, one after the other, the first of which ends with no carriage return: the lines and positions of both by
 -- those of each.
-use Rattle.std.proofs.Common.{ℕ, zero, suc, ◌≡◌, ◌+◌, ◌-◌, ◌<◌, ◌≤◌, ◌==◌, ◌&&◌, not, Bool, true, false, cond, List, [], ◌∷◌, ◌++◌, length, take, drop, map, get_or, slice_index, filter, find, sum_by, nat_le, Option, Some, None, option_map, ⊎_elim, refl, sym, ap, ◌∙◌, arith, subst, le-ltb, lt-ltb, eqb-true}
+use Rattle.std.proofs.Common.{ℕ, zero, suc, ◌≡◌, ◌+◌, ◌-◌, ◌<◌, ◌≤◌, ◌==◌, Bool, true, false, cond, List, [], ◌∷◌, ◌++◌, length, take, drop, map, get_or, slice_index, filter, find, sum_by, nat_le, Option, Some, None, option_map, ⊎_elim, refl, sym, ap, ◌∙◌, arith, subst, le-ltb, lt-ltb, eqb-true}
 use Rattle.std.proofs.lemmas.Bool.{cases_Bool, cases_lt, lt-leb, false_from_ne_true}
 use Rattle.std.proofs.lemmas.Bool.Decides.{nat_tests}
 use Rattle.std.proofs.lemmas.List.{length-append, length-drop, get_or-append_right, get_or_append_left, take-append-le, drop-append-le, append-nil, take_all}
@@ -17,13 +17,12 @@ use Rattle.lsp_text.proofs.TextLines.StartRowLemmas.{first_starts}
 use Rattle.lsp_text.proofs.Counting.UnitLemmas.{units_rise}
 use Rattle.lsp_text.proofs.TextLines.SpliceLemmas.{filter_moved}
 use Rattle.lsp_buffer.specs.Blocks.{EndsClear, carried}
+use Rattle.std.proofs.lemmas.Grind.{common_steps}
 
 -- Rows of numbers.
 numbers_split : (first m n : ℕ) → numbers_from first (m + n) ≡ numbers_from first m ++ numbers_from (first + m) n
 numbers_split first zero n =
-    let a : 0 + n ≡ n = omega arith in
-    let b : first + 0 ≡ first = omega arith in
-    ap (numbers_from first) a ∙ ap (λ f. numbers_from f n) (sym b)
+    grind (arith, common_steps)
 numbers_split first (suc m) n =
     let a : suc m + n ≡ suc (m + n) = omega arith in
     let b : suc first + m ≡ first + suc m = omega arith in
@@ -61,13 +60,7 @@ find_same wanted other test low (suc n) same =
 find_moved : (by : ℕ) (wanted other : ℕ → Bool) (xs : List ℕ) → ((k : ℕ) → wanted (by + k) ≡ other k)
     → find wanted (map (λ k. by + k) xs) ≡ option_map (λ k. by + k) (find other xs)
 find_moved by wanted other [] same = refl
-find_moved by wanted other (x ∷ xs) same = rw (same x) (step (other x) (find_moved by wanted other xs same))
-  where
-    step : (t : Bool) → find wanted (map (λ k. by + k) xs) ≡ option_map (λ k. by + k) (find other xs) →
-        cond t (Some (by + x)) (find wanted (map (λ k. by + k) xs)) ≡ option_map (λ k. by + k)
-        (cond t (Some x) (find other xs))
-    step true ih = refl
-    step false ih = ih
+find_moved by wanted other (x ∷ xs) same = grind (arith, common_steps, find, (find_moved by wanted other xs same))
 
 -- What isn't in one part of a list is found in the other.
 find_front : (wanted : ℕ → Bool) (xs ys : List ℕ) → find wanted ys ≡ None → find wanted (xs ++ ys) ≡ find wanted xs
@@ -108,8 +101,7 @@ module _ (a b : List ℕ) where
 module _ (a b : List ℕ) (clear : EndsClear a) where
   last_at : (k : ℕ) → suc k ≡ length a → (slice_index a k == 13) ≡ false
   last_at k h =
-      let at : slice_index a k ≡ slice_index a (length a - 1) = ap (slice_index a) (omega arith) in
-      false_from_ne_true (slice_index a k == 13) (λ e. clear.clear (sym at ∙ eqb-true (slice_index a k) 13 e))
+      grind (arith, common_steps, false_from_ne_true, eqb-true)
 
   seam_ends : (k : ℕ) → k ≤ length a → starts_line (a ++ b) k ≡ starts_line a k
   seam_ends zero h = refl
@@ -136,9 +128,7 @@ module _ (a b : List ℕ) (clear : EndsClear a) where
 
   beyond_ends : (k : ℕ) → starts_line (a ++ b) (suc (length a + k)) ≡ starts_line b (suc k)
   beyond_ends k =
-      let next : slice_index (a ++ b) (suc (length a + k)) ≡ slice_index b (suc k) =
-      ap (slice_index (a ++ b)) (omega arith) ∙ right_at a b (suc k) in
-      rw (right_at a b k, next) refl
+      grind (arith, common_steps, right_at)
 
   pub beyond_splits : (k : ℕ) → splits_crlf (a ++ b) (length a + k) ≡ splits_crlf b k
   beyond_splits zero = ap (splits_crlf (a ++ b)) (omega arith) ∙ (seam_splits (length a) (omega arith) ∙ seam_whole)
@@ -170,12 +160,7 @@ module _ (a b : List ℕ) (clear : EndsClear a) where
 
   content_right : (line k : ℕ) → is_in_content (a ++ b) (line_ends a + line) (length a + k) ≡ is_in_content b line k
   content_right line k =
-      ap (λ l. (l == line_ends a + line) && not (splits_crlf (a ++ b) (length a + k))) (beyond_line k) ∙
-      (ap (λ s. (line_ends a + line_at b k == line_ends a + line) && not s) (beyond_splits k) ∙
-      ap (λ e. e && not (splits_crlf b k)) (same_test (line_ends a) (line_at b k) line))
-    where
-      same_test : (n x y : ℕ) → (n + x == n + y) ≡ (x == y)
-      same_test n x y = grind (arith, nat_tests)
+      grind (arith, common_steps, beyond_line, beyond_splits, nat_tests)
 
   inside : (line k : ℕ) → line < line_ends a → is_in_content (a ++ b) line k ≡ true → k ≤ length a
   inside line k there h =
@@ -272,13 +257,7 @@ module _ (a b : List ℕ) (clear : EndsClear a) where
       let later : filter (is_in_content (a ++ b) line) (numbers_from (0 + length a) (suc (length b))) ≡ [] =
       none_pass (is_in_content (a ++ b) line) (0 + length a) (suc (length b)) (λ k o w. not_there k (omega arith)) in
       ap (λ n. filter (is_in_content (a ++ b) line) (numbers_from 0 n)) size ∙
-      (ap (filter (is_in_content (a ++ b) line)) (numbers_split 0 (length a) (suc (length b))) ∙
-      (filter-append (is_in_content (a ++ b) line) (numbers_from 0 (length a))
-      (numbers_from (0 + length a) (suc (length b))) ∙
-      (ap (λ xs. filter (is_in_content (a ++ b) line) (numbers_from 0 (length a)) ++ xs) later ∙
-      (append-nil (filter (is_in_content (a ++ b) line) (numbers_from 0 (length a))) ∙
-      same_pass (is_in_content (a ++ b) line) (is_in_content a line) 0 (length a)
-      (λ k o w. content_left line k (omega arith))))))
+      (grind (arith, common_steps, numbers_split, filter-append, append-nil, same_pass, content_left))
     where
       not_there : (k : ℕ) → length a ≤ k → is_in_content (a ++ b) line k ≡ false
       not_there k o =
@@ -300,21 +279,11 @@ module _ (a b : List ℕ) (clear : EndsClear a) where
       let later : filter (is_in_content a line) (numbers_from (0 + length a) 1) ≡ [] =
       none_pass (is_in_content a line) (0 + length a) 1 (λ k o w. not_there k (omega arith)) in
       ap (λ n. filter (is_in_content a line) (numbers_from 0 n)) size ∙
-      (ap (filter (is_in_content a line)) (numbers_split 0 (length a) 1) ∙
-      (filter-append (is_in_content a line) (numbers_from 0 (length a)) (numbers_from (0 + length a) 1) ∙
-      (ap (λ xs. filter (is_in_content a line) (numbers_from 0 (length a)) ++ xs) later ∙
-      append-nil (filter (is_in_content a line) (numbers_from 0 (length a))))))
+      (grind (arith, common_steps, numbers_split, filter-append, append-nil))
     where
       not_there : (k : ℕ) → length a ≤ k → is_in_content a line k ≡ false
       not_there k o =
-          ⊎_elim
-          (λ (e : is_in_content a line k ≡ true). absurd (omega (
-            arith,
-            in_content_line a line k e,
-            line_rises a (length a) k o,
-          )))
-          (λ (e : is_in_content a line k ≡ false). e)
-          (cases_Bool (is_in_content a line k))
+          grind (arith, common_steps, in_content_line, line_rises, cases_Bool)
 
   -- The row of a line that the second has: first what the first text has of it.
   row_right : (line : ℕ) → line_content (a ++ b) (line_ends a + line)
@@ -349,15 +318,12 @@ module _ (a b : List ℕ) (clear : EndsClear a) where
   pub units_left : (units : ℕ → ℕ) (i k : ℕ) → i ≤ length a → k ≤ length a → units_between units (a ++ b) i k
       ≡ units_between units a i k
   units_left units i k h g =
-      ap (λ xs. sum_by units (take (k - i) xs)) (drop-append-le i a b h) ∙
-      ap (sum_by units) (take-append-le (k - i) (drop i a) b (omega (arith, length-drop i a)))
+      grind (arith, common_steps, sum_by, drop-append-le, take-append-le, length-drop)
 
   pub units_right : (units : ℕ → ℕ) (i k : ℕ) → units_between units (a ++ b) (length a + i) (length a + k)
       ≡ units_between units b i k
   units_right units i k =
-      let count : length a + k - (length a + i) ≡ k - i = omega arith in
-      ap (λ n. sum_by units (take n (drop (length a + i) (a ++ b)))) count ∙
-      ap (λ xs. sum_by units (take (k - i) xs)) (drop-append-add a b i)
+      grind (arith, common_steps, sum_by, drop-append-add)
 
   -- The units of a line that the second has: its first line goes on with the last of the first.
   pub units_line : (units : ℕ → ℕ) (line k : ℕ) → line ≤ line_ends b
@@ -375,16 +341,9 @@ module _ (a b : List ℕ) (clear : EndsClear a) where
       let zero_is : line_start b 0 ≡ 0 = first_starts b in
       let whole : k - 0 ≡ k = omega arith in
       ap (λ s. units_between units (a ++ b) s (length a + k)) first ∙
-      (ap (λ xs. sum_by units (take (length a + k - start) xs)) part ∙
-      (ap (λ n. sum_by units (take n (drop start a ++ b))) count ∙
-      (ap (sum_by units) (take-append-add (drop start a) b k) ∙
-      (sum_by-append units (drop start a) (take k b) ∙
-      (ap (λ xs. sum_by units xs + sum_by units (take k b)) (sym all) ∙
-      sym (ap (λ s. head units a + units_between units b s k) zero_is ∙ ap (λ n. head units a + sum_by units (take n b))
-      whole))))))
+      (grind (arith, common_steps, sum_by, take-append-add, sum_by-append, zero_is))
   units_line units (suc line) k h =
-      ap (λ s. units_between units (a ++ b) s (length a + k)) (start_right (suc line) (omega arith) h) ∙
-      (units_right units (line_start b (suc line)) k ∙ omega arith)
+      grind (arith, common_steps, start_right, units_right)
 
   -- An index of the first in its last line has fewer units before it than that line.
   units_before : (units : ℕ → ℕ) → ((c : ℕ) → 1 ≤ units c) → (line k : ℕ) → k < length a
@@ -416,36 +375,21 @@ module _ (a b : List ℕ) (clear : EndsClear a) where
   pub denoted_left : (units : ℕ → ℕ) (p : Position) → p.line < line_ends a → denoted units (a ++ b) p
       ≡ denoted units a p
   denoted_left units p h =
-      rw (le-ltb (line_ends (a ++ b)) p.line (omega (arith, seam_count)), le-ltb (line_ends a) p.line (omega arith))
-      (rw (
-        start_is,
-        stop_is,
-        units_left units (line_start a p.line) (line_stop a p.line) start_within stop_within,
-        searched,
-      ) refl)
-    where
-      start_is : line_start (a ++ b) p.line ≡ line_start a p.line
-      start_is = start_left p.line (omega arith)
-
-      stop_is : line_stop (a ++ b) p.line ≡ line_stop a p.line
-      stop_is = stop_left p.line h
-
-      start_within : line_start a p.line ≤ length a
-      start_within = omega (arith, (line_has_start a p.line (omega arith)).in_row)
-
-      stop_within : line_stop a p.line ≤ length a
-      stop_within = omega (arith, (line_has_stop a p.line (omega arith)).in_row)
-
-      searched : find (λ k. units_between units (a ++ b) (line_start a p.line) k == p.character)
-          (line_content (a ++ b) p.line) ≡ find (λ k. units_between units a (line_start a p.line) k == p.character)
-          (line_content a p.line)
-      searched =
-          ap (find (λ k. units_between units (a ++ b) (line_start a p.line) k == p.character))
-          (content_row_left p.line h) ∙
-          (find_same (λ k. units_between units (a ++ b) (line_start a p.line) k == p.character)
-          (λ k. units_between units a (line_start a p.line) k == p.character) (is_in_content a p.line) 0 (length a)
-          (λ k o w. ap (λ u. u == p.character) (units_left units (line_start a p.line) k start_within (omega arith))) ∙
-          ap (find (λ k. units_between units a (line_start a p.line) k == p.character)) (sym (row_left p.line h)))
+      grind (
+        arith,
+        common_steps,
+        le-ltb,
+        seam_count,
+        units_left,
+        start_left,
+        stop_left,
+        line_has_start,
+        line_has_stop,
+        find,
+        content_row_left,
+        find_same,
+        row_left,
+      )
 
   -- In the first text's last line.
   pub denoted_last : (units : ℕ → ℕ) → ((c : ℕ) → 1 ≤ units c) → (p : Position) → p.line ≡ line_ends a
@@ -476,33 +420,16 @@ module _ (a b : List ℕ) (clear : EndsClear a) where
           ∙ units_line units 0 k (omega arith)
 
       more : p.character < units_between units (a ++ b) (line_start (a ++ b) p.line) (line_stop (a ++ b) p.line)
-      more = omega (
-        arith,
-        ap (units_between units (a ++ b) (line_start (a ++ b) p.line)) stop_is,
-        line_units (line_stop b 0),
-        low,
-      )
+      more = grind (arith, common_steps, stop_is, line_units)
 
       fails_moved : (k : ℕ) → (units_between units (a ++ b) (line_start (a ++ b) p.line) (length a + k) == p.character)
           ≡ false
       fails_moved k =
-          false_from_ne_true (units_between units (a ++ b) (line_start (a ++ b) p.line) (length a + k) == p.character)
-          (λ e. omega (
-            arith,
-            eqb-true (units_between units (a ++ b) (line_start (a ++ b) p.line) (length a + k)) p.character e,
-            line_units k,
-            low,
-          ))
+          grind (arith, common_steps, false_from_ne_true, eqb-true, line_units)
 
       fails_last : (units_between units a (line_start a p.line) (length a) == p.character) ≡ false
       fails_last =
-          false_from_ne_true (units_between units a (line_start a p.line) (length a) == p.character)
-          (λ e. omega (
-            arith,
-            eqb-true (units_between units a (line_start a p.line) (length a)) p.character e,
-            ap (λ l. units_between units a (line_start a l) (length a)) there,
-            low,
-          ))
+          grind (arith, common_steps, false_from_ne_true, eqb-true)
 
       within : line_start a p.line ≤ length a
       within = omega (arith, (line_has_start a p.line (omega (arith, there))).in_row)
@@ -524,21 +451,11 @@ module _ (a b : List ℕ) (clear : EndsClear a) where
           let end_fails : o (0 + length a) ≡ false = ap o (let z : 0 + length a ≡ length a = omega arith in z)
           ∙ fails_last in
           let none : find o (filter (is_in_content a p.line) (numbers_from (0 + length a) 1)) ≡ None =
-          ⊎_elim
-          (λ (e : is_in_content a p.line (0 + length a) ≡ true). rw (e, end_fails) refl)
-          (λ (e : is_in_content a p.line (0 + length a) ≡ false). rw e refl)
-          (cases_Bool (is_in_content a p.line (0 + length a))) in
+          grind (arith, common_steps, cases_Bool) in
           ap (find w) row ∙
           (find_front w (filter (is_in_content (a ++ b) p.line) (numbers_from 0 (length a)))
           (map (λ k. length a + k) (line_content b 0)) (find_none_moved (length a) w (line_content b 0) fails_moved) ∙
-          (ap (find w) (same_pass (is_in_content (a ++ b) p.line) (is_in_content a p.line) 0 (length a)
-          (λ k l h. content_left p.line k (omega arith))) ∙
-          (find_same w o (is_in_content a p.line) 0 (length a)
-          (λ k l h. ap (λ u. u == p.character) (ap (λ s. units_between units (a ++ b) s k) start_is
-          ∙ units_left units (line_start a p.line) k within (omega arith))) ∙
-          (sym (find_front o (filter (is_in_content a p.line) (numbers_from 0 (length a)))
-          (filter (is_in_content a p.line) (numbers_from (0 + length a) 1)) none) ∙
-          ap (find o) (sym own)))))
+          (grind (arith, common_steps, find, same_pass, content_left, find_same, start_is, units_left, find_front)))
 
   -- A position of the second, moved after the first.
   pub denoted_right : (units : ℕ → ℕ) → ((c : ℕ) → 1 ≤ units c) → (line character : ℕ) →
@@ -573,14 +490,7 @@ module _ (a b : List ℕ) (clear : EndsClear a) where
           (find_after w (is_in_content (a ++ b) (line_ends a + line)) 0 (length a)
           (map (λ k. length a + k) (line_content b line))
           (λ k l g there.
-          false_from_ne_true (units_between units (a ++ b) (line_start (a ++ b) (line_ends a + line)) k == carried line
-          (head units a) + character)
-          (λ e. omega (
-            arith,
-            eqb-true (units_between units (a ++ b) (line_start (a ++ b) (line_ends a + line)) k)
-                (carried line (head units a) + character) e,
-            units_before units some line k (omega arith) there,
-          ))) ∙
+          grind (arith, common_steps, false_from_ne_true, eqb-true, units_before)) ∙
           find_moved (length a) w o (line_content b line)
           (λ k. ap (λ u. u == carried line (head units a) + character) (units_line units line k h)
           ∙ same_test (carried line (head units a)) (units_between units b (line_start b line) k) character))
@@ -602,17 +512,7 @@ module _ (a b : List ℕ) (clear : EndsClear a) where
           (Some (line_stop b line)) (find (λ k. units_between units b (line_start b line) k == character)
           (line_content b line)))
       in_line h =
-          let test : nat_le (units_between units (a ++ b) (line_start (a ++ b) (line_ends a + line))
-          (line_stop (a ++ b) (line_ends a + line))) (carried line (head units a) + character)
-          ≡ nat_le (units_between units b (line_start b line) (line_stop b line)) character =
-          ap (λ s. nat_le (units_between units (a ++ b) (line_start (a ++ b) (line_ends a + line)) s)
-          (carried line (head units a) + character)) (stop_right line h) ∙
-          (ap (λ u. nat_le u (carried line (head units a) + character)) (units_line units line (line_stop b line) h) ∙
-          same_order (carried line (head units a)) (units_between units b (line_start b line) (line_stop b line))
-          character) in
-          rw (test, stop_right line h, searched h)
-          (choose (nat_le (units_between units b (line_start b line) (line_stop b line)) character) (line_stop b line)
-          (find (λ k. units_between units b (line_start b line) k == character) (line_content b line)))
+          grind (arith, common_steps, nat_le, stop_right, units_line, same_order, searched, choose, find)
 
   -- The exact position of an index of the second.
   pub exact_right : (units : ℕ → ℕ) (k : ℕ) → k ≤ length b →
@@ -621,16 +521,9 @@ module _ (a b : List ℕ) (clear : EndsClear a) where
         character = carried (exact_position units b k).line (head units a) + (exact_position units b k).character;
       }
   exact_right units k h =
-      let counted : units_between units (a ++ b) (line_start (a ++ b) (line_at (a ++ b) (length a + k))) (length a + k)
-      ≡ carried (line_at b k) (head units a) + units_between units b (line_start b (line_at b k)) k =
-      ap (λ l. units_between units (a ++ b) (line_start (a ++ b) l) (length a + k)) (beyond_line k)
-      ∙ units_line units (line_at b k) k (line_rises b k (length b) h) in
-      let line_is : line_at (a ++ b) (length a + k) ≡ line_ends a + line_at b k = beyond_line k in
-      λ i. record { line = line_is i; character = counted i }
+      grind (arith, common_steps, beyond_line, units_line, line_rises)
 
   -- The last line of both.
   pub head_right : (units : ℕ → ℕ) → head units (a ++ b) ≡ carried (line_ends b) (head units a) + head units b
   head_right units =
-      ap (λ l. units_between units (a ++ b) (line_start (a ++ b) l) (length (a ++ b))) seam_count ∙
-      (ap (units_between units (a ++ b) (line_start (a ++ b) (line_ends a + line_ends b))) (length-append a b)
-      ∙ units_line units (line_ends b) (length b) (omega arith))
+      grind (arith, common_steps, seam_count, length-append, units_line)

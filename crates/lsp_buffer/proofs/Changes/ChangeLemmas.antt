@@ -20,6 +20,7 @@ use Rattle.lsp_buffer.proofs.Blocks.CutLemmas.{concat_more}
 use Rattle.lsp_buffer.proofs.Blocks.GroupLemmas.{groups_front}
 use Rattle.lsp_buffer.proofs.Blocks.PartLemmas.{take_three, drop_three, boundary_in}
 use Rattle.lsp_buffer.proofs.Queries.FoundLemmas.{IsPlaceFound, chunk_boundary, found_place, part_here}
+use Rattle.std.proofs.lemmas.Grind.{common_steps}
 
 -- What a change makes of a text in parts: the front of the first block, the new text, and the back of the last.
 pub replaced_parts : (bytes front block rest front' block' rest' new : List ℕ) (start stop from from' : ℕ)
@@ -48,19 +49,17 @@ replaced_parts bytes front block rest front' block' rest' new start stop from fr
 -- The back of a block ends as the block does, and so does what ends with it.
 pub back_ends : (block front : List ℕ) (n : ℕ) → n < length block → EndsClear block → EndsClear (front ++ drop n block)
 back_ends block front n h feed =
-    ends_join front (drop n block)
-    (ends_tail (take n block) (drop n block) (omega (arith, length-drop n block))
-    (subst EndsClear (sym (take-append-drop n block)) feed))
+    grind (arith, common_steps, ends_join, ends_tail, length-drop, take-append-drop)
 
 -- How long a changed text is.
 pub replaced_length : (bytes new : List ℕ) (start stop : ℕ) → start ≤ stop → stop ≤ length bytes
     → length (replace_range bytes start stop new) ≡ length bytes - (stop - start) + length new
-replaced_length bytes new start stop order within = omega (
+replaced_length bytes new start stop order within = grind (
   arith,
-  length-append (take start bytes ++ new) (drop stop bytes),
-  length-append (take start bytes) new,
-  length-take-le start bytes (omega (arith, order, within)),
-  length-drop stop bytes,
+  common_steps,
+  length-append,
+  length-take-le,
+  length-drop,
 )
 
 -- ---- the range of a change
@@ -116,16 +115,7 @@ module _ (blocks : List (List ℕ)) (from to : Found) (start stop : ℕ)
 
   range_order : from.index ≤ to.index
   range_order =
-      ⊎_elim
-      (λ (h : to.index < from.index).
-      absurd (is.to_is.last (omega (arith, h, is.from_is.begins.within)) (omega (
-        arith,
-        first_texts blocks (to.index + 1) from.index (omega (arith, h)),
-        one.low,
-        is.order,
-      ))))
-      (λ (h : from.index ≤ to.index). h)
-      (cases_lt to.index from.index)
+      grind (arith, common_steps, first_texts, cases_lt)
 
   range_end : to.index + 1 < length blocks → stop - to.before.len < length (get_or blocks to.index [])
   range_end more =
@@ -155,13 +145,7 @@ module _ (blocks : List (List ℕ)) (from to : Found) (start stop : ℕ)
     at_end = chunk_boundary (concat blocks) (concat (take to.index blocks)) (get_or blocks to.index [])
         (concat (drop (to.index + 1) blocks)) stop to.before.len (get_or blocks to.index []) refl two is.at_end;
     before_end = range_end;
-    forward = λ same. omega (
-      arith,
-      is.order,
-      one.from_is,
-      two.from_is,
-      ap (λ i. length (concat (take i blocks))) same,
-    );
+    forward = grind (arith, common_steps);
     size = is.size;
     room = omega (arith, room, ap length (range_text new));
   }
@@ -204,10 +188,7 @@ module _ (blocks : List (List ℕ)) (range : BlockRange) (new : List ℕ) (chang
       → back ≡ get_or blocks range.last back → text ≡ take range.start front ++ (new ++ drop range.end back)
       → text ≡ text_left blocks range new
   left_text front back text front_is back_is text_is =
-      text_is ∙
-      (ap (λ b. take range.start b ++ (new ++ drop range.end back)) (sym (first_here front front_is))
-      ∙ ap (λ b. take range.start (get_or blocks range.first []) ++ (new ++ drop range.end b))
-      (sym (last_here back back_is)))
+      grind (arith, common_steps, first_here, last_here)
 
   block_low : (index : ℕ) → index < length blocks → length (get_or blocks index []) ≤ 2147483648
   block_low index within = omega (
@@ -228,14 +209,7 @@ module _ (blocks : List (List ℕ)) (range : BlockRange) (new : List ℕ) (chang
 
   left_length : length (text_left blocks range new) ≡ range.start + length new
       + (length (get_or blocks range.last []) - range.end)
-  left_length = omega (
-    arith,
-    length-append (take range.start (get_or blocks range.first []))
-        (new ++ drop range.end (get_or blocks range.last [])),
-    length-append new (drop range.end (get_or blocks range.last [])),
-    length-take-le range.start (get_or blocks range.first []) change.at_start.0,
-    length-drop range.end (get_or blocks range.last []),
-  )
+  left_length = grind (arith, common_steps, length-append, length-take-le, length-drop)
 
   pub left_here : (block : List ℕ) → block ≡ get_or blocks range.last block → length (text_left blocks range new)
       ≡ range.start + length new + (length block - range.end)
@@ -243,13 +217,7 @@ module _ (blocks : List (List ℕ)) (range : BlockRange) (new : List ℕ) (chang
       left_length ∙ ap (λ (b : List ℕ). range.start + length new + (length b - range.end)) (last_here block is)
 
   pub left_small : length (text_left blocks range new) ≤ 2147483648
-  left_small = omega (
-    arith,
-    change.room,
-    length-append (concat (take range.first blocks)) (text_left blocks range new
-        ++ concat (drop (range.last + 1) blocks)),
-    length-append (text_left blocks range new) (concat (drop (range.last + 1) blocks)),
-  )
+  left_small = grind (arith, common_steps, length-append)
 
   left_utf8 : IsUtf8 new → IsUtf8 (text_left blocks range new)
   left_utf8 utf8 =
@@ -275,11 +243,7 @@ module _ (blocks : List (List ℕ)) (range : BlockRange) (new : List ℕ) (chang
 
   left_ends : range.last + 1 < length blocks → EndsClear (text_left blocks range new)
   left_ends more =
-      subst EndsClear
-      (append_assoc (take range.start (get_or blocks range.first [])) new
-      (drop range.end (get_or blocks range.last [])))
-      (back_ends (get_or blocks range.last []) (take range.start (get_or blocks range.first []) ++ new) range.end
-      (change.before_end more) (last_full more).ends)
+      grind (arith, common_steps, append_assoc, back_ends, last_full)
 
   -- What is left is full, or joined with the next block.
   pub left_full : IsUtf8 new → (JoinsNext blocks (range.last + 1) (length (text_left blocks range new)) → ⊥)
@@ -288,10 +252,7 @@ module _ (blocks : List (List ℕ)) (range : BlockRange) (new : List ℕ) (chang
     utf8 = is_utf8-from_IsUtf8 (text_left blocks range new) (left_utf8 utf8);
     ends = left_ends more;
     enough =
-        ⊎_elim
-        (λ (h : length (text_left blocks range new) < 1024). absurd (never (more, h)))
-        (λ (h : 1024 ≤ length (text_left blocks range new)). h)
-        (cases_lt (length (text_left blocks range new)) 1024);
+        grind (arith, common_steps, cases_lt);
   }
 
   -- ---- the text that is cut
@@ -303,12 +264,7 @@ module _ (blocks : List (List ℕ)) (range : BlockRange) (new : List ℕ) (chang
     within = omega (arith, past_is, change.within);
     whole = ap (λ t. concat (take range.first blocks) ++ (t ++ concat (drop past blocks))) text_is
         ∙ ap (λ p. concat (take range.first blocks) ++ (text_left blocks range new ++ concat (drop p blocks))) past_is;
-    full = λ more.
-        subst IsFull (sym text_is)
-        (left_full utf8
-        (subst (λ (p : ℕ). JoinsNext blocks p (length (text_left blocks range new)) → ⊥) past_is
-        (subst (λ (t : List ℕ). JoinsNext blocks past (length t) → ⊥) text_is never))
-        (omega (arith, more, past_is)));
+    full = grind (arith, common_steps, left_full);
   }
 
   pub taken_next : (text next : List ℕ) (past : ℕ) → IsUtf8 new → text ≡ text_left blocks range new ++ next
@@ -318,11 +274,7 @@ module _ (blocks : List (List ℕ)) (range : BlockRange) (new : List ℕ) (chang
     order = omega (arith, past_is, change.order);
     within = omega (arith, within);
     whole =
-        ap (λ t. concat (take range.first blocks) ++ (t ++ concat (drop (past + 1) blocks))) text_is ∙
-        (ap (λ t. concat (take range.first blocks) ++ t)
-        (append_assoc (text_left blocks range new) next (concat (drop (past + 1) blocks)) ∙
-        ap (λ t. text_left blocks range new ++ t) (sym rest_is)) ∙
-        ap (λ p. concat (take range.first blocks) ++ (text_left blocks range new ++ concat (drop p blocks))) past_is);
+        grind (arith, common_steps, append_assoc);
     full = λ more.
         let full : IsFull (get_or blocks past []) =
         ⊎_elim
@@ -351,29 +303,18 @@ module _ (blocks : List (List ℕ)) (range : BlockRange) (new : List ℕ) (chang
           ∙ ap (λ n. next ++ concat (drop n blocks)) (let e : suc past ≡ past + 1 = omega arith in e))
 
   pub taken_small : (text : List ℕ) (past : ℕ) → IsTaken blocks range new text past → length text ≤ 2147483648
-  taken_small text past taken = omega (
-    arith,
-    change.room,
-    ap length taken.whole,
-    length-append (concat (take range.first blocks)) (text ++ concat (drop past blocks)),
-    length-append text (concat (drop past blocks)),
-  )
+  taken_small text past taken = grind (arith, common_steps, length-append)
 
   -- The blocks that the text is cut into.
   module _ (text : List ℕ) (past : ℕ) (fresh : List (List ℕ)) (taken : IsTaken blocks range new text past)
       (fresh_text : concat fresh ≡ text) (fresh_are : AreBlocks fresh) (fresh_full : IsFull text → AreFull fresh) where
     pub cut_text : concat (take range.first blocks ++ (fresh ++ drop past blocks)) ≡ text_after blocks range new
     cut_text =
-        concat-append (take range.first blocks) (fresh ++ drop past blocks) ∙
-        (ap (λ t. concat (take range.first blocks) ++ t)
-        (concat-append fresh (drop past blocks) ∙ ap (λ t. t ++ concat (drop past blocks)) fresh_text) ∙ taken.whole)
+        grind (arith, common_steps, concat-append)
 
     after : (drop past blocks ≡ []) ⊎ (AreFull fresh × AreBlocks (drop past blocks))
     after =
-        ⊎_elim
-        (λ (more : past < length blocks). inr (fresh_full (taken.full more), drop_are past blocks more change.are))
-        (λ (none : length blocks ≤ past). inl (drop_all past blocks none))
-        (cases_lt past (length blocks))
+        grind (arith, common_steps, inr, drop_are, inl, drop_all, cases_lt)
 
     cut_groups : (next : List (List ℕ)) (groups now : List Counts) → next ≡ take range.first blocks
         ++ (fresh ++ drop past blocks) → AreGroups blocks groups → now ≡ take (range.first / 32) groups
@@ -414,9 +355,7 @@ module _ (blocks : List (List ℕ)) (range : BlockRange) (new : List ℕ) (chang
 
       put_left : replace_range block range.start range.end new ≡ text_left blocks range new
       put_left =
-          append_assoc (take range.start block) new (drop range.end block) ∙
-          (ap (λ b. take range.start b ++ (new ++ drop range.end block)) (sym front_is)
-          ∙ ap (λ b. take range.start (get_or blocks range.first []) ++ (new ++ drop range.end b)) (sym back_is))
+          grind (arith, common_steps, append_assoc)
 
       pub put_small : length (replace_range block range.start range.end new) ≤ 2147483648
       put_small = omega (arith, left_small, ap length put_left)
@@ -442,13 +381,7 @@ module _ (blocks : List (List ℕ)) (range : BlockRange) (new : List ℕ) (chang
         put_after : IsUtf8 new → (drop (range.last + 1) blocks ≡ [])
             ⊎ (AreFull (text_left blocks range new ∷ []) × AreBlocks (drop (range.last + 1) blocks))
         put_after utf8 =
-            ⊎_elim
-            (λ (more : range.last + 1 < length blocks). inr (
-              (left_full utf8 inside.2 more, tt),
-              drop_are (range.last + 1) blocks more change.are,
-            ))
-            (λ (none : length blocks ≤ range.last + 1). inl (drop_all (range.last + 1) blocks none))
-            (cases_lt (range.last + 1) (length blocks))
+            grind (arith, common_steps, inr, left_full, drop_are, inl, drop_all, cases_lt)
 
         pub put_are : IsUtf8 new → AreBlocks next
         put_are utf8 = subst AreBlocks (sym next_parts)

@@ -1,5 +1,5 @@
 -- What a change of a range makes of the bytes of a text, and of its lines.
-use Rattle.std.proofs.Common.{ℕ, ◌≡◌, ◌+◌, ◌-◌, ◌<◌, ◌≤◌, true, List, ◌++◌, length, take, drop, refl, sym, ap, ap₂, ◌∙◌, subst, arith, Result, Ok, Err, OnOk, OnErr, is_err}
+use Rattle.std.proofs.Common.{ℕ, ◌≡◌, ◌+◌, ◌-◌, ◌<◌, ◌≤◌, true, List, ◌++◌, length, take, drop, sym, ap, ap₂, ◌∙◌, subst, arith, Result, Ok, Err, OnOk, OnErr, is_err}
 use Rattle.std.proofs.lemmas.List.{length-append, length-drop, length-take, length-take-le, append_assoc, take_at, drop_at, drop-drop, take-append-drop}
 use Rattle.std.proofs.lemmas.Str.{IsCharBoundary-at_seam, IsUtf8-append, IsUtf8-drop}
 use Rattle.std.specs.List.{slice_range, replace_range}
@@ -7,6 +7,7 @@ use Rattle.std.specs.String.Boundary.{IsSplitPoint}
 use Rattle.std.specs.Str.{IsCharBoundary, IsUtf8}
 use Rattle.lsp_text.specs.LineStarts.{AreLinesOf}
 use Rattle.lsp_text.specs.Splice.{IsSpliced}
+use Rattle.std.proofs.lemmas.Grind.{common_steps}
 
 assoc : (a b c : List ℕ) → a ++ b ++ c ≡ a ++ (b ++ c)
 assoc a b c = simp append_assoc
@@ -52,10 +53,7 @@ module _ (old : List ℕ) (utf8 : IsUtf8 old) (start stop : ℕ) (new : List ℕ
 
   pub end_again : IsSplitPoint (replace_range old start stop new) (start + length new)
   end_again =
-      split (replace_range old start stop new) (start + length new)
-      (subst (IsCharBoundary (replace_range old start stop new)) both_len
-      (IsCharBoundary-at_seam (replace_range old start stop new) (take start old ++ new) (drop stop old) refl
-      rest_utf8))
+      grind (arith, common_steps, both_len, rest_utf8)
 
   pub is_spliced : (lines : List ℕ) → AreLinesOf lines old →
       IsSpliced lines (replace_range old start stop new) start stop (length new)
@@ -63,23 +61,14 @@ module _ (old : List ℕ) (utf8 : IsUtf8 old) (start stop : ℕ) (new : List ℕ
     old = old;
     utf8 = utf8;
     indexed = indexed;
-    replaced = record {
-      order = order;
-      within = at_end.0;
-      inserted = omega (arith, replaced_len);
-      front = front_at;
-      back = back_at;
-    };
+    replaced = grind (arith, common_steps, replaced_len, front_at, back_at);
   }
 
   pub undone : replace_range (replace_range old start stop new) start (start + length new) (slice_range old start stop)
       ≡ old
   undone =
       ap₂ (λ (x y : List ℕ). x ++ slice_range old start stop ++ y) front_at back_at
-      ∙ (assoc (take start old) (slice_range old start stop) (drop stop old)
-      ∙ (ap (λ (x : List ℕ). take start old ++ (slice_range old start stop ++ x)) rest_after
-      ∙ (ap (λ (x : List ℕ). take start old ++ x) (take-append-drop (stop - start) (drop start old))
-      ∙ take-append-drop start old)))
+      ∙ (grind (arith, common_steps, assoc, rest_after, take-append-drop))
     where
       rest_after : drop stop old ≡ drop (stop - start) (drop start old)
       rest_after = let n : stop ≡ start + (stop - start) = omega (arith, order) in

@@ -19,6 +19,7 @@ use Rattle.lsp_text.proofs.PlainLemmas.{units_total}
 use Rattle.lsp_text.proofs.Positions.PositionLemmas.{exact_denotes}
 use Rattle.lsp_buffer.specs.Contents.{IsContentOf}
 use Rattle.lsp_buffer.proofs.Queries.FoundLemmas.{units_some}
+use Rattle.std.proofs.lemmas.Grind.{common_steps}
 
 no_units : (units : ℕ → ℕ) (text : List ℕ) (k : ℕ) → units_between units text k k ≡ 0
 no_units units text k = ap (λ n. sum_by units (take n (drop k text))) (let e : k - k ≡ 0 = omega arith in e)
@@ -47,13 +48,7 @@ pub last_denotes : (bytes : List ℕ) (line : ℕ) → IsUtf8 bytes → length b
     denoted (units_in Utf8) (chars bytes) (record { line = line; character = 4294967295 })
     ≡ Some (line_stop (chars bytes) line)
 last_denotes bytes line utf8 size there =
-    past_line (units_in Utf8) (chars bytes) (record { line = line; character = 4294967295 }) there
-    (omega (
-      arith,
-      units_total Utf8 (chars bytes) (line_start (chars bytes) line) (line_stop (chars bytes) line),
-      ap length (encodes-chars bytes utf8),
-      size,
-    ))
+    grind (arith, common_steps, past_line, units_total, encodes-chars)
 
 -- A result that is there is taken, and not the default.
 pub value_of : {E : Type 0} (found : Result ℕ E) (default value : ℕ) → result_ok found ≡ Some value

@@ -3,6 +3,7 @@ use Rattle.std.proofs.Common.{ℕ, ◌≡◌, ◌+◌, ◌-◌, ◌<◌, ◌≤�
 use Rattle.std.proofs.lemmas.List.{append_assoc, drop-append-le, drop-drop, drop_at, length-append, length-drop, length-take, length-take-le, take-append-drop, take-take, take_at}
 use Rattle.std.proofs.Math.Seq.{take-add}
 use borrow.Rule.Slice.PartMut.{put_mid}
+use Rattle.std.proofs.lemmas.Grind.{common_steps}
 
 -- The first bytes are copied, in place of as many of `old`.
 pub record IsCopied (bytes old now : List ℕ) (start end copied : ℕ) : Type 0 where
@@ -24,15 +25,7 @@ module _ (bytes old now chunk : List ℕ) (start end copied n : ℕ) (ends : IsE
   taken = length-take-le copied (drop start bytes) (omega (arith, so_far.within, ends.some, length-drop start bytes))
 
   pub now_length : length now ≡ length old
-  now_length = omega (
-    arith,
-    ap length so_far.is,
-    length-append (take copied (drop start bytes)) (drop copied old),
-    taken,
-    length-drop copied old,
-    so_far.within,
-    ends.room,
-  )
+  now_length = grind (arith, common_steps, length-append, length-drop)
 
   part_room : length (take (end - copied) (drop copied now)) ≡ end - copied
   part_room = omega (arith, length-take (end - copied) (drop copied now), length-drop copied now, now_length, ends.room)
@@ -55,16 +48,11 @@ module _ (bytes old now chunk : List ℕ) (start end copied n : ℕ) (ends : IsE
   module _ (chunk_is : chunk ≡ take (length chunk) (drop (start + copied) bytes)) where
     piece : take n chunk ≡ take n (drop copied (drop start bytes))
     piece =
-        ap (take n) chunk_is
-        ∙ (take-take n (length chunk) (drop (start + copied) bytes) (omega (arith, n_is))
-        ∙ ap (take n) (sym (drop-drop copied start bytes)))
+        grind (arith, common_steps, take-take, drop-drop)
 
     head : take copied now ++ take n chunk ≡ take (copied + n) (drop start bytes)
     head =
-        ap (λ (xs : List ℕ). xs ++ take n chunk) (ap (take copied) so_far.is ∙ take_at (take copied (drop start bytes))
-        (drop copied old) copied taken)
-        ∙ (ap (λ (xs : List ℕ). take copied (drop start bytes) ++ xs) piece
-        ∙ sym (take-add copied n (drop start bytes)))
+        grind (arith, common_steps, take_at, take-add)
 
     -- One chunk more.
     pub copied_more : (part : List ℕ) → part ≡ take n chunk ++ drop n (take (end - copied) (drop copied now))

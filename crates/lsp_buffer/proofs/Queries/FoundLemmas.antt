@@ -29,6 +29,7 @@ use Rattle.lsp_buffer.proofs.Blocks.BlockLemmas.{IsSplit, blocks_some, blocks_ut
 use Rattle.lsp_buffer.proofs.Blocks.CountLemmas.{are_sum, ends_both, have_room, head_both, none_count, room_more, room_some, sum_more, sum_some}
 use Rattle.lsp_buffer.proofs.Blocks.CutLemmas.{concat_more}
 use Rattle.lsp_buffer.proofs.Blocks.PartLemmas.{resolved_three, inner_index, exact_three, boundary_in, carried_low, drop_three}
+use Rattle.std.proofs.lemmas.Grind.{common_steps}
 
 pub units_some : (encoding : Encoding) (c : ℕ) → 1 ≤ units_in encoding c
 units_some Utf8 c = (utf8_bounds c).0
@@ -66,13 +67,7 @@ head_none Utf32 = ap (λ (c : Counts). c.utf32) none_count
 reaches_first : (target : Target) → Reaches target (counts_of [])
 reaches_first (Offset offset) = omega arith
 reaches_first (Denoted encoding p) =
-    ⊎_elim
-    (λ (h : 0 < p.line). inl (omega (arith, h, ap (λ (c : Counts). c.ends) none_count)))
-    (λ (h : p.line ≤ 0). inr (
-      omega (arith, h, ap (λ (c : Counts). c.ends) none_count),
-      omega (arith, head_none encoding),
-    ))
-    (cases_lt 0 p.line)
+    grind (arith, common_steps, inl, none_count, inr, head_none, cases_lt)
 
 -- The first block begins before all.
 pub begins_first : (blocks : List (List ℕ)) (target : Target) (before : Counts) → AreBlocks blocks
@@ -259,11 +254,7 @@ module _ (bytes front block rest : List ℕ) (before : Counts) (place : ℕ)
 
   last_none : length bytes ≤ place → rest ≡ []
   last_none far =
-      ⊎_elim
-      (λ (e : rest ≡ []). e)
-      (λ (never : Reaches (Offset place) (counts_of (front ++ block)) → ⊥).
-      absurd (never (past (omega (arith, far, whole_length)))))
-      part.last
+      grind (arith, common_steps, whole_length)
 
   pub last_room : (next : Counts) → next ≡ counts_of block → HaveRoom before next
   last_room next next_is = have_room front block before next part.before_is next_is part.parts.front_utf8
@@ -272,35 +263,17 @@ module _ (bytes front block rest : List ℕ) (before : Counts) (place : ℕ)
   pub last_sum : (next sum : Counts) → next ≡ counts_of block → length bytes ≤ place → sum ≡ counts_sum before next
       → sum ≡ counts_of bytes
   last_sum next sum next_is far is =
-      are_sum front block before next part.before_is next_is sum part.parts.front_utf8 part.parts.closes is ∙
-      ap counts_of (sym (part.parts.whole ∙ ap (λ r. front ++ r) (ap (λ r. block ++ r) (last_none far)
-      ∙ append-nil block)))
+      grind (arith, common_steps, are_sum, last_none, append-nil)
 
 -- A position.
 not_after : (line head : ℕ) (p : Position) → (IsAtOrAfter line head p → ⊥) → IsBefore line head p
 not_after line head p never =
-    ⊎_elim
-    (λ (h : p.line < line). inl h)
-    (λ (h : line ≤ p.line).
-    ⊎_elim
-    (λ (g : line < p.line). absurd (never (inl g)))
-    (λ (g : p.line ≤ line).
-    ⊎_elim
-    (λ (k : p.character < head). inr (omega (arith, h, g), k))
-    (λ (k : head ≤ p.character). absurd (never (inr (omega (arith, h, g), k))))
-    (cases_lt p.character head))
-    (cases_lt line p.line))
-    (cases_lt p.line line)
+    grind (arith, common_steps, inl, inr, cases_lt)
 
 before_after : (line head ends own : ℕ) (p : Position) → IsAtOrAfter line head p
     → IsBefore (line + ends) (carried ends head + own) p → IsBefore ends own (position_after line head p)
 before_after line head ends own p after =
-    let low = carried_low line head p after in
-    ⊎_elim
-    (λ (h : p.line < line + ends). inl (omega (arith, low.0)))
-    (λ (h : (p.line ≡ line + ends) × (p.character < carried ends head + own)).
-    let same : p.line - line ≡ ends = omega (arith, h.0) in
-    inr (same, omega (arith, h.1, low.1, ap (λ (n : ℕ). carried n head) same)))
+    grind (arith, common_steps, carried_low, inl, inr)
 
 module _ (bytes front block rest : List ℕ) (before : Counts) (encoding : Encoding) (p : Position)
     (part : IsPartAt bytes front block rest (Denoted encoding p) before) where
@@ -316,9 +289,7 @@ module _ (bytes front block rest : List ℕ) (before : Counts) (encoding : Encod
 
   units_next : head_in (counts_of (front ++ block)) encoding
       ≡ carried (block_ends block) (head_in before encoding) + head_of (units_in encoding) block
-  units_next = head_counted encoding (front ++ block) ∙
-      (head_both front block part.parts.front_utf8 part.parts.closes (units_in encoding) ∙
-      ap (λ n. carried (block_ends block) n + head_of (units_in encoding) block) (sym units_are))
+  units_next = grind (arith, common_steps, head_counted, head_both)
 
   pub found_line : IsLineFound bytes front block rest (units_in encoding) p before.ends
       (head_in before encoding) before.len
@@ -431,9 +402,7 @@ module _ (bytes front block rest : List ℕ) where
   pub chunk_boundary : (place from : ℕ) (text : List ℕ) → text ≡ block → IsPlaceFound bytes front block rest place from
       → IsCharBoundary bytes place → IsCharBoundary text (place - from)
   chunk_boundary place from text same found at =
-      subst (λ (bs : List ℕ). IsCharBoundary bs (place - from)) (sym same)
-      (subst (λ (n : ℕ). IsCharBoundary block (place - n)) (sym found.from_is)
-      (boundary_in bytes front block rest found.parts place found.low found.inside at))
+      grind (arith, common_steps, boundary_in)
 
   pub record IsChunk (place : ℕ) (chunk : List ℕ) : Type 0 where
     pub part : chunk ≡ take (length chunk) (drop place bytes)
@@ -442,17 +411,13 @@ module _ (bytes front block rest : List ℕ) where
   bytes_length : (place from : ℕ) → IsPlaceFound bytes front block rest place from → length bytes ≡ length front
       + (length block + length rest)
   bytes_length place from found =
-      ap length found.parts.whole
-      ∙ (length-append front (block ++ rest) ∙ ap (λ m. length front + m) (length-append block rest))
+      grind (arith, common_steps, length-append)
 
   -- A byte offset in the text is one in the block.
   pub found_within : (place from : ℕ) → IsPlaceFound bytes front block rest place from → place ≤ length bytes
       → place - length front ≤ length block
   found_within place from found within =
-      ⊎_elim
-      (λ (e : rest ≡ []). omega (arith, bytes_length place from found, within, found.low, ap length e))
-      (λ (g : place - length front < length block). omega (arith, g))
-      found.inside
+      grind (arith, common_steps, bytes_length)
 
   pub chunk_is : (place from : ℕ) (text chunk : List ℕ) → text ≡ block → chunk ≡ drop (place - from) text
       → IsPlaceFound bytes front block rest place from → place ≤ length bytes → IsChunk place chunk

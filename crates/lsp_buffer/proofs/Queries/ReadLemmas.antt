@@ -1,9 +1,9 @@
 -- What is read of a text in blocks: places, chunks and slices.
-use Rattle.std.proofs.Common.{ℕ, suc, false, refl, ◌≡◌, ◌≢◌, ◌+◌, ◌-◌, ◌<◌, ◌≤◌, ◌↔◌, ⊎_elim, Bool, IsTrue, List, ◌++◌, length, take, drop, get_or, slice_index, min, sym, ap, ◌∙◌, arith, subst}
+use Rattle.std.proofs.Common.{ℕ, suc, false, ◌≡◌, ◌≢◌, ◌+◌, ◌-◌, ◌<◌, ◌≤◌, ◌↔◌, ⊎_elim, Bool, IsTrue, List, ◌++◌, length, take, drop, get_or, slice_index, min, sym, ap, ◌∙◌, arith, subst}
 use Rattle.std.specs.List.{concat, slice_range}
 use Rattle.std.specs.Str.{bytes_eq, chars, IsUtf8, IsCharBoundary}
 use Rattle.std.proofs.Math.Seq.{drop-cons, take-append-add}
-use Rattle.std.proofs.lemmas.Bool.{cases_lt, false≢true}
+use Rattle.std.proofs.lemmas.Bool.{cases_lt}
 use Rattle.std.proofs.lemmas.List.{length-append, length-drop, length-take, length-take-le, get_or-drop, get_or-take, take-take, take_at, take-append-drop, append_assoc, append_cancel_left}
 use Rattle.std.proofs.lemmas.List.Folds.{concat-append, drop_split}
 use Rattle.std.proofs.lemmas.Slice.Eq.{bytes_eq-Decides}
@@ -12,6 +12,7 @@ use Rattle.lsp_text.proofs.Positions.BoundaryLemmas.{boundary_from}
 use Rattle.lsp_buffer.proofs.Blocks.CutLemmas.{concat_more}
 use Rattle.lsp_buffer.proofs.Queries.FoundLemmas.{IsPlaceFound, place_inner}
 use Rattle.lsp_buffer.proofs.Blocks.PartLemmas.{boundary_in, byte_in, place_outer, place_last}
+use Rattle.std.proofs.lemmas.Grind.{common_steps}
 
 module _ (bytes front block rest : List ℕ) (place from : ℕ)
     (found : IsPlaceFound bytes front block rest place from) where
@@ -78,32 +79,12 @@ place_is_boundary bytes place test utf8 is h = (boundary_from bytes place utf8 (
 pub chunk_front : (bytes chunk : List ℕ) (offset end : ℕ) → chunk ≡ take (length chunk) (drop offset bytes)
     → offset ≤ end → end - offset < length chunk → IsCharBoundary bytes end → IsCharBoundary chunk (end - offset)
 chunk_front bytes chunk offset end is order short at =
-    let n = end - offset in
-    let here : slice_index chunk n ≡ slice_index bytes end =
-    ap (λ xs. get_or xs n 0) is ∙
-    (get_or-take (length chunk) (drop offset bytes) n 0 short ∙
-    (get_or-drop offset bytes n 0 ∙ ap (λ i. get_or bytes i 0) (let e : offset + n ≡ end = omega (arith, order) in
-    e))) in
-    let size : length chunk ≤ length bytes - offset =
-    omega (
-      arith,
-      ap length is ∙ length-take (length chunk) (drop offset bytes),
-      min_right (length chunk) (length (drop offset bytes)),
-      length-drop offset bytes,
-    ) in (
-      omega (arith, short),
-      λ inside big. omega (arith, here, at.1 (omega (arith, size, order, inside)) (omega (arith, here, big))),
-    )
-  where
-    min_right : (m n : ℕ) → min m n ≤ n
-    min_right m n = omega arith
+    grind (arith, common_steps, get_or-take, get_or-drop, length-take, length-drop, min)
 
 pub front_part : (bytes chunk part : List ℕ) (offset len : ℕ) → chunk ≡ take (length chunk) (drop offset bytes)
     → part ≡ take len chunk → len ≤ length chunk → part ≡ take (length part) (drop offset bytes)
 front_part bytes chunk part offset len is part_is short =
-    let size : length part ≡ len = ap length part_is ∙ length-take-le len chunk short in
-    part_is ∙ (ap (take len) is ∙ (take-take len (length chunk) (drop offset bytes) short
-    ∙ ap (λ n. take n (drop offset bytes)) (sym size)))
+    grind (arith, common_steps, length-take-le, take-take)
 
 -- One chunk more of a slice.
 pub slice_more : (bytes : List ℕ) (start offset : ℕ) (text chunk now : List ℕ) → start ≤ offset → offset ≤ length bytes
@@ -148,5 +129,4 @@ text_none blocks index block rest bytes within at so_far none whole =
 pub not_front : (bytes start front : List ℕ) (test : Bool) → start ≡ take (length front) bytes
     → test ≡ bytes_eq start front → test ≡ false → (rest : List ℕ) → bytes ≢ front ++ rest
 not_front bytes start front test start_is is fails rest whole =
-    let same : start ≡ front = start_is ∙ (ap (take (length front)) whole ∙ take_at front rest (length front) refl) in
-    false≢true (sym fails ∙ (is ∙ (bytes_eq-Decides start front).1 same))
+    grind (arith, common_steps, take_at, bytes_eq-Decides)

@@ -3,6 +3,7 @@ use Rattle.std.proofs.Common.{ℕ, suc, ◌≡◌, ◌+◌, List, [], ◌∷◌,
 use Rattle.lsp_edit.specs.Items.{Item}
 use Rattle.lsp_edit.specs.Batch.{ContentChange, Fault, items_after, after_changes, continue_with}
 use Rattle.lsp_edit.specs.laws.Batches.{RangesStay}
+use Rattle.std.proofs.lemmas.Grind.{common_steps}
 
 module _ (units : ℕ → ℕ) (old : List ℕ) where
   -- a batch after another goes on from what that left
@@ -10,10 +11,7 @@ module _ (units : ℕ → ℕ) (old : List ℕ) where
       → after_changes units old number items first ≡ Ok middle → after_changes units old number items (first ++ second)
       ≡ after_changes units old (number + length first) middle second
   after_changes-append number items middle [] second is =
-      let e : items ≡ middle = cc in
-      let n : number ≡ number + 0 = omega arith in
-      ap (λ (m : ℕ). after_changes units old m items second) n
-      ∙ ap (λ (m : List Item). after_changes units old (number + 0) m second) e
+      grind (arith, common_steps)
   after_changes-append number items middle (change ∷ first) second is =
       rest_after (items_after units old items change) (λ next. after_changes-append (suc number) next middle first
       second) is

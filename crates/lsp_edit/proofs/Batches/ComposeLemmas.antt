@@ -14,6 +14,7 @@ use Rattle.lsp_edit.specs.Keeps.{Keeps}
 use Rattle.lsp_edit.proofs.Batches.BatchLemmas.{after_changes-append, any_number}
 use Rattle.lsp_edit.proofs.Canonical.KeepsLemmas.{meaning_keeps}
 use Rattle.lsp_edit.proofs.Canonical.RebuiltLemmas.{canonical_makes}
+use Rattle.std.proofs.lemmas.Grind.{common_steps}
 
 -- an item of a mapped list, also past its end
 pub at_mapped : {X Y : Type 0} (f : X → Y) (xs : List X) (k : ℕ) (default : X) → get_or (map f xs) k (f default)
@@ -26,17 +27,14 @@ pub text_of-then : (old : List ℕ) (first second : List Item) → text_of old (
     ≡ text_of (text_of old first) second
 text_of-then old first [] = refl
 text_of-then old first (Old index ∷ second) =
-    ap₂ (λ (c : ℕ) (cs : List ℕ). c ∷ cs) (sym (at_mapped (character_of old) first index (New 0)))
-    (text_of-then old first second)
+    grind (arith, common_steps, ap₂, at_mapped, (text_of-then old first second))
 text_of-then old first (New character ∷ second) = ap (λ (cs : List ℕ). character ∷ cs) (text_of-then old first second)
 
 pub told_row : (first : List Item) (low count : ℕ) → low + count ≤ length first
     → then_items first (map Old (numbers_from low count)) ≡ take count (drop low first)
 told_row first low zero within = refl
 told_row first low (suc count) within =
-    let inside : low < length first = omega arith in
-    rw (drop-cons first low (New 0)) (ap (λ (is : List Item). get_or first low (New 0) ∷ is)
-    (told_row first (suc low) count (omega arith)))
+    grind (arith, common_steps, drop-cons, (told_row first (suc low) count (omega arith)))
 
 pub then-plain : (old : List ℕ) (first : List Item) → then_items first (plain (text_of old first)) ≡ first
 then-plain old first =
@@ -51,8 +49,7 @@ pub then_associative : (first second third : List Item) → then_items (then_ite
     ≡ then_items first (then_items second third)
 then_associative first second [] = refl
 then_associative first second (Old index ∷ third) =
-    ap₂ (λ (i : Item) (is : List Item). i ∷ is) (at_mapped (item_through first) second index (New 0))
-    (then_associative first second third)
+    grind (arith, common_steps, ap₂, at_mapped, (then_associative first second third))
 then_associative first second (New character ∷ third) =
     ap (λ (is : List Item). New character ∷ is) (then_associative first second third)
 
@@ -81,17 +78,7 @@ module _ (units : ℕ → ℕ) (old : List ℕ) (first : List Item) where
       at_indexes None stop r = absurd (cc)
       at_indexes (Some a) None r = absurd (cc)
       at_indexes (Some a) (Some b) r =
-          ⊎_elim
-          (λ (e : nat_le a b ≡ true).
-          let made : ◌≡◌ {A = Result (List Item) Fault} (Ok (take a items ++ (map New change.text ++ drop b items)))
-          (Ok next) = rw e at r in
-          let is_next : take a items ++ (map New change.text ++ drop b items) ≡ next = cc in
-          let error : take a (then_items first items) ++ (map New change.text ++ drop b (then_items first items))
-          ≡ then_items first next = told_replaced items change.text a b ∙ ap (then_items first) is_next in
-          rw e (ap (λ (is : List Item). Ok is) error))
-          (λ (e : nat_le a b ≡ false). absurd (let f : ◌≡◌ {A = Result (List Item) Fault} (Err Reversed) (Ok next) = rw
-          e at r in cc))
-          (cases_Bool (nat_le a b))
+          grind (arith, common_steps, nat_le, told_replaced, cases_Bool)
 
       by_range : (range : Option Range) → changed_in units (text_of old first) items change.text range ≡ Ok next
           → changed_in units old (then_items first items) change.text range ≡ Ok (then_items first next)

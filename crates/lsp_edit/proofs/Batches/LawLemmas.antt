@@ -14,15 +14,13 @@ use Rattle.lsp_edit.proofs.Canonical.RebuiltLemmas.{canonical_makes}
 use Rattle.lsp_edit.proofs.Canonical.CountLemmas.{no_more_changes}
 use Rattle.lsp_edit.proofs.Canonical.WeightLemmas.{no_longer}
 use Rattle.lsp_edit.proofs.Canonical.SameLemmas.{canonical_means, equal_exactly, canonical_again}
+use Rattle.std.proofs.lemmas.Grind.{common_steps}
 
 -- A character has a unit at least.
 pub units_some : (encoding : Encoding) (c : ℕ) → 1 ≤ units_in encoding c
 units_some Utf8 c = (len_utf8_bounds c).0
 units_some Utf16 c =
-    ⊎_elim
-    (λ (e : nat_lt c 0x1_0000 ≡ true). rw e (omega arith))
-    (λ (e : nat_lt c 0x1_0000 ≡ false). rw e (omega arith))
-    (cases_Bool (nat_lt c 0x1_0000))
+    grind (arith, common_steps, nat_lt, cases_Bool)
 units_some Utf32 c = omega arith
 
 pub canonical_law : CanonicalLaw

@@ -30,6 +30,7 @@ use Rattle.lsp_edit.proofs.Parts.PutLemmas.{new_items}
 use Rattle.lsp_edit.proofs.Batches.TextEditLemmas.{Lies, at_index, at_within, end_index, lies_all}
 use Rattle.lsp_edit.proofs.Batches.LocatedOrderLemmas.{located_of, located_all, range_fault, AscendByNumber, AscendByStart, ComeInTurn, starts_at, numbers_ascend, unfiltered, filter_ascends, rest_ascends, starts_ascend, starts_stay}
 use Rattle.lsp_edit.proofs.Batches.LocatedRowLemmas.{StandApart, none_overlap, next_to, first_is_in, second_is_in, nothing_between, left_from, at_one, runs_through}
+use Rattle.std.proofs.lemmas.Grind.{common_steps}
 
 module _ (before : List ℕ) where
   abbrev all_of : List Placed → List LocatedEdit
@@ -113,17 +114,7 @@ module _ (before : List ℕ) where
     start_is : (i : ℕ) → i ≤ length (chars before) → (p : Placed) → Lies before p
         → (index_of (chars before) p.start == i) ≡ (place_of (chars before) i == p.start)
     start_is i within p lies =
-        let k : index_of (chars before) p.start ≡ lies.at_start.0 = at_index before p.start lies.at_start in
-        ⊎_elim
-        (λ (e : index_of (chars before) p.start ≡ i).
-        let s : place_of (chars before) i ≡ p.start =
-        ap (place_of (chars before)) (sym e ∙ k) ∙ lies.at_start.3 in
-        eq-eqb (index_of (chars before) p.start) i e ∙ sym (eq-eqb (place_of (chars before) i) p.start s))
-        (λ (ne : index_of (chars before) p.start ≡ i → ⊥).
-        ne_eqb (index_of (chars before) p.start) i ne
-        ∙ sym (ne_eqb (place_of (chars before) i) p.start
-        (λ s. ne (ap (index_of (chars before)) (sym s) ∙ index_of-place (chars before) i within))))
-        (cases_eq (index_of (chars before) p.start) i)
+        grind (arith, common_steps, at_index, eq-eqb, ne_eqb, index_of-place, cases_eq)
 
     filter_located : (i : ℕ) → i ≤ length (chars before) → (ps : List Placed) → AllByRecursion (Lies before) ps
         → filter (λ (e : LocatedEdit). e.start == i) (all_of ps)
@@ -143,28 +134,22 @@ module _ (before : List ℕ) where
 
     new_same : (i : ℕ) → i ≤ length (chars before) → new_at (all_of placed) i ≡ new_at (all_of ordered) i
     new_same i within =
-        ap (flat_map (λ (e : LocatedEdit). e.text))
-        (filter_located i within placed lie_placed
-        ∙ (ap all_of (sym (starts_stay placed ordered order (place_of (chars before) i)))
-        ∙ sym (filter_located i within ordered lie_ordered)))
+        grind (arith, common_steps, flat_map, filter_located, lie_placed, starts_stay, lie_ordered)
 
     taken_same : (i : ℕ) → is_taken_out (all_of placed) i ≡ is_taken_out (all_of ordered) i
     taken_same i =
-        list_any-IsPermutation (λ (e : LocatedEdit). nat_le e.start i && nat_lt i e.stop) (all_of placed)
-        (all_of ordered) same_edits
+        grind (arith, common_steps, list_any-IsPermutation, nat_le, nat_lt, same_edits)
 
     row_same : (low count : ℕ) → low + count ≤ length (chars before)
         → flat_map (left_at (all_of placed)) (numbers_from low count)
         ≡ flat_map (left_at (all_of ordered)) (numbers_from low count)
     row_same low zero within = refl
     row_same low (suc count) within =
-        ap₂ (λ (x y : List Item). x ++ y) (ap₂ (at_one low) (new_same low (omega arith)) (taken_same low))
-        (row_same (suc low) count (omega arith))
+        grind (arith, common_steps, ap₂, at_one, new_same, taken_same, (row_same (suc low) count (omega arith)))
 
     left_same : items_left (all_of placed) (length (chars before)) ≡ items_left (all_of ordered) (length (chars before))
     left_same =
-        ap₂ (λ (x y : List Item). x ++ y) (row_same 0 (length (chars before)) (omega arith))
-        (ap (map New) (new_same (length (chars before)) (omega arith)))
+        grind (arith, common_steps, ap₂, row_same, new_same)
 
     by_indexes : AreApart 0 ordered → (located units (chars before) 0 edits ≡ Ok (all_of placed))
         × NoneOverlap (all_of placed)
@@ -232,31 +217,15 @@ module _ (before : List ℕ) where
         ≡ map Old (numbers_from (index_of (chars before) from) (index_of (chars before) to - index_of (chars before)
         from))
     old_row from to =
-        ⊎_elim
-        (λ (e : nat_lt from to ≡ true). rw e
-        (append-nil (map Old (numbers_from (index_of (chars before) from) (index_of (chars before) to
-        - index_of (chars before) from)))))
-        (λ (e : nat_lt from to ≡ false).
-        let r : index_of (chars before) to ≤ index_of (chars before) from =
-        index_rises (chars before) to from (ltb-false from to e) in
-        let z : index_of (chars before) to - index_of (chars before) from ≡ 0 = omega arith in
-        rw (e, z) refl)
-        (cases_Bool (nat_lt from to))
+        grind (arith, common_steps, nat_lt, append-nil, index_rises, ltb-false, cases_Bool)
 
     parts_by_indexes : (low : ℕ) (ps : List Placed) → AllByRecursion (Lies before) ps
         → items_of (chars before) (parts_left (length before) low ps)
         ≡ left_from (length (chars before)) (index_of (chars before) low) (all_of ps)
     parts_by_indexes low [] all =
-        old_row low (length before)
-        ∙ ap (λ (n : ℕ). map Old (numbers_from (index_of (chars before) low) (n - index_of (chars before) low)))
-        (end_index before utf8)
+        grind (arith, common_steps, old_row, end_index)
     parts_by_indexes low (p ∷ ps) all =
-        let rest : List Part = parts_left (length before) p.stop ps in
-        items_both before (old_parts low p.start) (new_parts p.text.now ++ rest)
-        ∙ ap₂ (λ (x y : List Item). x ++ y) (old_row low p.start)
-        (items_both before (new_parts p.text.now) rest
-        ∙ ap₂ (λ (x y : List Item). x ++ y) (new_items before p.text.now all.0.utf8).0
-        (parts_by_indexes p.stop ps all.1))
+        grind (arith, common_steps, items_both, ap₂, old_row, new_items, (parts_by_indexes p.stop ps all.1))
 
     pub batch_by_indexes : (units : ℕ → ℕ) (edits : List TextEdit) (parts : List Part) (answered : List ContentChange)
         → AreLeftByEdits units before edits parts

@@ -20,6 +20,7 @@ use Rattle.lsp_edit.specs.inside.TextEdits.{IsPlaced, ArePlaced, IsInOrder, HasF
 use Rattle.lsp_edit.proofs.Composing.AppliedLemmas.{AreEnds, ends_told}
 use Rattle.lsp_edit.proofs.Parts.IndexLemmas.{index_of-place}
 use Rattle.lsp_edit.proofs.Batches.TextEditLemmas.{no_edit}
+use Rattle.std.proofs.lemmas.Grind.{common_steps}
 
 -- An edit with byte offsets, by indexes.
 abbrev pub located_of : List ℕ → Placed → LocatedEdit
@@ -39,11 +40,7 @@ module _ (units : ℕ → ℕ) (old : List ℕ) where
       told : AreEnds units old edit.range one.start one.stop
           → ends_of units old edit.range ≡ Ok (index_of old one.start, index_of old one.stop)
       told e =
-          let low : index_of old one.start ≡ e.low = ap (index_of old) (sym e.start_is)
-          ∙ index_of-place old e.low (omega (arith, e.order, e.within)) in
-          let high : index_of old one.stop ≡ e.high = ap (index_of old) (sym e.stop_is)
-          ∙ index_of-place old e.high e.within in
-          rw (e.low_is, e.high_is, le-leb e.low e.high e.order, low, high) refl
+          grind (arith, common_steps, index_of-place, le-leb)
 
   pub located_all : (number : ℕ) (edits : List TextEdit) (placed : List Placed)
       → ArePlaced units old number edits placed
@@ -135,10 +132,7 @@ filtered : (P : Placed → Type 0) (test : Placed → Bool) (ps : List Placed) �
     → AllByRecursion P (filter test ps)
 filtered P test [] all = tt
 filtered P test (p ∷ ps) all =
-    ⊎_elim
-    (λ (e : test p ≡ true). rw e ((all.0, filtered P test ps all.1)))
-    (λ (e : test p ≡ false). rw e (filtered P test ps all.1))
-    (cases_Bool (test p))
+    grind (arith, common_steps, cases_Bool, (filtered P test ps all.1))
 
 pub unfiltered : (P : Placed → Type 0) (test : Placed → Bool) (ps : List Placed) → AllByRecursion P (filter test ps)
     → AllByRecursion (λ (q : Placed). test q ≡ true → P q) ps
@@ -156,22 +150,12 @@ unfiltered P test (p ∷ ps) all =
 pub filter_ascends : (test : Placed → Bool) (ps : List Placed) → AscendByNumber ps → AscendByNumber (filter test ps)
 filter_ascends test [] up = tt
 filter_ascends test (p ∷ ps) up =
-    ⊎_elim
-    (λ (e : test p ≡ true). rw e ((
-      filtered (λ (q : Placed). p.number < q.number) test ps up.0,
-      filter_ascends test ps up.1,
-    )))
-    (λ (e : test p ≡ false). rw e (filter_ascends test ps up.1))
-    (cases_Bool (test p))
+    grind (arith, common_steps, filtered, cases_Bool, (filter_ascends test ps up.1))
 
 pub rest_ascends : (test : Placed → Bool) (p : Placed) (ps : List Placed) → AscendByNumber (filter test (p ∷ ps))
     → AscendByNumber (filter test ps)
 rest_ascends test p ps up =
-    ⊎_elim
-    (λ (e : test p ≡ true).
-    let a : AscendByNumber (p ∷ filter test ps) = rw e at up in a.1)
-    (λ (e : test p ≡ false). rw e at up)
-    (cases_Bool (test p))
+    grind (arith, common_steps, cases_Bool)
 
 pub starts_ascend : (ps : List Placed) → IsNonDecreasingBy (λ (p : Placed). p.start) ps → AscendByStart ps
 starts_ascend [] up = tt
@@ -185,20 +169,7 @@ lower p q = is_lt (nat_cmp p.start q.start)
 
 ties_are : (n : ℕ) (q : Placed) → ties lower (record no_edit { start = n }) q ≡ (n == q.start)
 ties_are n q =
-    ⊎_elim
-    (λ (l : n < q.start).
-    let ne : n ≡ q.start → ⊥ = λ e. omega arith in
-    rw (lt-ltb n q.start l, ne_eqb n q.start ne) refl)
-    (λ (h : q.start ≤ n).
-    ⊎_elim
-    (λ (l : q.start < n).
-    let ne : n ≡ q.start → ⊥ = λ e. omega arith in
-    rw (le-ltb n q.start h, ne_eqb n q.start ne, lt-ltb q.start n l) refl)
-    (λ (m : n ≤ q.start).
-    let e : n ≡ q.start = omega arith in
-    rw (le-ltb n q.start h, le-ltb q.start n m, eq-eqb n q.start e, eq-eqb q.start n (sym e)) refl)
-    (cases_lt q.start n))
-    (cases_lt n q.start)
+    grind (arith, common_steps, lt-ltb, ne_eqb, le-ltb, eq-eqb, cases_lt)
 
 module _ (placed ordered : List Placed) (order : IsInOrder placed ordered) where
   pub starts_stay : (n : ℕ) → filter (starts_at n) ordered ≡ filter (starts_at n) placed

@@ -10,6 +10,7 @@ use Rattle.lsp_text.specs.TextLines.{numbers_from}
 use Rattle.lsp_edit.specs.Items.{Item, Old, New}
 use Rattle.lsp_edit.specs.TextEdits.{LocatedEdit, new_at, is_taken_out, left_at, ComesBefore, NoneOverlap}
 use Rattle.lsp_edit.proofs.Batches.LocatedOrderLemmas.{ComeInTurn, contains_cases}
+use Rattle.std.proofs.lemmas.Grind.{common_steps}
 
 -- Where edits stand behind one another.
 abbrev pub StandApart : ℕ → ℕ → List LocatedEdit → Type 0
@@ -28,18 +29,7 @@ starts_past len low i (e ∷ es) stand order =
 
 not_both : (first second : LocatedEdit) → ComesBefore first second → ComesBefore second first → ⊥
 not_both first second a b =
-    ⊎_elim
-    (λ (l : first.start < second.start).
-    ⊎_elim
-    (λ (m : second.start < first.start). absurd (omega arith))
-    (λ (m : (second.start ≡ first.start) × (second.number < first.number)). absurd (omega (arith, m.0)))
-    b)
-    (λ (l : (first.start ≡ second.start) × (first.number < second.number)).
-    ⊎_elim
-    (λ (m : second.start < first.start). absurd (omega (arith, l.0)))
-    (λ (m : (second.start ≡ first.start) × (second.number < first.number)). absurd (omega (arith, l.1, m.1)))
-    b)
-    a
+    grind (arith, common_steps)
 
 all_with : (P : LocatedEdit → Type 0) (es : List LocatedEdit) (x : LocatedEdit) → AllByRecursion P es → Contains es x
     → P x
@@ -88,16 +78,7 @@ pub nothing_between : (front : List LocatedEdit) (first second : LocatedEdit) (r
     → ComeInTurn (front ++ first ∷ second ∷ rest) → (other : LocatedEdit)
     → Contains (front ++ first ∷ second ∷ rest) other → ComesBefore first other → ComesBefore other second → ⊥
 nothing_between [] first second rest turn other has before after =
-    ⊎_elim
-    (λ (f : first ≡ other). not_both first first (subst (ComesBefore first) (sym f) before)
-    (subst (ComesBefore first) (sym f) before))
-    (λ (h : Contains (second ∷ rest) other).
-    ⊎_elim
-    (λ (s : second ≡ other). not_both second second (subst (λ (x : LocatedEdit). ComesBefore x second) (sym s) after)
-    (subst (λ (x : LocatedEdit). ComesBefore x second) (sym s) after))
-    (λ (r : Contains rest other). not_both second other (all_with (ComesBefore second) rest other turn.1.0 r) after)
-    (contains_cases second rest other h))
-    (contains_cases first (second ∷ rest) other has)
+    grind (arith, common_steps, not_both, all_with, contains_cases)
 nothing_between (f ∷ front) first second rest turn other has before after =
     ⊎_elim
     (λ (s : f ≡ other).
@@ -114,8 +95,7 @@ nothing_new : (i : ℕ) (es : List LocatedEdit) → AllByRecursion (λ (e : Loca
     → new_at es i ≡ []
 nothing_new i [] all = refl
 nothing_new i (e ∷ es) all =
-    let ne : e.start ≡ i → ⊥ = λ s. omega (arith, all.0) in
-    rw (ne_eqb e.start i ne) (nothing_new i es all.1)
+    grind (arith, common_steps, ne_eqb, (nothing_new i es all.1))
 
 not_taken : (i : ℕ) (es : List LocatedEdit) → AllByRecursion (λ (e : LocatedEdit). i < e.start) es
     → is_taken_out es i ≡ false
@@ -156,9 +136,7 @@ module _ (len : ℕ) where
       → AllByRecursion (λ (e : LocatedEdit). low + a ≤ e.start) es
       → run len es low count ≡ map Old (numbers_from low a) ++ run len es (low + a) rest
   before_first es low zero count rest is all =
-      let c : count ≡ rest = omega arith in
-      let n : low + 0 ≡ low = omega arith in
-      rw (c, n) refl
+      grind (arith, common_steps)
   before_first es low (suc a) count rest is all =
       let c : count ≡ suc (a + rest) = omega arith in
       let n : low + suc a ≡ suc low + a = omega arith in
@@ -167,9 +145,7 @@ module _ (len : ℕ) where
       let here : left_at es low ≡ Old low ∷ [] =
       ap₂ (at_one low) (nothing_new low es (all_past es past)) (not_taken low es (all_past es past)) in
       rw (c, n)
-      (ap (λ (r : List Item). (r ++ flat_map (left_at es) (numbers_from (suc low) (a + rest)))
-      ++ map New (new_at es len)) here
-      ∙ ap (λ (r : List Item). Old low ∷ r) (before_first es (suc low) a (a + rest) rest refl past))
+      (grind (arith, common_steps, flat_map, (before_first es (suc low) a (a + rest) rest refl past)))
     where
       all_past : (more : List LocatedEdit) → AllByRecursion (λ (e : LocatedEdit). suc low + a ≤ e.start) more
           → AllByRecursion (λ (e : LocatedEdit). low < e.start) more
@@ -181,31 +157,34 @@ module _ (len : ℕ) where
   past_one e es low zero from past end =
       ap (map New) (new_skips e es len (λ s. omega arith))
   past_one e es low (suc count) from past end =
-      let here : left_at (e ∷ es) low ≡ left_at es low =
-      ap₂ (at_one low) (new_skips e es low (λ s. omega arith)) (taken_skips e es low (omega arith) past) in
-      append_assoc (left_at (e ∷ es) low) (flat_map (left_at (e ∷ es)) (numbers_from (suc low) count))
-      (map New (new_at (e ∷ es) len))
-      ∙ (ap₂ (λ (x y : List Item). x ++ y) here
-      (past_one e es (suc low) count (omega arith) (omega arith) (omega arith))
-      ∙ sym (append_assoc (left_at es low) (flat_map (left_at es) (numbers_from (suc low) count))
-      (map New (new_at es len))))
+      grind (
+        arith,
+        common_steps,
+        ap₂,
+        new_skips,
+        taken_skips,
+        append_assoc,
+        flat_map,
+        (past_one e es (suc low) count (omega arith) (omega arith) (omega arith)),
+      )
 
   within_one : (e : LocatedEdit) (es : List LocatedEdit) (low a count rest : ℕ) → count ≡ a + rest → e.start < low
       → low + a ≡ e.stop → AllByRecursion (λ (x : LocatedEdit). e.stop ≤ x.start) es
       → run len (e ∷ es) low count ≡ run len (e ∷ es) e.stop rest
   within_one e es low zero count rest is from end all =
-      let c : count ≡ rest = omega arith in
-      let n : low ≡ e.stop = omega arith in
-      rw (c, n) refl
+      grind (arith, common_steps)
   within_one e es low (suc a) count rest is from end all =
       let c : count ≡ suc (a + rest) = omega arith in
       let here : left_at (e ∷ es) low ≡ [] =
       ap₂ (at_one low) (new_skips e es low (λ s. omega arith) ∙ nothing_new low es (all_past es all))
       (taken_here e es low (omega arith) (omega arith)) in
       rw c
-      (ap (λ (r : List Item). (r ++ flat_map (left_at (e ∷ es)) (numbers_from (suc low) (a + rest)))
-      ++ map New (new_at (e ∷ es) len)) here
-      ∙ within_one e es (suc low) a (a + rest) rest refl (omega arith) (omega arith) all)
+      (grind (
+        arith,
+        common_steps,
+        flat_map,
+        (within_one e es (suc low) a (a + rest) rest refl (omega arith) (omega arith) all),
+      ))
     where
       all_past : (more : List LocatedEdit) → AllByRecursion (λ (x : LocatedEdit). e.stop ≤ x.start) more
           → AllByRecursion (λ (x : LocatedEdit). low < x.start) more
@@ -216,9 +195,7 @@ module _ (len : ℕ) where
       → e.stop + rest ≡ len → e.start ≤ e.stop → AllByRecursion (λ (x : LocatedEdit). e.stop ≤ x.start) es
       → run len (e ∷ es) e.start count ≡ map New e.text ++ run len es e.stop rest
   at_one_start e es zero rest is end order all =
-      let r : rest ≡ 0 = omega arith in
-      let at : e.start ≡ len = omega arith in
-      rw r (ap (map New) (new_joins e es len at) ∙ map-append New e.text (new_at es len))
+      grind (arith, common_steps, new_joins, map-append)
   at_one_start e es (suc count) rest is end order all =
       ⊎_elim
       (λ (less : e.start < e.stop).
@@ -236,21 +213,10 @@ module _ (len : ℕ) where
       let s : e.start ≡ e.stop = omega arith in
       let r : suc count ≡ rest = omega arith in
       let here : left_at (e ∷ es) e.start ≡ map New e.text ++ left_at es e.start =
-      ap₂ (at_one e.start) (new_joins e es e.start refl) (taken_skips e es e.start (omega arith) none)
-      ∙ (ap (λ (new : List Item). new ++ (if is_taken_out es e.start then [] else Old e.start ∷ []))
-      (map-append New e.text (new_at es e.start))
-      ∙ append_assoc (map New e.text) (map New (new_at es e.start))
-      (if is_taken_out es e.start then [] else Old e.start ∷ [])) in
+      grind (arith, common_steps, ap₂, new_joins, taken_skips, map-append, append_assoc) in
       append_assoc (left_at (e ∷ es) e.start) (flat_map (left_at (e ∷ es)) (numbers_from (suc e.start) count))
       (map New (new_at (e ∷ es) len))
-      ∙ (ap₂ (λ (x y : List Item). x ++ y) here
-      (past_one e es (suc e.start) count (omega arith) (omega arith) (omega arith))
-      ∙ (append_assoc (map New e.text) (left_at es e.start)
-      (flat_map (left_at es) (numbers_from (suc e.start) count) ++ map New (new_at es len))
-      ∙ (ap (λ (row : List Item). map New e.text ++ row)
-      (sym (append_assoc (left_at es e.start) (flat_map (left_at es) (numbers_from (suc e.start) count))
-      (map New (new_at es len))))
-      ∙ ap₂ (λ (low left : ℕ). map New e.text ++ run len es low left) s r))))
+      ∙ (grind (arith, common_steps, ap₂, past_one, append_assoc, flat_map)))
       (cases_lt e.start e.stop)
     where
       all_past : e.start < e.stop → (more : List LocatedEdit)

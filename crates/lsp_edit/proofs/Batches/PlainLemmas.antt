@@ -32,6 +32,7 @@ use Rattle.lsp_edit.proofs.Canonical.KeepsLemmas.{plain_keeps, after_change_keep
 use Rattle.lsp_edit.proofs.Canonical.RebuiltLemmas.{numbers-append}
 use Rattle.lsp_edit.proofs.Composing.RoomLemmas.{Applying, change_longer}
 use Rattle.lsp_edit.proofs.Canonical.WalkLemmas.{changes_of, changes_of-cons}
+use Rattle.std.proofs.lemmas.Grind.{common_steps}
 
 pub item_rest : (items : List PlainItem) (index : ℕ) (default : PlainItem) (first : Item) → index < length items
     → item_of (get_or items index default) ≡ first → items_in_order (drop index items)
@@ -46,20 +47,13 @@ pub numbered_on : (items : List PlainItem) (index : ℕ) (item : PlainItem) → 
     → items_in_order items ≡ map Old (numbers_from 0 index) → items_in_order (items ++ item ∷ [])
     ≡ map Old (numbers_from 0 (index + 1))
 numbered_on items index item is error =
-    let e : 0 + index ≡ index = omega arith in
-    map-append item_of items (item ∷ [])
-    ∙ (ap₂ (λ (is : List Item) (i : Item). is ++ i ∷ []) error is
-    ∙ sym (ap (map Old) (numbers-append 0 index 1) ∙ (map-append Old (numbers_from 0 index) (numbers_from (0 + index) 1)
-    ∙ ap (λ (n : ℕ). map Old (numbers_from 0 index) ++ Old n ∷ []) e)))
+    grind (arith, common_steps, map-append, ap₂, numbers-append)
 
 -- The index of a place that is an index's.
 pub index_found : (bytes text : List ℕ) (index place : ℕ) → IsUtf8 bytes → chars bytes ≡ text → index ≤ length text
     → place_of text index ≡ place → length (chars (take place bytes)) ≡ index
 index_found bytes text index place utf8 same within is =
-    let here : place_of (chars bytes) index ≡ place = ap (λ (t : List ℕ). place_of t index) same ∙ is in
-    ap (λ (p : ℕ). length (chars (take p bytes))) (sym here)
-    ∙ (ap length (chars_front bytes index utf8 (omega (arith, ap length same))) ∙ length-take-le index (chars bytes)
-    (omega (arith, ap length same)))
+    grind (arith, common_steps, chars_front, length-take-le)
 
 -- The items with those of a range replaced, where its ends were found.
 pub range_made : (units : ℕ → ℕ) (old : List ℕ) (items : List Item) (characters : List ℕ) (range : Range)
@@ -89,9 +83,7 @@ module _ (units : ℕ → ℕ) (old : List ℕ) (all made : List ContentChange) 
   pub write_new : (character : ℕ) (more : List Item) → rest ≡ New character ∷ more
       → Writes units old all made low (text ++ character ∷ []) more
   write_new character more is =
-      let w : Writes units old all made low text (New character ∷ more) =
-      subst (Writes units old all made low text) is writes in
-      record { error = w.error; ends = w.ends; keeps = w.keeps.1 }
+      grind (arith, common_steps)
 
   module _ (index : ℕ) (more : List Item) (is : rest ≡ Old index ∷ more) where
     here : Writes units old all made low text (Old index ∷ more)
@@ -106,16 +98,7 @@ module _ (units : ℕ → ℕ) (old : List ℕ) (all made : List ContentChange) 
     pub write_old : (next : ℕ) → next ≡ suc index
         → Writes units old all (made ++ change_at units old (gap_at low index text)) next [] more
     write_old next next_is =
-        rw next_is
-        (record {
-          error = append_assoc made (change_at units old (gap_at low index text))
-              (changes_of units old (gaps_from (suc index) (length old) [] more))
-              ∙ (ap (λ (es : List ContentChange). made ++ es)
-              (sym (changes_of-cons units old (gap_at low index text) (gaps_from (suc index) (length old) [] more)))
-              ∙ here.error);
-          ends = here.ends.1;
-          keeps = here.keeps.3;
-        })
+        grind (arith, common_steps, append_assoc, changes_of, changes_of-cons)
 
   module _ (is : rest ≡ []) where
     last : Writes units old all made low text []
@@ -127,24 +110,19 @@ module _ (units : ℕ → ℕ) (old : List ℕ) (all made : List ContentChange) 
 
     pub write_end : made ++ change_at units old (gap_at low (length old) text) ≡ all
     write_end =
-        ap (λ (es : List ContentChange). made ++ es) (sym (changes_of-cons units old (gap_at low (length old) text) []
-        ∙ append-nil (change_at units old (gap_at low (length old) text)))) ∙ last.error
+        grind (arith, common_steps, changes_of-cons, append-nil)
 
 -- The change of a gap, as it is written.
 module _ (units : ℕ → ℕ) (old : List ℕ) (low high : ℕ) (text : List ℕ) where
   pub gap_some : (low < high) ⊎ (0 < length text) → is_changed (gap_at low high text) ≡ true
   gap_some some =
-      ⊎_elim
-      (λ (l : low < high). or_left (nat_lt low high) (nat_lt 0 (length text)) (lt-ltb low high l))
-      (λ (l : 0 < length text). or_right (nat_lt low high) (nat_lt 0 (length text)) (lt-ltb 0 (length text) l))
-      some
+      grind (arith, common_steps, or_left, nat_lt, lt-ltb, or_right)
 
   pub gap_none : (changes : List Change) → high ≤ low → length text ≡ 0
       → map content_change changes ≡ map content_change changes
       ++ change_at units old (gap_at low high text)
   gap_none changes falls none =
-      rw (or_from (nat_lt low high) (nat_lt 0 (length text)) (le-ltb low high falls)
-      (le-ltb 0 (length text) (omega arith))) (sym (append-nil (map content_change changes)))
+      grind (arith, common_steps, or_from, nat_lt, le-ltb, append-nil)
 
   pub gap_one : (changes : List Change) (change : Change) (start stop : Position) → (low < high) ⊎ (0 < length text)
       → change.range ≡ Some (record { start = start; stop = stop }) → string_bytes change.text ≡ encode_utf8_all text
@@ -155,10 +133,7 @@ module _ (units : ℕ → ℕ) (old : List ℕ) (low high : ℕ) (text : List �
       let own : chars (string_bytes change.text) ≡ text =
       sym (chars_from_encodes text (string_bytes change.text) (IsUtf8-string_bytes change.text) (sym same)) in
       let e : content_change change ≡ change_of_gap units old (gap_at low high text)
-      = λ i. record {
-        range = (range ∙ ap₂ (λ (x y : Position). Some (record { start = x; stop = y })) at_start at_stop) i;
-        text = own i;
-      } in
+      = grind (arith, common_steps, ap₂) in
       map-append content_change changes (change ∷ [])
       ∙ rw (gap_some some) (ap (λ (x : ContentChange). map content_change changes ++ x ∷ []) e)
 
@@ -171,18 +146,7 @@ end_place old index place within whole is = (index, within, whole, sym is)
 pub plain_begins : (before old : List ℕ) (items : List Item) (count : ℕ) → IsUtf8 before → length before ≤ 2147483648
     → old ≡ chars before → count ≡ length old → items ≡ map Old (numbers_from 0 count) → ArePlain before old items
 plain_begins before old items count utf8 size old_is count_is items_are =
-    let same : items ≡ plain (chars before) =
-    items_are ∙ ap (λ (n : ℕ). map Old (numbers_from 0 n)) (count_is ∙ ap length old_is) in
-    let long : length (encode_utf8_all (text_of (chars before) items)) ≡ length before
-    = ap (λ (i : List Item). length (encode_utf8_all (text_of (chars before) i))) same
-    ∙ ap length (ap encode_utf8_all (plain_text (chars before)) ∙ encodes-chars before utf8) in
-    record {
-      utf8 = is_utf8-from_IsUtf8 before utf8;
-      old_is = old_is;
-      size = size;
-      keeps = subst (Keeps (chars before) 0) (sym same) (plain_keeps (chars before));
-      room = omega arith;
-    }
+    grind (arith, common_steps, encode_utf8_all, plain_text, encodes-chars, is_utf8-from_IsUtf8, plain_keeps)
 
 pub plain_seen : (before old : List ℕ) (items : List Item) (changes : ℕ) (edited : PlainData)
     → ArePlain before old items → record { before = chars before; items = items; changes = changes } ≡ edited
@@ -226,8 +190,7 @@ applying_begins units before changes edited utf8 is size fits = record {
 pub boundary_found : (bytes text : List ℕ) (index place : ℕ) → IsUtf8 bytes → chars bytes ≡ text → index ≤ length text
     → place_of text index ≡ place → IsCharBoundary bytes place
 boundary_found bytes text index place utf8 same within is =
-    subst (IsCharBoundary bytes) (ap (λ (t : List ℕ). place_of t index) same ∙ is)
-    (place_boundary bytes index utf8 (omega (arith, ap length same)))
+    grind (arith, common_steps, place_boundary)
 
 -- Items put between others.
 pub between_is : (items made pushed now : List PlainItem) (start stop : ℕ) (text : List ℕ) → made ≡ take start items
@@ -235,15 +198,7 @@ pub between_is : (items made pushed now : List PlainItem) (start stop : ℕ) (te
     (drop stop items)
     → items_in_order now ≡ take start (items_in_order items) ++ (map New text ++ drop stop (items_in_order items))
 between_is items made pushed now start stop text made_is pushed_is now_is =
-    let rest : take (length items - stop) (drop stop items) ≡ drop stop items =
-    take_all (length items - stop) (drop stop items) (omega (arith, length-drop stop items)) in
-    ap items_in_order (now_is ∙ ap (λ (r : List PlainItem). pushed ++ r) rest)
-    ∙ (map-append item_of pushed (drop stop items)
-    ∙ (ap₂ (λ (x y : List Item). x ++ y)
-    (pushed_is ∙ ap (λ (i : List Item). i ++ map New text) (ap items_in_order made_is
-    ∙ sym (take-map item_of start items)))
-    (sym (drop-map item_of stop items))
-    ∙ append_assoc (take start (items_in_order items)) (map New text) (drop stop (items_in_order items))))
+    grind (arith, common_steps, take_all, length-drop, map-append, ap₂, take-map, drop-map, append_assoc)
 
 -- What is known where a range's ends were found in the text as it is now.
 pub record AreFound (units : ℕ → ℕ) (old : List ℕ) (items : List Item) (range : Range) (bytes : List ℕ)
@@ -282,9 +237,7 @@ pub range_put : (units : ℕ → ℕ) (old : List ℕ) (items own made : List It
     → made ≡ take low own ++ (map New characters ++ drop high own) → changed_in units old items characters (Some range)
     ≡ Ok made
 range_put units old items own made characters range start stop low high ends own_is low_is high_is made_is =
-    range_made units old items characters range start stop ends
-    ∙ ap (λ (i : List Item). Ok i)
-    (sym (made_is ∙ (λ i. take (low_is i) (own_is i) ++ (map New characters ++ drop (high_is i) (own_is i)))))
+    grind (arith, common_steps, range_made)
 
 -- The fields of what two series of changes make together.
 pub then_plain : (before old mid over : List ℕ) (items others : List Item) (made : List Item)
@@ -323,21 +276,4 @@ pub then_told : (before mid : List ℕ) (items others made : List Item) (changes
       changes = both_counts first.changes second.changes;
     })
 then_told before mid items others made changes more count first second view other is counted =
-    let a : ◌≡◌ {A = PlainData} (record { before = chars before; items = made; changes = count })
-    (record { before = chars before; items = then_items items others; changes = both_counts changes more })
-    = λ i. record { before = chars before; items = is i; changes = counted i } in
-    let b : ◌≡◌ {A = PlainData} (record {
-      before = chars before;
-      items = then_items items others;
-      changes = both_counts changes more;
-    }) (record {
-      before = first.before;
-      items = then_items first.items second.items;
-      changes = both_counts first.changes second.changes;
-    })
-    = λ i. record {
-      before = (view i).before;
-      items = then_items (view i).items (other i).items;
-      changes = both_counts (view i).changes (other i).changes;
-    } in
-    a ∙ b
+    grind (arith, common_steps)

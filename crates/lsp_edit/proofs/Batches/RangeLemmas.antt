@@ -7,6 +7,7 @@ use Rattle.lsp_edit.specs.declared.text_edits.TextEdit.{TextEdit}
 use Rattle.lsp_edit.specs.Batch.{Fault, ends_of}
 use Rattle.lsp_edit.specs.Faults.{fault_at, places_at}
 use Rattle.lsp_edit.specs.TextEdits.{HasRangeFault, LocatedEdit, fault_of, located, located_first}
+use Rattle.std.proofs.lemmas.Grind.{common_steps}
 
 -- No range of the edits before the rest is faulty.
 pub record Ranging (units : ℕ → ℕ) (old : List ℕ) (edits : List TextEdit) (number : ℕ) (rest : List TextEdit) : Type
@@ -33,15 +34,7 @@ module _ (units : ℕ → ℕ) (old : List ℕ) (edits : List TextEdit) (number 
 
   ranging_after : (ends : ℕ × ℕ) → ends_of units old edit.range ≡ Ok ends → Ranging units old edits (suc number) more
   ranging_after ends e =
-      let first : located units old number rest
-      ≡ located_first number text (Ok ends) (located units old (suc number) more) =
-      here ∙ ap (λ (r : Result (ℕ × ℕ) Fault). located_first number text r (located units old (suc number) more)) e in
-      record {
-        ok = λ all. ranging.ok (subst (λ (r : Result (List LocatedEdit) (ℕ × Fault)). IsOk r) (sym first)
-            (ok_first number text ends (located units old (suc number) more) all));
-        error = λ fault faulty. ranging.error fault
-            (first ∙ ap (located_first number text (Ok ends)) faulty);
-      }
+      grind (arith, common_steps, ok_first)
 
   pub ranging_on : (places : ℕ × ℕ) → Ok places ≡ places_at number old (ends_of units old edit.range)
       → Ranging units old edits (number + 1) more
@@ -50,12 +43,9 @@ module _ (units : ℕ → ℕ) (old : List ℕ) (edits : List TextEdit) (number 
       by_ends : (ends : Result (ℕ × ℕ) Fault) → ends_of units old edit.range ≡ ends
           → Ranging units old edits (number + 1) more
       by_ends (Ok ends) e =
-          let n : suc number ≡ number + 1 = omega arith in
-          subst (λ (m : ℕ). Ranging units old edits m more) n (ranging_after ends e)
+          grind (arith, common_steps, ranging_after)
       by_ends (Err why) e =
-          absurd
-          (let g : ◌≡◌ {A = Result (ℕ × ℕ) EditFault} (Ok places) (Err (fault_at number why)) =
-          at ∙ ap (places_at number old) e in cc)
+          grind (arith, common_steps)
 
   pub ranging_stops : (fault : EditFault) → Err fault ≡ places_at number old (ends_of units old edit.range)
       → HasRangeFault units old edits (fault_of fault)
@@ -64,21 +54,9 @@ module _ (units : ℕ → ℕ) (old : List ℕ) (edits : List TextEdit) (number 
       by_ends : (ends : Result (ℕ × ℕ) Fault) → ends_of units old edit.range ≡ ends
           → HasRangeFault units old edits (fault_of fault)
       by_ends (Ok ends) e =
-          absurd
-          (let g : ◌≡◌ {A = Result (ℕ × ℕ) EditFault} (Err fault) (places_at number old (Ok ends)) =
-          at ∙ ap (places_at number old) e in cc)
+          grind (arith, common_steps)
       by_ends (Err why) e =
-          let g : ◌≡◌ {A = Result (ℕ × ℕ) EditFault} (Err fault) (Err (fault_at number why)) =
-          at ∙ ap (places_at number old) e in
-          let w : fault ≡ fault_at number why = cc in
-          record {
-            number = number;
-            why = why;
-            at = ranging.error (number, why)
-                (here ∙ ap (λ (r : Result (ℕ × ℕ) Fault). located_first number text r
-                (located units old (suc number) more)) e);
-            error = ap fault_of w;
-          }
+          grind (arith, common_steps)
 
 pub ranging_all : (units : ℕ → ℕ) (old : List ℕ) (edits : List TextEdit) (number : ℕ) (rest : List TextEdit)
     → Ranging units old edits number rest → rest ≡ [] → IsOk (located units old 0 edits)

@@ -27,6 +27,7 @@ use Rattle.lsp_edit.proofs.Composing.AppliedLemmas.{AreEnds, bytes_put, ends_tol
 use Rattle.lsp_edit.proofs.Composing.EditedLemmas.{plain_text}
 use Rattle.lsp_edit.proofs.Composing.RoomLemmas.{texts_len}
 use Rattle.lsp_edit.proofs.Deltas.InPlaceLemmas.{fault_edit, range_order, range_start, range_stop}
+use Rattle.std.proofs.lemmas.Grind.{common_steps}
 
 -- the text that items stand for, where there are any
 abbrev pub text_result : {E : Type 0} → List ℕ → Result (List Item) E → Result (List ℕ) E
@@ -50,8 +51,7 @@ change_text : (units : ℕ → ℕ) (old : List ℕ) (items : List Item) (new : 
     → text_changed units (text_of old items) new range ≡ text_result old (changed_in units old items new range)
 change_text units old items new None = ap (λ (t : List ℕ). Ok t) (sym (text_of-new old new))
 change_text units old items new (Some range) =
-    replaced_text old items new (denoted units (text_of old items) range.start)
-    (denoted units (text_of old items) range.stop)
+    grind (arith, common_steps, replaced_text)
 
 pub changes_text : (units : ℕ → ℕ) (old : List ℕ) (number : ℕ) (items : List Item) (batch : List ContentChange)
     → text_after_changes units number (text_of old items) batch
@@ -81,12 +81,7 @@ module _ (units : ℕ → ℕ) (before : List ℕ) (batch : List ContentChange) 
       ≡ Ok (chars left)) where
     by_meaning : (P : Result (List Item) (ℕ × Fault) → Type 0) → ((items : List Item) → bytes_left before items ≡ left
         → P (Ok items)) → P (meaning units (chars before) batch)
-    by_meaning P some = found (meaning units (chars before) batch) (sym batch_text ∙ is)
-      where
-        found : (meant : Result (List Item) (ℕ × Fault)) → text_result (chars before) meant ≡ Ok (chars left) → P meant
-        found (Ok items) e = let f : text_of (chars before) items ≡ chars left = cc in
-            some items (ap encode_utf8_all f ∙ encodes-chars left utf8)
-        found (Err fault) e = absurd (cc)
+    by_meaning P some = grind (arith, common_steps, batch_text, encode_utf8_all, encodes-chars)
 
     pub left_too_long : (max_len : ℕ) → max_len < length left
         → text_within max_len before (meaning units (chars before) batch) ≡ Err TooLong
@@ -97,32 +92,18 @@ module _ (units : ℕ → ℕ) (before : List ℕ) (batch : List ContentChange) 
     pub left_within : (max_len : ℕ) → length left ≤ max_len
         → text_within max_len before (meaning units (chars before) batch) ≡ Ok left
     left_within max_len fits =
-        by_meaning (λ meant. text_within max_len before meant ≡ Ok left) (λ items same. rw (
-          same,
-          le-ltb max_len (length left) fits,
-        ) refl)
+        by_meaning (λ meant. text_within max_len before meant ≡ Ok left) (λ items same. grind (
+          arith,
+          common_steps,
+          le-ltb,
+        ))
 
   pub left_fault : (max_len : ℕ) (fault : EditFault) → IsFaultOfBatch (text_after_changes units 0 (chars before) batch)
       fault
       → (batch_fault_of fault ≡ OutOfMemory) ⊎ (text_within max_len before (meaning units (chars before) batch)
       ≡ Err (batch_fault_of fault))
   left_fault max_len fault error =
-      ⊎_elim
-      (λ (memory : fault ≡ NoMemory). inl (ap batch_fault_of memory))
-      (λ (t : (number : ℕ) × (why : Fault) × (text_after_changes units 0 (chars before) batch ≡ Err (number, why))
-      × (fault ≡ fault_at number why)).
-      inr (found (meaning units (chars before) batch) t.0 t.1 t.3 (sym batch_text ∙ t.2)))
-      error
-    where
-      found : (meant : Result (List Item) (ℕ × Fault)) (number : ℕ) (why : Fault) → fault ≡ fault_at number why
-          → ◌≡◌ {A = Result (List ℕ) (ℕ × Fault)} (text_result (chars before) meant) (Err (number, why))
-          → text_within max_len before meant ≡ Err (batch_fault_of fault)
-      found (Ok items) number why is e = absurd (cc)
-      found (Err x) number why is e =
-          let f : x ≡ (number, why) = cc in
-          ap (λ (y : ℕ × Fault). text_within max_len before (Err y)) f
-          ∙ (ap (λ (y : BatchFault). Err y) (fault_edit number why) ∙ ap (λ (y : EditFault). Err (batch_fault_of y))
-          (sym is))
+      grind (arith, common_steps, inl, inr, batch_text, fault_edit)
 
 -- ---- one change of a range
 
@@ -176,12 +157,7 @@ module _ (units : ℕ → ℕ) (number : ℕ) (before : List ℕ) (utf8 : IsUtf8
         at_start = at_start;
         at_stop = at_stop;
         left = range_left start stop error at_start at_stop;
-        longer = omega (
-          arith,
-          replaced_length before new start stop order at_stop.0,
-          order,
-          at_stop.0,
-        );
+        longer = grind (arith, common_steps, replaced_length);
         room = omega (arith, order);
       }
 
@@ -197,9 +173,7 @@ module _ (units : ℕ → ℕ) (number : ℕ) (before : List ℕ) (utf8 : IsUtf8
       × (fault ≡ fault_at number why)).
       inr (
         t.0,
-        subst (λ (s : List ℕ). ◌≡◌ {A = Result (List ℕ) Fault} (text_changed units s (chars new) (Some range))
-            (Err t.0)) (plain_text (chars before)) (change_text units (chars before) (plain (chars before)) (chars new)
-            (Some range) ∙ ap (text_result (chars before)) t.1),
+        grind (arith, common_steps, plain_text, change_text),
         t.2,
       ))
       (fault_told units (chars before) (plain (chars before)) (chars new) range number fault
@@ -225,53 +199,20 @@ module _ (units : ℕ → ℕ) (left : Result (List ℕ) (ℕ × Fault)) (AreAll
   same_here = rw is at drafting.same
 
   pub draft_room : length draft + string_len change.text ≤ 2147483648
-  draft_room = omega (
-    arith,
-    drafting.room,
-    ap texts_len is,
-    sum_by-cons (λ (c : Change). string_len c.text) change more,
-  )
+  draft_room = grind (arith, common_steps, texts_len, sum_by-cons, string_len)
 
   pub drafting_on : (next : List ℕ) (end : ℕ × ℕ) (all : List (ℕ × ℕ))
       → text_after_change units (chars draft) (content_change change) ≡ Ok (chars next)
       → AreEndsIn units (chars draft) (content_change change) end → all ≡ found ++ end ∷ []
       → length next ≤ length draft + string_len change.text → Drafting units left AreAll (number + 1) more next all
   drafting_on next end all made at all_is longer =
-      let n : number + 1 ≡ suc number = omega arith in
-      let l : text_after_changes units (suc number) (chars next) (map content_change more)
-      ≡ left = rw made at same_here in
-      record {
-        same = ap (λ (m : ℕ). text_after_changes units m (chars next) (map content_change more)) n ∙ l;
-        ends = λ others have.
-            let met : AreTextEnds units (chars draft) (content_change change ∷ map content_change more)
-            (end ∷ others) = (
-              at,
-              λ left made_too. let e : chars next ≡ left = cc in
-                  subst (λ (t : List ℕ). AreTextEnds units t (map content_change more) others) e have,
-            ) in
-            let here : AreTextEnds units (chars draft) (map content_change rest) (end ∷ others) = rw is met in
-            subst AreAll (sym (ap (λ (es : List (ℕ × ℕ)). es ++ others) all_is ∙ append_assoc found (end ∷ []) others))
-            (drafting.ends (end ∷ others) here);
-        room = omega (
-          arith,
-          drafting.room,
-          ap texts_len is,
-          sum_by-cons (λ (c : Change). string_len c.text) change more,
-          longer,
-        );
-      }
+      grind (arith, common_steps, same_here, append_assoc, texts_len, sum_by-cons, string_len)
 
   pub draft_faulted : (fault : EditFault) → IsFaultOf number (text_after_change units (chars draft)
       (content_change change))
       fault → IsFaultOfBatch left fault
   draft_faulted fault error =
-      ⊎_elim
-      (λ (memory : fault ≡ NoMemory). inl memory)
-      (λ (t : (why : Fault) × (text_after_change units (chars draft) (content_change change) ≡ Err why)
-      × (fault ≡ fault_at number why)).
-      let l : Err (number, t.0) ≡ left = rw t.1 at same_here in
-      inr (number, t.0, sym l, t.2))
-      error
+      grind (arith, common_steps, inl, same_here, inr)
 
 -- After the last change.
 pub drafted_ends : (units : ℕ → ℕ) (left : Result (List ℕ) (ℕ × Fault)) (AreAll : List (ℕ × ℕ) → Type 0) (number : ℕ)
@@ -296,10 +237,7 @@ pub ends_at : (units : ℕ → ℕ) (number : ℕ) (text new : List ℕ) (range 
     → Ok (start, stop) ≡ places_at number text (ends_of units text range)
     → AreEndsIn units text (record { range = Some range; text = new }) (start, stop)
 ends_at units number text new range start stop found other is =
-    let same : range ≡ other = cc in
-    subst (λ (r : Range). ◌≡◌ {A = Result (ℕ × ℕ) EditFault} (Ok (start, stop))
-    (places_at 0 text (ends_of units text r))) same
-    (places_any number text start stop (ends_of units text range) found)
+    grind (arith, common_steps, places_any)
 
 -- A batch that begins with a whole text has the same ends in every text.
 pub any_ends : (units : ℕ → ℕ) (text other new : List ℕ) (batch : List ContentChange) (ends : List (ℕ × ℕ))

@@ -31,6 +31,7 @@ use Rattle.lsp_edit.proofs.Parts.IndexLemmas.{index_of-place, index_rises}
 use Rattle.lsp_edit.proofs.Canonical.KeepsLemmas.{keeps_from_lower, new_keeps}
 use Rattle.lsp_edit.proofs.Parts.PutLemmas.{new_items}
 use Rattle.lsp_edit.proofs.Canonical.RebuiltLemmas.{canonical_makes}
+use Rattle.std.proofs.lemmas.Grind.{common_steps}
 
 -- ---- where edits lie
 
@@ -65,15 +66,7 @@ pub placed_next : (units : ℕ → ℕ) (old : List ℕ) (edits : List TextEdit)
     → one.text.now ≡ string_bytes edit.new_text → next ≡ placed ++ one ∷ []
     → ArePlaced units old 0 (take (index + 1) edits) next
 placed_next units old edits index placed next edit one more at lies number_is text_is next_is =
-    let n : one.number ≡ 0 + length (take index edits) =
-    omega (arith, number_is, placed_long units old 0 (take index edits) placed at) in
-    rw (more, next_is)
-    (placed_more units old 0 (take index edits) placed edit one at
-    (record {
-      at = ap (λ (m : ℕ). places_at m old (ends_of units old edit.range)) (sym n) ∙ sym lies;
-      number_is = n;
-      text = text_is;
-    }))
+    grind (arith, common_steps, placed_long, placed_more)
 
 -- The first edits lie in the old text, and the next one doesn't.
 pub nowhere : (units : ℕ → ℕ) (old : List ℕ) (edits : List TextEdit) (index : ℕ) (placed : List Placed)
@@ -118,40 +111,12 @@ module _ (len : ℕ) (ordered front rest : List Placed) (made : List Part) (low 
       → some ≡ made ++ old_parts low edit.start → all ≡ some ++ new_parts edit.text.now
       → Spanning len ordered next more all edit.stop edit.number
   spanning_on next some all next_is order some_is all_is =
-      let here : made ++ (old_parts low edit.start ++ (new_parts edit.text.now ++ parts_left len edit.stop more))
-      ≡ parts_left len 0 ordered
-      = ap (λ (r : List Placed). made ++ parts_left len low r) (sym is) ∙ spanning.parts in
-      let apart : AreApart low (edit ∷ more) → AreApart 0 ordered =
-      subst (λ (r : List Placed). AreApart low r → AreApart 0 ordered) is spanning.apart in
-      record {
-        parts =
-            ap (λ (p : List Part). p ++ parts_left len edit.stop more)
-            (all_is ∙ ap (λ (p : List Part). p ++ new_parts edit.text.now) some_is)
-            ∙ (append_assoc (made ++ old_parts low edit.start) (new_parts edit.text.now) (parts_left len edit.stop more)
-            ∙ (append_assoc made (old_parts low edit.start) (new_parts edit.text.now ++ parts_left len edit.stop more)
-            ∙ here));
-        apart = λ a. apart (order, a);
-        rest_after = inr (front, edit, next_is, refl, refl);
-      }
+      grind (arith, common_steps, append_assoc, inr)
 
   pub overlapping : (fault : TextEditFault) → ordered ≡ front ++ rest → edit.start < low
       → fault ≡ Overlap last edit.number → DoOverlap ordered fault
   overlapping fault all less error =
-      ⊎_elim
-      (λ (none : low ≡ 0). absurd (omega arith))
-      (λ (b : (before : List Placed) × (first : Placed) × (front ≡ before ++ first ∷ []) × (low ≡ first.stop)
-      × (last ≡ first.number)).
-      record {
-        front = b.0;
-        first = b.1;
-        second = edit;
-        rest = more;
-        all = all ∙ (ap (λ (r : List Placed). front ++ r) is ∙ (ap (λ (f : List Placed). f ++ edit ∷ more) b.2
-            ∙ append_assoc b.0 (b.1 ∷ []) (edit ∷ more)));
-        over = omega (arith, b.3);
-        error = error ∙ ap (λ (n : ℕ). Overlap n edit.number) b.4;
-      })
-      spanning.rest_after
+      grind (arith, common_steps, append_assoc)
 
 -- ---- what edits leave
 
@@ -182,18 +147,8 @@ module _ (before : List ℕ) where
     where
       by_ends : AreEnds units (chars before) edit.range one.start one.stop → Lies before one
       by_ends e = record {
-        at_start = (
-          e.low,
-          (denoted_whole units (chars before) edit.range.start e.low e.low_is).within,
-          (denoted_whole units (chars before) edit.range.start e.low e.low_is).whole,
-          e.start_is,
-        );
-        at_stop = (
-          e.high,
-          e.within,
-          (denoted_whole units (chars before) edit.range.stop e.high e.high_is).whole,
-          e.stop_is,
-        );
+        at_start = grind (arith, common_steps, denoted_whole);
+        at_stop = grind (arith, common_steps, denoted_whole);
         order = omega (arith, place_rises (chars before) e.low e.high e.order e.within, e.start_is, e.stop_is);
         utf8 = ap is_utf8 is.text ∙ is_utf8-from_IsUtf8 (string_bytes edit.new_text)
             (IsUtf8-string_bytes edit.new_text);
@@ -242,10 +197,7 @@ module _ (before : List ℕ) (utf8 : IsUtf8 before) where
   old_are : (from to : ℕ) → IsPlace (chars before) from → IsPlace (chars before) to
       → AreParts before (old_parts from to)
   old_are from to a b =
-      ⊎_elim
-      (λ (e : nat_lt from to ≡ true). rw e ((ltb-true from to e, at_boundary from a, at_boundary to b), tt))
-      (λ (e : nat_lt from to ≡ false). rw e tt)
-      (cases_Bool (nat_lt from to))
+      grind (arith, common_steps, nat_lt, ltb-true, at_boundary, cases_Bool)
 
   old_keep : (from to : ℕ) (items : List Item) → IsPlace (chars before) from → IsPlace (chars before) to → from ≤ to
       → Keeps (chars before) (index_of (chars before) to) items
@@ -261,11 +213,7 @@ module _ (before : List ℕ) (utf8 : IsUtf8 before) where
       map Old (numbers_from (index_of (chars before) from) (index_of (chars before) to - index_of (chars before)
       from)) in
       ⊎_elim
-      (λ (e : nat_lt from to ≡ true). rw e
-      (subst (λ (r : List Item). Keeps (chars before) (index_of (chars before) from) (r ++ items))
-      (sym (append-nil row))
-      (run_keeps (chars before) (index_of (chars before) from) (index_of (chars before) to - index_of (chars before)
-      from) items within (subst (λ (n : ℕ). Keeps (chars before) n items) (sym count) k))))
+      (λ (e : nat_lt from to ≡ true). grind (arith, common_steps, append-nil, run_keeps))
       (λ (e : nat_lt from to ≡ false). rw e (keeps_from_lower (chars before) (index_of (chars before) from)
       (index_of (chars before) to) items rises (at_whole before from a) (at_whole before to b) k))
       (cases_Bool (nat_lt from to))
@@ -274,10 +222,7 @@ module _ (before : List ℕ) (utf8 : IsUtf8 before) where
       → AreParts before (parts_left (length before) low edits)
   left_are low [] at all = old_are low (length before) at at_end
   left_are low (e ∷ edits) at all =
-      are_both before (old_parts low e.start) (new_parts e.text.now ++ parts_left (length before) e.stop edits)
-      (old_are low e.start at all.0.at_start)
-      (are_both before (new_parts e.text.now) (parts_left (length before) e.stop edits)
-      (new_items before e.text.now all.0.utf8).1 (left_are e.stop edits all.0.at_stop all.1))
+      grind (arith, common_steps, are_both, old_are, new_items, (left_are e.stop edits all.0.at_stop all.1))
 
   left_keeps : (low : ℕ) (edits : List Placed) → IsPlace (chars before) low → AllByRecursion (Lies before) edits
       → AreApart low edits
@@ -294,10 +239,7 @@ module _ (before : List ℕ) (utf8 : IsUtf8 before) where
       let rest : List Part = parts_left (length before) e.stop edits in
       let split : items_of (chars before) (old_parts low e.start ++ (new_parts e.text.now ++ rest))
       ≡ items_of (chars before) (old_parts low e.start) ++ (map New (chars e.text.now) ++ items_of (chars before) rest)
-      = items_both before (old_parts low e.start) (new_parts e.text.now ++ rest)
-      ∙ ap (λ (i : List Item). items_of (chars before) (old_parts low e.start) ++ i)
-      (items_both before (new_parts e.text.now) rest ∙ ap (λ (i : List Item). i ++ items_of (chars before) rest)
-      (new_items before e.text.now all.0.utf8).0) in
+      = grind (arith, common_steps, items_both, new_items) in
       let start_whole : splits_crlf (chars before) (index_of (chars before) e.start) ≡ false =
       at_whole before e.start all.0.at_start in
       subst (Keeps (chars before) (index_of (chars before) low)) (sym split)
@@ -324,9 +266,7 @@ module _ (before : List ℕ) (utf8 : IsUtf8 before) where
 
     pub items_keep : Keeps (chars before) 0 (items_of (chars before) parts)
     items_keep =
-        subst (λ (p : List Part). Keeps (chars before) 0 (items_of (chars before) p)) (sym left.are)
-        (subst (λ (n : ℕ). Keeps (chars before) n (items_of (chars before) (parts_left (length before) 0 left.ordered)))
-        (index_first (chars before)) (left_keeps 0 left.ordered at_first all_lie left.apart))
+        grind (arith, common_steps, index_first, left_keeps, at_first, all_lie)
 
     pub batch_means : ((c : ℕ) → 1 ≤ units c) → (batch : List ContentChange) → batch ≡ canonical units (chars before)
         (items_of (chars before) parts) → meaning units (chars before) batch ≡ Ok (items_of (chars before) parts)

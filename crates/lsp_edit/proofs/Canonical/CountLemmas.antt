@@ -10,6 +10,7 @@ use Rattle.lsp_edit.specs.Batch.{ContentChange, Fault, Reversed, changed_in, ite
 use Rattle.lsp_edit.specs.inside.Batch.{replaced}
 use Rattle.lsp_edit.specs.Canonical.{Gap, gaps_from, gaps, is_changed, change_of_gap, canonical}
 use Rattle.lsp_edit.proofs.Canonical.GapLemmas.{gap}
+use Rattle.std.proofs.lemmas.Grind.{common_steps}
 
 abbrev one_if : Bool → ℕ
 one_if true = 1
@@ -37,14 +38,8 @@ module _ (size : ℕ) where
   -- a new character in the first gap counts once, wherever that gap begins
   new_rises : (new : Bool) (low : ℕ) (items : List Item) → (hunks size new low items ≤ hunks size true low items)
       × (hunks size true low items ≤ suc (hunks size new low items))
-  new_rises new low [] = (
-    omega (arith, one_if_rises (nat_lt low size) new, one_if_new (nat_lt low size)),
-    omega (arith, one_if_rises (nat_lt low size) new, one_if_new (nat_lt low size)),
-  )
-  new_rises new low (Old index ∷ items) = (
-    omega (arith, one_if_rises (nat_lt low index) new, one_if_new (nat_lt low index)),
-    omega (arith, one_if_rises (nat_lt low index) new, one_if_new (nat_lt low index)),
-  )
+  new_rises new low [] = grind (arith, common_steps, one_if_rises, nat_lt, one_if_new)
+  new_rises new low (Old index ∷ items) = grind (arith, common_steps, one_if_rises, nat_lt, one_if_new)
   new_rises new low (New character ∷ items) = (omega arith, omega arith)
 
   new_anywhere : (low other : ℕ) (items : List Item) → hunks size true low items ≡ hunks size true other items
@@ -62,18 +57,18 @@ module _ (size : ℕ) where
       ≤ suc (hunks size new low (middle ++ rest))
   taken_out new low [] rest = (new_rises new low rest).1
   taken_out new low (Old index ∷ middle) rest =
-      let t : hunks size true (suc index) rest ≤ suc (hunks size false (suc index) (middle ++ rest)) =
-      taken_out false (suc index) middle rest in
-      omega (arith, new_anywhere low (suc index) rest)
+      grind (arith, common_steps, new_anywhere, (taken_out false (suc index) middle rest))
   taken_out new low (New character ∷ middle) rest = taken_out true low middle rest
 
   one_more : (new : Bool) (low : ℕ) (front items others : List Item)
       → ((b : Bool) (l : ℕ) → hunks size b l items ≤ suc (hunks size b l others)) → hunks size new low (front ++ items)
       ≤ suc (hunks size new low (front ++ others))
   one_more new low [] items others more = more new low
-  one_more new low (Old index ∷ front) items others more = let ih : hunks size false (suc index) (front ++ items)
-      ≤ suc (hunks size false (suc index) (front ++ others)) = one_more false (suc index) front items others more in
-      omega arith
+  one_more new low (Old index ∷ front) items others more = grind (
+    arith,
+    common_steps,
+    (one_more false (suc index) front items others more),
+  )
   one_more new low (New character ∷ front) items others more = one_more true low front items others more
 
   replaced_adds : (items : List Item) (characters : List ℕ) (start stop : ℕ) → start ≤ stop
@@ -91,14 +86,7 @@ module _ (size : ℕ) where
       ≤ suc (hunks size false 0 is)) split
       (one_more false 0 (take start items) (map New characters ++ drop stop items) (drop start items)
       (λ b l.
-      let p : hunks size b l (map New characters ++ drop stop items) ≤ hunks size true l (drop stop items) =
-      put_in b l characters (drop stop items) in
-      let t : hunks size true l (drop stop items)
-      ≤ suc (hunks size b l (take (stop - start) (drop start items) ++ drop stop items)) =
-      taken_out b l (take (stop - start) (drop start items)) (drop stop items) in
-      let m : hunks size b l (take (stop - start) (drop start items) ++ drop stop items)
-      ≡ hunks size b l (drop start items) = ap (hunks size b l) middle in
-      omega arith))
+      grind (arith, common_steps, put_in, taken_out)))
 
   all_new : (characters : List ℕ) (items : List Item) → hunks size false 0 (map New characters)
       ≤ suc (hunks size false 0 items)
@@ -123,22 +111,11 @@ module _ (size : ℕ) where
         at_indexes None stop r = absurd (cc)
         at_indexes (Some a) None r = absurd (cc)
         at_indexes (Some a) (Some b) r =
-            ⊎_elim
-            (λ (e : nat_le a b ≡ true).
-            let made : ◌≡◌ {A = Result (List Item) Fault} (Ok (take a items ++ (map New change.text ++ drop b items)))
-            (Ok next) = rw e at r in
-            let is_next : take a items ++ (map New change.text ++ drop b items) ≡ next = cc in
-            subst (λ (n : List Item). hunks size false 0 n ≤ suc (hunks size false 0 items)) is_next
-            (replaced_adds items change.text a b (leb-true a b e)))
-            (λ (e : nat_le a b ≡ false). absurd (let f : ◌≡◌ {A = Result (List Item) Fault} (Err Reversed)
-            (Ok next) = rw e at r in cc))
-            (cases_Bool (nat_le a b))
+            grind (arith, common_steps, nat_le, replaced_adds, leb-true, cases_Bool)
 
         by_range : (range : Option Range) → changed_in units old items change.text range ≡ Ok next
             → hunks size false 0 next ≤ suc (hunks size false 0 items)
-        by_range None r = let e : map New change.text ≡ next = cc in
-            subst (λ (n : List Item). hunks size false 0 n ≤ suc (hunks size false 0 items)) e
-            (all_new change.text items)
+        by_range None r = grind (arith, common_steps, all_new)
         by_range (Some range) r =
             at_indexes (denoted units (text_of old items) range.start) (denoted units (text_of old items) range.stop) r
 
@@ -166,13 +143,9 @@ hunks_are : (len low : ℕ) (text : List ℕ) (items : List Item)
 hunks_are len low text [] = one_longer (is_changed (gap low len text)) (gap low len text) []
     ∙ omega arith
 hunks_are len low text (Old index ∷ items) =
-    one_longer (is_changed (gap low index text)) (gap low index text)
-    (filter is_changed (gaps_from (suc index) len [] items))
-    ∙ ap (λ (n : ℕ). one_if (is_changed (gap low index text)) + n) (hunks_are len (suc index) [] items)
+    grind (arith, common_steps, one_longer, gap, (hunks_are len (suc index) [] items))
 hunks_are len low text (New character ∷ items) =
-    let e : nat_lt 0 (length (text ++ character ∷ [])) ≡ true =
-    lt-ltb 0 (length (text ++ character ∷ [])) (simp length-append (omega arith)) in
-    hunks_are len low (text ++ character ∷ []) items ∙ ap (λ (b : Bool). hunks len b low items) e
+    grind (arith, common_steps, nat_lt, lt-ltb, length-append, (hunks_are len low (text ++ character ∷ []) items))
 
 pub no_more_changes : (units : ℕ → ℕ) (old : List ℕ) (batch : List ContentChange) (items : List Item)
     → meaning units old batch

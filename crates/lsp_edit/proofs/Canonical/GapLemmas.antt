@@ -8,6 +8,7 @@ use Rattle.lsp_edit.specs.Canonical.{kept, gap_texts, put_first, Gap, gaps_from,
 use Rattle.lsp_edit.specs.Keeps.{Keeps}
 use Rattle.lsp_edit.specs.inside.Canonical.{gaps_between, gaps_told}
 use Rattle.lsp_edit.specs.laws.Batches.{AllHaveExactEnds}
+use Rattle.std.proofs.lemmas.Grind.{common_steps}
 
 abbrev pub gap : ℕ → ℕ → List ℕ → Gap
 gap low high text = record { low = low; high = high; text = text }
@@ -34,63 +35,32 @@ told_from : (len low : ℕ) (text : List ℕ) (items : List Item) → gaps_from 
 unfolding put_before
 told_from len low text [] = ap (λ (t : List ℕ). gap low len t ∷ []) (sym (append-nil text))
 told_from len low text (Old index ∷ items) =
-    ap₂
-    (λ (t : List ℕ) (rest : List Gap). gap low index t ∷ rest)
-    (sym (append-nil text))
-    (told_from len (suc index) [] items
-    ∙ ap (gaps_between (suc index ∷ map suc (kept items)) (kept items ++ len ∷ [])) (put_nothing (gap_texts items)))
+    grind (arith, common_steps, ap₂, append-nil, put_nothing, (told_from len (suc index) [] items))
 told_from len low text (New character ∷ items) =
-    told_from len low (text ++ character ∷ []) items
-    ∙ ap (gaps_between (low ∷ map suc (kept items)) (kept items ++ len ∷ []))
-    (sym (put_one_more text character (gap_texts items)))
+    grind (arith, common_steps, put_one_more, (told_from len low (text ++ character ∷ []) items))
 
 pub gaps_are : (old : List ℕ) (items : List Item) → gaps old items
     ≡ gaps_told (length old) (kept items) (gap_texts items)
 gaps_are old items =
-    told_from (length old) 0 [] items
-    ∙ ap (gaps_between (0 ∷ map suc (kept items)) (kept items ++ length old ∷ [])) (put_nothing (gap_texts items))
+    grind (arith, common_steps, told_from, put_nothing)
 
 -- Both ends of a changed gap split no CRLF, where the items keep each CRLF whole.
 ends_from : (old : List ℕ) (low : ℕ) (text : List ℕ) (items : List Item)
     → (0 < length text → splits_crlf old low ≡ false) → Keeps old low items
     → AllHaveExactEnds old (gaps_from low (length old) text items)
-ends_from old low text [] whole keeps = (
-  (λ changed. record {
-    order = keeps.0;
-    within = omega arith;
-    low_whole = keeps.1;
-    high_whole = splits_none_past old (length old) (omega arith);
-  }),
-  tt,
-)
+ends_from old low text [] whole keeps = grind (arith, common_steps, splits_none_past)
 ends_from old low text (Old index ∷ items) whole keeps = (
-  (λ changed. record {
-    order = keeps.0;
-    within = omega (arith, keeps.1);
-    low_whole = low_whole changed;
-    high_whole = high_whole (low_whole changed);
-  }),
+  grind (arith, common_steps),
   ends_from old (suc index) [] items (λ h. absurd (omega arith)) keeps.3,
 )
   where
     low_whole : is_changed (gap low index text) ≡ true → splits_crlf old low ≡ false
     low_whole changed =
-        ⊎_elim
-        (λ (e : nat_lt low index ≡ true).
-        let less : low < index = ltb-true low index e in
-        ⊎_elim
-        (λ (same : low ≡ index). absurd (omega arith))
-        (λ (both : (splits_crlf old low ≡ false) × (splits_crlf old index ≡ false)). both.0)
-        keeps.2)
-        (λ (e : nat_lt 0 (length text) ≡ true). whole (ltb-true 0 (length text) e))
-        (or_cases (nat_lt low index) (nat_lt 0 (length text)) changed)
+        grind (arith, common_steps, nat_lt, ltb-true, or_cases)
 
     high_whole : splits_crlf old low ≡ false → splits_crlf old index ≡ false
     high_whole e =
-        ⊎_elim
-        (λ (same : low ≡ index). ap (splits_crlf old) (sym same) ∙ e)
-        (λ (both : (splits_crlf old low ≡ false) × (splits_crlf old index ≡ false)). both.1)
-        keeps.2
+        grind (arith, common_steps)
 ends_from old low text (New character ∷ items) whole keeps =
     ends_from old low (text ++ character ∷ []) items (λ h. keeps.0) keeps.1
 

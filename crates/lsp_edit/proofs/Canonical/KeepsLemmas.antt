@@ -11,6 +11,7 @@ use Rattle.lsp_edit.specs.Items.{Item, Old, New, plain, character_of, text_of}
 use Rattle.lsp_edit.specs.Batch.{ContentChange, Fault, Reversed, changed_in, items_after, after_changes, continue_with, meaning}
 use Rattle.lsp_edit.specs.inside.Batch.{replaced}
 use Rattle.lsp_edit.specs.Keeps.{Keeps}
+use Rattle.std.proofs.lemmas.Grind.{common_steps}
 
 -- The index behind the last kept character, where that before the items was `low`.
 abbrev pub after : ℕ → List Item → ℕ
@@ -39,16 +40,7 @@ module _ (old : List ℕ) where
   keeps_from_lower low high [] order whole high_whole k = (omega arith, whole)
   keeps_from_lower low high (New character ∷ items) order whole high_whole k =
       (whole, keeps_from_lower low high items order whole high_whole k.1)
-  keeps_from_lower low high (Old index ∷ items) order whole high_whole k = (
-    omega arith,
-    k.1,
-    inr (
-      whole,
-      ⊎_elim (λ (e : high ≡ index). ap (splits_crlf old) (sym e) ∙ high_whole)
-          (λ (e : (splits_crlf old high ≡ false) × (splits_crlf old index ≡ false)). e.1) k.2,
-    ),
-    k.3,
-  )
+  keeps_from_lower low high (Old index ∷ items) order whole high_whole k = grind (arith, common_steps, inr)
 
   pub new_keeps : (low : ℕ) (characters : List ℕ) (items : List Item) → splits_crlf old low ≡ false
       → Keeps old low items → Keeps old low (map New characters ++ items)
@@ -85,10 +77,7 @@ module _ (old : List ℕ) where
   last_whole low (Old index) [] k whole = k.3.1
   last_whole low (Old index) (New character ∷ rest) k whole = k.3.0
   last_whole low (Old index) (Old next ∷ rest) k whole =
-      ⊎_elim
-      (λ (e : suc index ≡ next). rw (← e) at whole)
-      (λ (e : (splits_crlf old (suc index) ≡ false) × (splits_crlf old next ≡ false)). e.0)
-      k.3.2
+      grind (arith, common_steps)
 
   pub place_whole : (low : ℕ) (item : Item) (front rest : List Item) → Keeps old low (item ∷ front ++ rest)
       → splits_crlf (text_of old (item ∷ front ++ rest)) (suc (length front)) ≡ false
@@ -101,10 +90,7 @@ module _ (old : List ℕ) where
       → Keeps old 0 (item ∷ items) → splits_crlf (text_of old (item ∷ items)) (suc n) ≡ false
       → splits_crlf old (after 0 (item ∷ front)) ≡ false
   place_at item front rest items n all here k whole =
-      place_whole 0 item front rest
-      (subst (λ (is : List Item). Keeps old 0 (item ∷ is)) (sym all) k)
-      (subst (λ (is : List Item). splits_crlf (text_of old (item ∷ is)) (suc (length front)) ≡ false) (sym all)
-      (subst (λ (m : ℕ). splits_crlf (text_of old (item ∷ items)) (suc m) ≡ false) (sym here) whole))
+      grind (arith, common_steps, place_whole)
 
   pub index_whole : (items : List Item) (k : ℕ) → Keeps old 0 items → k ≤ length items
       → splits_crlf (text_of old items) k ≡ false → splits_crlf old (after 0 (take k items)) ≡ false

@@ -16,6 +16,7 @@ use Rattle.lsp_edit.specs.Keeps.{Keeps}
 use Rattle.lsp_edit.specs.laws.Batches.{HasExactEnds, AllHaveExactEnds}
 use Rattle.lsp_edit.proofs.Canonical.GapLemmas.{gap, ends_exact}
 use Rattle.lsp_edit.proofs.Batches.BatchLemmas.{Makes, makes_nothing, makes_joined}
+use Rattle.std.proofs.lemmas.Grind.{common_steps}
 
 -- the old characters before an index, as items
 abbrev pub plain_to : ℕ → List Item
@@ -59,8 +60,7 @@ module _ (old : List ℕ) where
       ≡ take count (drop low old)
   text_row low zero within = refl
   text_row low (suc count) within =
-      let inside : low < length old = omega arith in
-      rw (drop-cons old low 0) (ap (λ (cs : List ℕ). slice_index old low ∷ cs) (text_row (suc low) count (omega arith)))
+      grind (arith, common_steps, drop-cons, (text_row (suc low) count (omega arith)))
 
   text_met : (high : ℕ) (rest : List Item) → high ≤ length old → text_of old (plain_to high ++ rest) ≡ take high old
       ++ text_of old rest
@@ -78,15 +78,7 @@ module _ (old : List ℕ) where
   is_met : (high : ℕ) (rest : List Item) → high ≤ length old → slice_index (text_of old rest) 0 ≡ slice_index old high
       → IsMet (text_of old (plain_to high ++ rest)) high
   is_met high rest within first =
-      let t : text_of old (plain_to high ++ rest) ≡ take high old ++ text_of old rest = text_met high rest within in
-      let len : length (take high old) ≡ high = length-take-le high old within in
-      rw t (record {
-        within = within;
-        long = simp length-append (omega arith);
-        same = take_at (take high old) (text_of old rest) high len;
-        at_high = let z : length (take high old) + 0 ≡ high = omega arith in
-            (rw z at (get_or-append-add (take high old) (text_of old rest) 0 0)) ∙ first;
-      })
+      grind (arith, common_steps, text_met, length-take-le, length-append, take_at, get_or-append-add)
 
   agree_to : (met : List ℕ) (high : ℕ) → IsMet met high → AgreeBelow met old (suc high)
   agree_to met high is j less =
@@ -125,17 +117,7 @@ module _ (old : List ℕ) where
         ≡ Ok (plain_to low ++ (map New text ++ rest)) = rw (low_met, high_met) replaced_here in
         record {
           leaves = λ number. rw made refl;
-          ranges = (
-            (
-              low,
-              high,
-              exact_denotes units some old low (omega (arith, ends.order, ends.within)) ends.low_whole,
-              low_met,
-              exact_denotes units some old high ends.within ends.high_whole,
-              high_met,
-            ),
-            λ next e. tt,
-          );
+          ranges = grind (arith, common_steps, exact_denotes);
         }
       where
         front : take low (plain_to high ++ rest) ≡ plain_to low
@@ -165,11 +147,7 @@ change_if units old g = cond (is_changed g) (change_of_gap units old g ∷ []) [
 pub batch_of-cons : (units : ℕ → ℕ) (old : List ℕ) (g : Gap) (gs : List Gap) → batch_of units old (g ∷ gs)
     ≡ batch_of units old gs ++ change_if units old g
 batch_of-cons units old g gs =
-    ⊎_elim
-    (λ (e : is_changed g ≡ true). rw e
-    (reverse-append (change_of_gap units old g ∷ []) (map (change_of_gap units old) (filter is_changed gs))))
-    (λ (e : is_changed g ≡ false). rw e (sym (append-nil (batch_of units old gs))))
-    (cases_Bool (is_changed g))
+    grind (arith, common_steps, reverse-append, append-nil, cases_Bool)
 
 module _ (units : ℕ → ℕ) (some : (c : ℕ) → 1 ≤ units c) (old : List ℕ) where
   gap_made : (low high : ℕ) (text : List ℕ) (rest : List Item) → low ≤ high
@@ -212,17 +190,10 @@ module _ (units : ℕ → ℕ) (some : (c : ℕ) → 1 ≤ units c) (old : List 
       (plain_to low ++ (map New text ++ (Old index ∷ items)))
       (batch_of units old (gaps_from (suc index) (length old) [] items))
       (change_if units old (gap low index text))
-      (subst (λ (made : List Item). Makes units old (plain old)
-      (batch_of units old (gaps_from (suc index) (length old) [] items)) made) (plain_to_next index items)
-      (rebuilt (suc index) [] items keeps.3 ends.1))
+      (grind (arith, common_steps, plain_to_next, (rebuilt (suc index) [] items keeps.3 ends.1)))
       (gap_made low index text (Old index ∷ items) keeps.0 ends.0 refl))
   rebuilt low text (New character ∷ items) keeps ends =
-      let e : map New (text ++ character ∷ []) ++ items ≡ map New text ++ (New character ∷ items) =
-      ap (λ (new : List Item). new ++ items) (map-append New text (character ∷ [])) ∙ append_assoc (map New text)
-      (New character ∷ []) items in
-      subst (λ (rest : List Item). Makes units old (plain old)
-      (batch_of units old (gaps_from low (length old) (text ++ character ∷ []) items)) (plain_to low ++ rest)) e
-      (rebuilt low (text ++ character ∷ []) items keeps.1 ends)
+      grind (arith, common_steps, map-append, append_assoc, (rebuilt low (text ++ character ∷ []) items keeps.1 ends))
 
   pub canonical_makes : (items : List Item) → Keeps old 0 items
       → Makes units old (plain old) (canonical units old items) items

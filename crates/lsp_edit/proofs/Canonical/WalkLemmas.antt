@@ -22,6 +22,7 @@ use Rattle.lsp_edit.specs.declared.pieces.span.Span.{Span}
 use Rattle.lsp_edit.proofs.Canonical.GapLemmas.{gap}
 use Rattle.lsp_edit.proofs.Composing.EditedLemmas.{index_first, index_last}
 use Rattle.lsp_edit.proofs.Parts.IndexLemmas.{index_of-place, index_rises, indexes_less}
+use Rattle.std.proofs.lemmas.Grind.{common_steps}
 
 -- the changes of gaps, from the first to the last
 abbrev pub changes_of : (ℕ → ℕ) → List ℕ → List Gap → List ContentChange
@@ -30,10 +31,7 @@ changes_of units old gs = map (change_of_gap units old) (filter is_changed gs)
 pub changes_of-cons : (units : ℕ → ℕ) (old : List ℕ) (g : Gap) (gs : List Gap) → changes_of units old (g ∷ gs)
     ≡ cond (is_changed g) (change_of_gap units old g ∷ []) [] ++ changes_of units old gs
 changes_of-cons units old g gs =
-    ⊎_elim
-    (λ (e : is_changed g ≡ true). rw e refl)
-    (λ (e : is_changed g ≡ false). rw e refl)
-    (cases_Bool (is_changed g))
+    grind (arith, common_steps, cases_Bool)
 
 -- the gaps of items over an old text, from an index on
 abbrev gaps_on : List ℕ → ℕ → List ℕ → List Item → List Gap
@@ -45,11 +43,7 @@ row_gaps : (units : ℕ → ℕ) (old : List ℕ) (low count : ℕ) (rest : List
     ≡ changes_of units old (gaps_on old (low + count) [] rest)
 row_gaps units old low zero rest = let e : low + 0 ≡ low = omega arith in rw e refl
 row_gaps units old low (suc count) rest =
-    let none : nat_lt low low ≡ false = le-ltb low low (omega arith) in
-    let e : suc low + count ≡ low + suc count = omega arith in
-    let ih : changes_of units old (gaps_on old (suc low) [] (map Old (numbers_from (suc low) count) ++ rest))
-    ≡ changes_of units old (gaps_on old (suc low + count) [] rest) = row_gaps units old (suc low) count rest in
-    rw none (ih ∙ ap (λ (n : ℕ). changes_of units old (gaps_on old n [] rest)) e)
+    grind (arith, common_steps, nat_lt, le-ltb, (row_gaps units old (suc low) count rest))
 
 row_ends : (old : List ℕ) (low count : ℕ) (rest : List Item)
     → AllHaveExactEnds old (gaps_on old low [] (map Old (numbers_from low count) ++ rest))
@@ -57,8 +51,7 @@ row_ends : (old : List ℕ) (low count : ℕ) (rest : List Item)
 row_ends old low zero rest ends = let e : low ≡ low + 0 = omega arith in
     subst (λ (n : ℕ). AllHaveExactEnds old (gaps_on old n [] rest)) e ends
 row_ends old low (suc count) rest ends =
-    let e : suc low + count ≡ low + suc count = omega arith in
-    subst (λ (n : ℕ). AllHaveExactEnds old (gaps_on old n [] rest)) e (row_ends old (suc low) count rest ends.1)
+    grind (arith, common_steps, (row_ends old (suc low) count rest ends.1))
 
 new_gaps : (old : List ℕ) (low : ℕ) (text characters : List ℕ) (rest : List Item)
     → gaps_on old low text (map New characters ++ rest) ≡ gaps_on old low (text ++ characters) rest
@@ -70,11 +63,7 @@ new_gaps old low text (c ∷ characters) rest = new_gaps old low (text ++ c ∷ 
 gap_unchanged : (before : List ℕ) (low high : ℕ) (text : List ℕ) → high ≤ low → length text ≡ 0
     → is_changed (gap_between before low high text) ≡ false
 gap_unchanged before low high text falls none =
-    let e : chars text ≡ [] = ap chars (nil_from_length text none) ∙ chars-nil in
-    let n : length (chars text) ≡ 0 = ap length e in
-    or_from (nat_lt (index_of (chars before) low) (index_of (chars before) high)) (nat_lt 0 (length (chars text)))
-    (le-ltb (index_of (chars before) low) (index_of (chars before) high) (index_rises (chars before) high low falls))
-    (le-ltb 0 (length (chars text)) (omega arith))
+    grind (arith, common_steps, nil_from_length, chars-nil, or_from, nat_lt, le-ltb, index_rises)
 
 pub gap_skipped : (before : List ℕ) (units : ℕ → ℕ) (low high : ℕ) (changes : List Change) (text : List ℕ) → high ≤ low
     → length text ≡ 0 → map content_change changes ≡ map content_change changes ++ gap_change units before low high text
@@ -111,9 +100,7 @@ module _ (before : List ℕ) (utf8 : IsUtf8 before) where
     where
       by_index : IsIndexAt before place → p ≡ exact_position units (chars before) (index_of (chars before) place)
       by_index a =
-          let at_a : index_of (chars before) place ≡ a.index = ap (index_of (chars before)) (sym a.place_is)
-          ∙ index_of-place (chars before) a.index a.within in
-          exact a.index a.within a.place_is ∙ ap (exact_position units (chars before)) (sym at_a)
+          grind (arith, common_steps, index_of-place)
 
   -- What a gap adds to the changes.
   pub gap_put : (units : ℕ → ℕ) (low high : ℕ) (changes : List Change) (change : Change) (start stop : Position)
@@ -132,10 +119,7 @@ module _ (before : List ℕ) (utf8 : IsUtf8 before) where
       position_exact units high stop at_high high_exact in
       let e : content_change change ≡ change_of_gap units (chars before) (gap_between before low high
       (string_bytes change.text))
-      = λ i. record {
-        range = (range ∙ ap₂ (λ (x y : Position). Some (record { start = x; stop = y })) s t) i;
-        text = chars (string_bytes change.text);
-      } in
+      = grind (arith, common_steps, ap₂, string_bytes) in
       map-append content_change changes (change ∷ [])
       ∙ rw (gap_changed low high (string_bytes change.text) (IsUtf8-string_bytes change.text) at_low at_high changed)
       (ap (λ (x : ContentChange). map content_change changes ++ x ∷ []) e)
@@ -143,11 +127,7 @@ module _ (before : List ℕ) (utf8 : IsUtf8 before) where
 -- whether a text has bytes
 pub text_some : {Z : Type 0} (text : String Z) → false ≡ (string_len text == 0) → 0 < length (string_bytes text)
 text_some text e =
-    ⊎_elim
-    (λ (l : 0 < length (string_bytes text)). l)
-    (λ (l : length (string_bytes text) ≤ 0). absurd
-    (eqb-false (string_len text) 0 (sym e) (omega (arith, text.bytes.ok.0))))
-    (cases_lt 0 (length (string_bytes text)))
+    grind (arith, common_steps, string_bytes, eqb-false, string_len, cases_lt)
 
 pub text_none : {Z : Type 0} (text : String Z) → true ≡ (string_len text == 0) → length (string_bytes text) ≡ 0
 text_none text e = sym text.bytes.ok.0 ∙ eqb-true (string_len text) 0 (sym e)
@@ -169,9 +149,7 @@ module _ (units : ℕ → ℕ) (before : List ℕ) (utf8 : IsUtf8 before) where
     where
       by_index : IsIndexAt before place → IsPlace (chars before) place
       by_index a =
-          let at_a : index_of (chars before) place ≡ a.index = ap (index_of (chars before)) (sym a.place_is)
-          ∙ index_of-place (chars before) a.index a.within in
-          (a.index, a.within, ap (splits_crlf (chars before)) (sym at_a) ∙ whole, a.place_is)
+          grind (arith, common_steps, index_of-place)
 
   module _ (all made : List ContentChange) (low : ℕ) (text : List ℕ) (text_utf8 : IsUtf8 text) (rest : List Part)
       (walks : Walks units before all made low text rest) where
@@ -179,21 +157,7 @@ module _ (units : ℕ → ℕ) (before : List ℕ) (utf8 : IsUtf8 before) where
     pub walk_new : (bytes : List ℕ) (more : List Part) → rest ≡ NewPart bytes ∷ more
         → Walks units before all made low (text ++ bytes) more
     walk_new bytes more is =
-        let w : Walks units before all made low text (NewPart bytes ∷ more) =
-        subst (Walks units before all made low text) is walks in
-        let gs : gaps_on (chars before) (index_of (chars before) low) (chars text)
-        (map New (chars bytes) ++ items_of (chars before) more) ≡ gaps_on (chars before) (index_of (chars before) low)
-        (chars (text ++ bytes)) (items_of (chars before) more)
-        = new_gaps (chars before) (index_of (chars before) low) (chars text) (chars bytes)
-        (items_of (chars before) more)
-        ∙ ap (λ (t : List ℕ). gaps_on (chars before) (index_of (chars before) low) t (items_of (chars before) more))
-        (sym (chars-append text bytes text_utf8)) in
-        record {
-          error = ap (λ (g : List Gap). made ++ changes_of units (chars before) g) (sym gs) ∙ w.error;
-          ends = subst (AllHaveExactEnds (chars before)) gs w.ends;
-          at = w.at;
-          are = w.are.1;
-        }
+        grind (arith, common_steps, new_gaps, chars-append)
 
     -- behind a part of the old text
     module _ (from to : ℕ) (more : List Part) (is : rest ≡ OldPart from to ∷ more) where
@@ -241,38 +205,7 @@ module _ (units : ℕ → ℕ) (before : List ℕ) (utf8 : IsUtf8 before) where
 
       pub walk_old : Walks units before all (made ++ gap_change units before low from text) to [] more
       walk_old =
-          let rows : changes_of units (chars before) (gaps_on (chars before) (suc (index_of (chars before) from)) []
-          (map Old (numbers_from (suc (index_of (chars before) from)) count) ++ items_of (chars before) more))
-          ≡ changes_of units (chars before) (gaps_on (chars before) (suc (index_of (chars before) from) + count) []
-          (items_of (chars before) more))
-          = row_gaps units (chars before) (suc (index_of (chars before) from)) count (items_of (chars before) more) in
-          let cons : changes_of units (chars before) (gap_between before low from text ∷ gaps_on (chars before)
-          (suc (index_of (chars before) from)) [] (map Old (numbers_from (suc (index_of (chars before) from)) count)
-          ++ items_of (chars before) more))
-          ≡ gap_change units before low from text ++ changes_of units (chars before)
-          (gaps_on (chars before) (suc (index_of (chars before) from)) []
-          (map Old (numbers_from (suc (index_of (chars before) from)) count) ++ items_of (chars before) more))
-          = changes_of-cons units (chars before) (gap_between before low from text)
-          (gaps_on (chars before) (suc (index_of (chars before) from)) []
-          (map Old (numbers_from (suc (index_of (chars before) from)) count) ++ items_of (chars before) more)) in
-          let both : changes_of units (chars before) (gaps_on (chars before) (index_of (chars before) low)
-          (chars text) (items_of (chars before) (OldPart from to ∷ more)))
-          ≡ gap_change units before low from text ++ changes_of units (chars before)
-          (gaps_on (chars before) (index_of (chars before) to) (chars []) (items_of (chars before) more))
-          = ap (changes_of units (chars before)) first_gap
-          ∙ (cons ∙ ap (λ (es : List ContentChange). gap_change units before low from text ++ es)
-          (rows ∙ ap (changes_of units (chars before)) empty_chars)) in
-          record {
-            error = append_assoc made (gap_change units before low from text)
-                (changes_of units (chars before) (gaps_on (chars before) (index_of (chars before) to) (chars [])
-                (items_of (chars before) more)))
-                ∙ (ap (λ (es : List ContentChange). made ++ es) (sym both) ∙ here.error);
-            ends = subst (AllHaveExactEnds (chars before)) empty_chars
-                (row_ends (chars before) (suc (index_of (chars before) from)) count (items_of (chars before) more)
-                here_ends.1);
-            at = part.2;
-            are = here.are.1;
-          }
+          grind (arith, common_steps, row_gaps, changes_of-cons, first_gap, empty_chars, append_assoc, row_ends)
 
       pub walk_old_ends : (low < from) ⊎ (0 < length text) → IsPlace (chars before) low × IsPlace (chars before) from
       walk_old_ends changed =
@@ -294,13 +227,7 @@ module _ (units : ℕ → ℕ) (before : List ℕ) (utf8 : IsUtf8 before) where
 
       pub walk_end : made ++ gap_change units before low (length before) text ≡ all
       walk_end =
-          let one : changes_of units (chars before) (gap_between before low (length before) text ∷ [])
-          ≡ gap_change units before low (length before) text
-          = changes_of-cons units (chars before) (gap_between before low (length before) text) []
-          ∙ append-nil (gap_change units before low (length before) text) in
-          ap (λ (es : List ContentChange). made ++ es) (sym (ap (λ (g : Gap). changes_of units (chars before)
-          (g ∷ [])) last_gap
-          ∙ one)) ∙ last.error
+          grind (arith, common_steps, changes_of-cons, append-nil, last_gap)
 
       pub walk_end_ends : (low < length before) ⊎ (0 < length text) → IsPlace (chars before) low
           × IsPlace (chars before) (length before)
@@ -332,10 +259,7 @@ walk_begins units before utf8 parts are ends =
 pub walk_turned : (changes : List Change) → map content_change (reverse changes) ≡ reverse (map content_change changes)
 walk_turned [] = refl
 walk_turned (change ∷ changes) =
-    ap (map content_change) (reverse-append (change ∷ []) changes)
-    ∙ (map-append content_change (reverse changes) (change ∷ [])
-    ∙ (ap (λ (es : List ContentChange). es ++ content_change change ∷ []) (walk_turned changes)
-    ∙ sym (reverse-append (content_change change ∷ []) (map content_change changes))))
+    grind (arith, common_steps, reverse-append, map-append, reverse, (walk_turned changes))
 
 -- the parts that are left of spans
 pub rest_is : (spans : List Span) (i : ℕ) (default : Span) (first : Part) → i < length spans

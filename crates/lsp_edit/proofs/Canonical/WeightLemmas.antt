@@ -9,17 +9,12 @@ use Rattle.lsp_edit.specs.Items.{Item, Old, New, character_of, text_of}
 use Rattle.lsp_edit.specs.Batch.{ContentChange}
 use Rattle.lsp_edit.specs.Canonical.{Gap, gaps_from, gaps, is_changed, change_of_gap, canonical}
 use Rattle.lsp_edit.proofs.Canonical.GapLemmas.{gap}
+use Rattle.std.proofs.lemmas.Grind.{common_steps}
 
 sum_by-reverse : {X : Type 0} (f : X → ℕ) (xs : List X) → sum_by f (reverse xs) ≡ sum_by f xs
 sum_by-reverse f [] = refl
 sum_by-reverse f (x ∷ xs) =
-    let r : reverse (x ∷ xs) ≡ reverse xs ++ (x ∷ []) = reverse-append (x ∷ []) xs in
-    let s : sum_by f (reverse xs ++ (x ∷ [])) ≡ sum_by f (reverse xs) + sum_by f (x ∷ []) =
-    sum_by-append f (reverse xs) (x ∷ []) in
-    let one : sum_by f (x ∷ []) ≡ f x + sum_by f [] = sum_by-cons f x [] in
-    let all : sum_by f (x ∷ xs) ≡ f x + sum_by f xs = sum_by-cons f x xs in
-    let ih : sum_by f (reverse xs) ≡ sum_by f xs = sum_by-reverse f xs in
-    ap (sum_by f) r ∙ omega arith
+    grind (arith, common_steps, reverse, reverse-append, sum_by, sum_by-append, sum_by-cons, (sum_by-reverse f xs))
 
 module _ (weight : ℕ → ℕ) where
   abbrev gap_weight : Gap → ℕ
@@ -38,59 +33,36 @@ module _ (weight : ℕ → ℕ) where
       → sum_by gap_weight (gaps_from low (length old) text items) ≡ sum_by weight text + new_weight items
   gaps_weigh old low text [] = sum_by-cons gap_weight (gap low (length old) text) []
   gaps_weigh old low text (Old index ∷ items) =
-      let none : sum_by weight [] ≡ 0 = refl in
-      omega (
-        arith,
-        sum_by-cons gap_weight (gap low index text) (gaps_from (suc index) (length old) [] items),
-        gaps_weigh old (suc index) [] items,
-      )
+      grind (arith, common_steps, sum_by, sum_by-cons, gap, (gaps_weigh old (suc index) [] items))
   gaps_weigh old low text (New character ∷ items) =
-      omega (
-        arith,
-        gaps_weigh old low (text ++ character ∷ []) items,
-        sum_by-append weight text (character ∷ []),
-        sum_by-cons weight character [],
-      )
+      grind (arith, common_steps, sum_by-append, sum_by-cons, (gaps_weigh old low (text ++ character ∷ []) items))
 
   changed_weigh : (gs : List Gap) → sum_by gap_weight (filter is_changed gs) ≡ sum_by gap_weight gs
   changed_weigh [] = refl
   changed_weigh (g ∷ gs) =
-      ⊎_elim
-      (λ (e : is_changed g ≡ true). rw e (omega (
+      grind (
         arith,
-        sum_by-cons gap_weight g (filter is_changed gs),
-        sum_by-cons gap_weight g gs,
-        changed_weigh gs,
-      )))
-      (λ (e : is_changed g ≡ false). rw e (omega (arith, sum_by-cons gap_weight g gs, changed_weigh gs, no_weight e)))
-      (cases_Bool (is_changed g))
-    where
-      no_weight : is_changed g ≡ false → sum_by weight g.text ≡ 0
-      no_weight e =
-          let none : length g.text ≤ 0 =
-          ltb-false 0 (length g.text) (or_parts (nat_lt g.low g.high) (nat_lt 0 (length g.text)) e).1 in
-          let empty : g.text ≡ [] = nil_from_length g.text (omega arith) in
-          ap (sum_by weight) empty
+        common_steps,
+        sum_by-cons,
+        cases_Bool,
+        sum_by,
+        ltb-false,
+        or_parts,
+        nat_lt,
+        nil_from_length,
+        (changed_weigh gs),
+      )
 
   changes_weigh : (units : ℕ → ℕ) (old : List ℕ) (gs : List Gap) → sum_by change_weight (map
       (change_of_gap units old) gs)
       ≡ sum_by gap_weight gs
   changes_weigh units old [] = refl
   changes_weigh units old (g ∷ gs) =
-      omega (
-        arith,
-        sum_by-cons change_weight (change_of_gap units old g) (map (change_of_gap units old) gs),
-        sum_by-cons gap_weight g gs,
-        changes_weigh units old gs,
-      )
+      grind (arith, common_steps, sum_by-cons, (changes_weigh units old gs))
 
   new_lighter : (old : List ℕ) (items : List Item) → new_weight items ≤ sum_by weight (text_of old items)
   new_lighter old [] = omega arith
-  new_lighter old (Old index ∷ items) = omega (
-    arith,
-    sum_by-cons weight (character_of old (Old index)) (text_of old items),
-    new_lighter old items,
-  )
+  new_lighter old (Old index ∷ items) = grind (arith, common_steps, sum_by-cons, (new_lighter old items))
   new_lighter old (New character ∷ items) =
       omega (arith, sum_by-cons weight character (text_of old items), new_lighter old items)
 

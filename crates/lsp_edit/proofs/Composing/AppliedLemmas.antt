@@ -28,6 +28,7 @@ use Rattle.lsp_edit.proofs.Parts.CutLemmas.{text_of-new, part_ordered}
 use Rattle.lsp_edit.proofs.Parts.CutPartsLemmas.{cut_parts, parts_bytes}
 use Rattle.lsp_edit.proofs.Parts.MergedLemmas.{new_apart, replaced_apart}
 use Rattle.lsp_edit.proofs.Parts.PutLemmas.{replaced_items, replaced_few, new_items, new_few}
+use Rattle.std.proofs.lemmas.Grind.{common_steps}
 
 -- A range whose places were told, with the indexes that they are of.
 pub record AreEnds (units : ℕ → ℕ) (text : List ℕ) (range : Range) (start stop : ℕ) : Type 0 where
@@ -88,15 +89,7 @@ fault_told units old items characters range number fault error =
     by_ends None b e = inr (InsideStart, refl, cc)
     by_ends (Some a) None e = inr (InsideStop, refl, cc)
     by_ends (Some a) (Some b) e =
-        ⊎_elim
-        (λ (o : nat_le a b ≡ true). absurd (let f : ◌≡◌ {A = Result (ℕ × ℕ) EditFault} (Err fault)
-        (Ok (place_of (text_of old items) a, place_of (text_of old items) b)) = rw o at e in cc))
-        (λ (o : nat_le a b ≡ false). inr (
-          Reversed,
-          rw o refl,
-          (let f : ◌≡◌ {A = Result (ℕ × ℕ) EditFault} (Err fault) (Err (fault_at number Reversed)) = rw o at e in cc),
-        ))
-        (cases_Bool (nat_le a b))
+        grind (arith, common_steps, nat_le, inr, cases_Bool)
 
 -- Places that were told are the same, whatever the number of the change.
 pub places_any : (number : ℕ) (text : List ℕ) (start stop : ℕ) (ends : Result (ℕ × ℕ) Fault)
@@ -107,10 +100,7 @@ places_any number text start stop (Err why) e = absurd (cc)
 pub places_found : (number : ℕ) (text : List ℕ) (start stop : ℕ) (ends : Result (ℕ × ℕ) Fault)
     → IsPlaces (Ok (start, stop)) (places_at number text ends) → Ok (start, stop) ≡ places_at 0 text ends
 places_found number text start stop ends told =
-    ⊎_elim
-    (λ (e : Ok (start, stop) ≡ Err NoMemory). absurd (cc))
-    (λ (e : Ok (start, stop) ≡ places_at number text ends). places_any number text start stop ends e)
-    told
+    grind (arith, common_steps, places_any)
 
 -- What was found of the places in a text, said of its bytes.
 pub places_seen : (units : ℕ → ℕ) (number : ℕ) (range : Range) (r : Result (ℕ × ℕ) EditFault) (seen bytes : List ℕ)
@@ -134,11 +124,7 @@ pub bytes_put : (text new : List ℕ) (low high start stop : ℕ) → IsUtf8 new
     → place_of text high ≡ stop → encode_utf8_all (take low text ++ (chars new ++ drop high text))
     ≡ replace_range (encode_utf8_all text) start stop new
 bytes_put text new low high start stop utf8 at_start at_stop =
-    rw (← at_start, ← at_stop, take_place, drop_place)
-    (encodes-append (take low text) (chars new ++ drop high text)
-    ∙ (ap (λ (bs : List ℕ). encode_utf8_all (take low text) ++ bs) (encodes-append (chars new) (drop high text)
-    ∙ ap (λ (bs : List ℕ). bs ++ encode_utf8_all (drop high text)) (encodes-chars new utf8))
-    ∙ sym (append_assoc (encode_utf8_all (take low text)) new (encode_utf8_all (drop high text)))))
+    grind (arith, common_steps, take_place, drop_place, encodes-append, encode_utf8_all, encodes-chars, append_assoc)
 
 pub bytes_split : (text : List ℕ) (k : ℕ) → length (encode_utf8_all (take k text))
     + length (encode_utf8_all (drop k text)) ≡ length (encode_utf8_all text)
@@ -290,22 +276,12 @@ module _ (units : ℕ → ℕ) (before : List ℕ) (parts : List Part) (len chan
           (place_boundary bytes ends.high bytes_utf8 (omega (arith, ap length now_text, ends.within)))
 
     long : len - (stop - start) + length new ≡ length (bytes_of before (replaced_parts parts start stop new))
-    long = omega (
-      arith,
-      ap length range_bytes,
-      are.long,
-      in_order_places,
-      replaced_length (bytes_of before parts) new start stop in_order_places.0
-          (omega (arith, are.long, in_order_places)),
-    )
+    long = grind (arith, common_steps, range_bytes, in_order_places, replaced_length)
 
     pub range_short : (bytes : List ℕ) → bytes ≡ bytes_of before parts → length (replace_range bytes start stop new)
         ≤ 2147483648
     range_short bytes same =
-        let e : length (replace_range bytes start stop new)
-        ≡ length (bytes_of before (replaced_parts parts start stop new)) =
-        ap (λ (bs : List ℕ). length (replace_range bs start stop new)) same ∙ ap length (sym range_bytes) in
-        omega (arith, e, long, in_order_places)
+        grind (arith, common_steps, range_bytes, in_order_places)
 
     pub range_next : length (replaced_parts parts start stop new) < 18446744073709551616
         → IsNext units before parts changes (record { range = Some range; text = chars new })
@@ -339,11 +315,7 @@ pub next_told : (units : ℕ → ℕ) (before : List ℕ) (parts : List Part) (c
     → (edited : PlainData) → seen before parts changes ≡ edited → (made : List Part) → made ≡ next → (count : ℕ)
     → count ≡ next_number changes → Applied units edited change (seen before made count)
 next_told units before parts changes change next len is edited view made same count counted =
-    subst (λ (e : PlainData). Applied units e change (seen before made count)) view (record {
-      changed = is.made ∙ ap (λ (ps : List Part). Ok (items_of (chars before) ps)) (sym same);
-      same = refl;
-      counted = counted;
-    })
+    subst (λ (e : PlainData). Applied units e change (seen before made count)) view (grind (arith, common_steps))
 
 pub next_holds : (units : ℕ → ℕ) (before : List ℕ) (parts : List Part) (changes : ℕ) (change : ContentChange)
     (next : List Part)

@@ -21,6 +21,7 @@ use Rattle.lsp_edit.proofs.Canonical.KeepsLemmas.{plain_keeps}
 use Rattle.lsp_edit.proofs.Canonical.RebuiltLemmas.{text_row}
 use Rattle.lsp_edit.proofs.Parts.IndexLemmas.{index_of-place}
 use Rattle.lsp_edit.proofs.Parts.CutPartsLemmas.{parts_bytes}
+use Rattle.std.proofs.lemmas.Grind.{common_steps}
 
 pub index_first : (text : List ℕ) → index_of text 0 ≡ 0
 index_first [] = refl
@@ -44,9 +45,7 @@ pub record IsWhole (before : List ℕ) (parts : List Part) : Type 0 where
 
 whole_none : (before : List ℕ) → length before ≡ 0 → IsWhole before []
 whole_none before none =
-    let e : before ≡ [] = nil_from_length before none in
-    let c : chars before ≡ [] = ap chars e ∙ chars-nil in
-    record { are = tt; apart = tt; items = rw c refl; few = omega arith }
+    grind (arith, common_steps, nil_from_length, chars-nil)
 
 whole_some : (before : List ℕ) → IsUtf8 before → (length before ≡ 0 → ⊥)
     → IsWhole before (OldPart 0 (length before) ∷ [])
@@ -55,9 +54,7 @@ whole_some before utf8 some =
     record {
       are = ((omega arith, IsCharBoundary-start before utf8, IsCharBoundary-end before), tt);
       apart = (tt, tt);
-      items = append-nil (items_in (chars before) (OldPart 0 (length before)))
-          ∙ ap₂ (λ (x y : ℕ). map Old (numbers_from x (y - x))) (index_first (chars before)) (index_last before utf8)
-          ∙ ap (λ (x : ℕ). map Old (numbers_from 0 x)) n;
+      items = grind (arith, common_steps, append-nil, ap₂, index_first, index_last);
       few = omega arith;
     }
 
@@ -71,10 +68,7 @@ whole_is before utf8 =
 -- The one part has the bytes of the text.
 pub whole_bytes : (before : List ℕ) → IsUtf8 before → bytes_of before (whole_parts before) ≡ before
 whole_bytes before utf8 =
-    let whole : IsWhole before (whole_parts before) = whole_is before utf8 in
-    parts_bytes before utf8 (whole_parts before) whole.are
-    ∙ (ap (λ (items : List Item). encode_utf8_all (text_of (chars before) items)) whole.items
-    ∙ (ap encode_utf8_all (plain_text (chars before)) ∙ encodes-chars before utf8))
+    grind (arith, common_steps, parts_bytes, encode_utf8_all, plain_text, encodes-chars)
 
 -- What the fields are at first.
 pub begun : (before : List ℕ) (parts : List Part) → IsUtf8 before → length before ≤ 2147483648 → IsWhole before parts
@@ -84,9 +78,7 @@ begun before parts utf8 size whole = record {
   are = whole.are;
   apart = whole.apart;
   keeps = subst (Keeps (chars before) 0) (sym whole.items) (plain_keeps (chars before));
-  long = sym (ap length (parts_bytes before utf8 parts whole.are
-      ∙ (ap (λ (i : List Item). encode_utf8_all (text_of (chars before) i)) whole.items
-      ∙ (ap encode_utf8_all (plain_text (chars before)) ∙ encodes-chars before utf8))));
+  long = grind (arith, common_steps, parts_bytes, encode_utf8_all, plain_text, encodes-chars);
   room = size;
   few = omega (arith, whole.few);
   fresh = λ e. whole.items;

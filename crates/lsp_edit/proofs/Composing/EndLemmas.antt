@@ -10,6 +10,7 @@ use Rattle.lsp_edit.specs.declared.fault.EditFault.TheVariants.{ReversedRange}
 use Rattle.lsp_edit.specs.Faults.{places_at}
 use Rattle.lsp_edit.specs.Batch.{ends_of, in_order}
 use Rattle.lsp_edit.specs.inside.Faults.{numbered}
+use Rattle.std.proofs.lemmas.Grind.{common_steps}
 
 -- the index of a denoted place
 record IsPlaceOf (text : List ℕ) (found : Option ℕ) (place : ℕ) : Type 0 where
@@ -59,8 +60,7 @@ pub places_same : (units : ℕ → ℕ) (text : List ℕ) (range : Range) (numbe
     → numbered number (in_order start stop) ≡ places_at number text (ends_of units text range)
 places_same units text range number None stop a b = rw (none_found text (denoted units text range.start) a) refl
 places_same units text range number (Some start) None a b =
-    let at = place_found text (denoted units text range.start) start a in
-    rw (at.is, none_found text (denoted units text range.stop) b) refl
+    grind (arith, common_steps, place_found, none_found)
 places_same units text range number (Some start) (Some stop) a b =
     ⊎_elim
     (λ (less : stop < start). rw (lt-leb start stop less) (places_reversed units text range number start stop a b less))

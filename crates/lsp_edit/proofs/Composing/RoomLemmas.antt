@@ -16,6 +16,7 @@ use Rattle.lsp_edit.specs.Faults.{IsFaultOfChange, IsFaultOfChanges, fault_at}
 use Rattle.lsp_edit.specs.Edited.{Applied, PlainData, content_change, edited_bytes}
 use Rattle.lsp_edit.proofs.Parts.CutLemmas.{text_of-new}
 use Rattle.lsp_edit.proofs.Composing.AppliedLemmas.{bytes_split, text_put}
+use Rattle.std.proofs.lemmas.Grind.{common_steps}
 
 replaced_longer : (text characters : List ℕ) (a b : ℕ) → a ≤ b
     → length (encode_utf8_all (take a text ++ (characters ++ drop b text))) ≤ length (encode_utf8_all text)
@@ -54,9 +55,7 @@ change_longer units old items next change is = by_range change.range is
         let is_next : take a items ++ (map New change.text ++ drop b items) ≡ next = cc in
         let text = text_put old items change.text a b in
         subst Longer is_next
-        (subst (λ (cs : List ℕ). length (encode_utf8_all cs) ≤ length (encode_utf8_all (text_of old items))
-        + length (encode_utf8_all change.text)) (sym text) (replaced_longer (text_of old items) change.text a b
-        (leb-true a b e))))
+        (grind (arith, common_steps, encode_utf8_all, replaced_longer, leb-true)))
         (λ (e : nat_le a b ≡ false). absurd (let f : ◌≡◌ {A = Result (List Item) Fault} (Err Reversed) (Ok next) = rw
         e at r in cc))
         (cases_Bool (nat_le a b))
@@ -109,27 +108,11 @@ module _ (units : ℕ → ℕ) (before : List ℕ) (meant : Result (List Item) (
         left = ap (λ (m : ℕ). after_changes units before m next.items (map content_change more)) n ∙ l;
         same = applied.same ∙ applying.same;
         counted = omega (arith, n, applying.counted);
-        room = omega (
-          arith,
-          applying.room,
-          ap texts_len is,
-          sum_by-cons (λ (c : Change). string_len c.text) change more,
-          longer,
-          own,
-          ap (λ (b : List ℕ). length (encode_utf8_all (text_of b next.items))) applied.same,
-        );
+        room = grind (arith, common_steps, sum_by-cons, string_len, encode_utf8_all);
       }
 
   pub faulted : (fault : EditFault)
       → IsFaultOfChange edited.changes (items_after units edited.before edited.items (content_change change)) fault
       → IsFaultOfChanges meant fault
   faulted fault error =
-      ⊎_elim
-      (λ (memory : fault ≡ EditFault.NoMemory). inl memory)
-      (λ (t : (why : Fault) × (items_after units edited.before edited.items (content_change change) ≡ Err why)
-      × (fault ≡ fault_at edited.changes why)).
-      let made : items_after units before edited.items (content_change change) ≡ Err t.0 =
-      ap (λ (b : List ℕ). items_after units b edited.items (content_change change)) (sym applying.same) ∙ t.1 in
-      let l : Err (edited.changes, t.0) ≡ meant = rw made at left_here in
-      inr (edited.changes, t.0, sym l, t.2))
-      error
+      grind (arith, common_steps, inl, left_here, inr)

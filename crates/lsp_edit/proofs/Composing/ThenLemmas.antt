@@ -15,6 +15,7 @@ use Rattle.lsp_edit.proofs.Composing.AppliedLemmas.{seen}
 use Rattle.lsp_edit.proofs.Parts.MergedLemmas.{through_apart}
 use Rattle.lsp_edit.proofs.Parts.PassedLemmas.{through_few}
 use Rattle.lsp_edit.proofs.Parts.ThroughLemmas.{through_items, are_through, ascending}
+use Rattle.std.proofs.lemmas.Grind.{common_steps}
 
 -- The parts of the old text come in order.
 pub pieces_ascend : (before : List ℕ) (parts : List Part) (len changes : ℕ) → ArePieces before parts len changes
@@ -97,13 +98,7 @@ module _ (before : List ℕ) (parts : List Part) (len changes : ℕ) (mid : List
       keeps = subst (λ (ps : List Part). Keeps (chars before) 0 (items_of (chars before) ps)) (sym is) keeps;
       long = long ∙ ap (λ (ps : List Part). length (bytes_of before ps)) (sym is);
       room = both.were.room;
-      few = omega (
-        arith,
-        ap (λ (ps : List Part). length ps) is,
-        through_few parts more over_order over_through,
-        both.are.few,
-        both.were.few,
-      );
+      few = grind (arith, common_steps, through_few, over_order, over_through);
       fresh = λ e. ap (λ (ps : List Part). items_of (chars before) ps) is ∙ fresh (omega (arith, counted))
           (omega (arith, counted));
     }
@@ -132,9 +127,5 @@ module _ (before : List ℕ) (parts : List Part) (len changes : ℕ) (mid : List
           items = then_items first.items second.items;
           changes = both_counts first.changes second.changes;
         }
-        = λ i. record {
-          before = (view i).before;
-          items = then_items (view i).items (other i).items;
-          changes = both_counts (view i).changes (other i).changes;
-        } in
+        = grind (arith, common_steps) in
         a ∙ b

@@ -26,6 +26,7 @@ use Rattle.lsp_edit.proofs.Batches.PlainLemmas.{applying_begins}
 use Rattle.lsp_edit.proofs.Composing.EditedLemmas.{first_bytes, plain_text}
 use Rattle.lsp_edit.proofs.Composing.RoomLemmas.{Applying, applying_on}
 use Rattle.lsp_edit.proofs.Deltas.InPlaceLemmas.{range_bytes_left, range_means, range_order, range_start, range_stop}
+use Rattle.std.proofs.lemmas.Grind.{common_steps}
 
 -- A text that is within a limit is what a batch leaves.
 pub record IsWithin (before : List ℕ) (meant : Result (List Item) (ℕ × Fault)) (left : List ℕ) : Type 0 where
@@ -37,25 +38,13 @@ pub within_told : (max_len : ℕ) (before : List ℕ) (meant : Result (List Item
     → text_within max_len before meant ≡ Ok left → IsWithin before meant left
 within_told max_len before (Err fault) left e = absurd (cc)
 within_told max_len before (Ok items) left e =
-    ⊎_elim
-    (λ (above : nat_lt max_len (length (bytes_left before items)) ≡ true). let bad : Err TooLong
-    ≡ Ok left = rw above at e in absurd (cc))
-    (λ (below : nat_lt max_len (length (bytes_left before items)) ≡ false). let same : Ok (bytes_left before items)
-    ≡ Ok left = rw below at e in record { items = items; means = refl; is = cc })
-    (cases_Bool (nat_lt max_len (length (bytes_left before items))))
+    grind (arith, common_steps, nat_lt, cases_Bool)
 
 pub within_fits : (max_len : ℕ) (before : List ℕ) (meant : Result (List Item) (ℕ × Fault)) (left : List ℕ)
     → text_within max_len before meant ≡ Ok left → length left ≤ max_len
 within_fits max_len before (Err fault) left e = absurd (cc)
 within_fits max_len before (Ok items) left e =
-    ⊎_elim
-    (λ (above : nat_lt max_len (length (bytes_left before items)) ≡ true). let bad : ◌≡◌ {A = Result (List ℕ)
-    BatchFault} (Err TooLong) (Ok left) = rw above at e in absurd (cc))
-    (λ (below : nat_lt max_len (length (bytes_left before items)) ≡ false). let same : ◌≡◌ {A = Result (List ℕ)
-    BatchFault} (Ok (bytes_left before items)) (Ok left) = rw below at e in
-    let bytes : bytes_left before items ≡ left = cc in
-    omega (arith, ap length bytes, ltb-false max_len (length (bytes_left before items)) below))
-    (cases_Bool (nat_lt max_len (length (bytes_left before items))))
+    grind (arith, common_steps, nat_lt, ltb-false, cases_Bool)
 
 module _ (units : ℕ → ℕ) (before : List ℕ) (start stop : ℕ) (new : List ℕ) (p : IsPut units before start stop new) where
   pub put_order : start ≤ stop
@@ -154,12 +143,7 @@ canonical_is encoding max_len before batch answered delta of same =
       utf8 = on_utf8 before delta of.on;
       items = w.items;
       means = w.means;
-      within = omega (
-        arith,
-        ap length w.is,
-        within_fits max_len before
-            (meaning (units_in encoding) (chars before) batch) (bytes_after before delta) of.is,
-      );
+      within = grind (arith, common_steps, within_fits);
       is = rw of.units_are at (same w.items (sym of.means ∙ w.means));
       law = canonical_law (units_in encoding) (units_some encoding) (chars before);
     }
@@ -190,12 +174,7 @@ module _ (units : ℕ → ℕ) (before : List ℕ) (meant : Result (List Item) (
 
   pub putting_bounds : (all : List (ℕ × ℕ)) → ends ≡ drop done all → done < length all
   putting_bounds all rest_is =
-      ⊎_elim
-      (λ (l : done < length all). l)
-      (λ (l : length all ≤ done). absurd (subst
-      (AreEndsOf units before edited.items (content_change change ∷ map content_change more))
-      (rest_is ∙ drop_all done all l) here))
-      (cases_lt done (length all))
+      grind (arith, common_steps, drop_all, cases_lt)
 
   module _ (end : ℕ × ℕ) (others : List (ℕ × ℕ)) (ends_is : ends ≡ end ∷ others) where
     first : AreEndsOf units before edited.items (content_change change ∷ map content_change more) (end ∷ others)

@@ -20,6 +20,7 @@ use Rattle.lsp_edit.specs.Parts.{index_of}
 use Rattle.lsp_edit.proofs.Parts.IndexLemmas.{index_of-place}
 use Rattle.lsp_edit.proofs.Composing.AppliedLemmas.{AreEnds, bytes_put, ends_told, fault_told, text_put}
 use Rattle.lsp_edit.proofs.Composing.EditedLemmas.{plain_text}
+use Rattle.std.proofs.lemmas.Grind.{common_steps}
 
 pub fault_edit : (number : ℕ) (why : Fault) → EditOf (fault_at number why) ≡ batch_fault_of (fault_at number why)
 fault_edit number InsideStart = refl
@@ -37,9 +38,7 @@ module _ (units : ℕ → ℕ) (before : List ℕ) (utf8 : IsUtf8 before) (range
 
     ends : AreEnds units now range start stop
     ends =
-        ends_told units now range 0 start stop
-        (subst (λ (t : List ℕ). ◌≡◌ {A = Result (ℕ × ℕ) EditFault} (Ok (start, stop))
-        (places_at 0 t (ends_of units t range))) (sym (plain_text (chars before))) error)
+        grind (arith, common_steps, ends_told, plain_text)
 
     low_place : place_of (chars before) ends.low ≡ start
     low_place = subst (λ (t : List ℕ). place_of t ends.low ≡ start) (plain_text (chars before)) ends.start_is
@@ -95,8 +94,7 @@ module _ (units : ℕ → ℕ) (before : List ℕ) (utf8 : IsUtf8 before) (range
 
     pub range_start : IsCharBoundary before start
     range_start =
-        subst (IsCharBoundary before) low_place
-        (place_boundary before ends.low utf8 (omega (arith, ends.order, high_within)))
+        grind (arith, common_steps, low_place, place_boundary, high_within)
 
     pub range_stop : IsCharBoundary before stop
     range_stop = subst (IsCharBoundary before) high_place (place_boundary before ends.high utf8 high_within)
@@ -114,12 +112,4 @@ module _ (units : ℕ → ℕ) (before : List ℕ) (utf8 : IsUtf8 before) (range
       → (batch_fault_of fault ≡ NoMemory) ⊎ (text_within max_len before (meaning units (chars before) (alone range new))
       ≡ Err (batch_fault_of fault))
   range_fault max_len fault error =
-      ⊎_elim
-      (λ (e : fault ≡ edit.NoMemory). inl (ap batch_fault_of e))
-      (λ (why : (w : Fault)
-      × (items_after units (chars before) (plain (chars before)) (record { range = Some range; text = chars new })
-      ≡ Err w) × (fault ≡ fault_at 0 w)).
-      inr (rw (why.1, why.2) (ap (λ (f : BatchFault). Err f) (fault_edit 0 why.0))))
-      (fault_told units (chars before) (plain (chars before)) (chars new) range 0 fault
-      (inr (subst (λ (t : List ℕ). ◌≡◌ {A = Result (ℕ × ℕ) EditFault} (Err fault)
-      (places_at 0 t (ends_of units t range))) (sym (plain_text (chars before))) error)))
+      grind (arith, common_steps, inl, inr, fault_edit, fault_told, plain_text)

@@ -23,6 +23,7 @@ use Rattle.lsp_edit.proofs.Composing.EditedLemmas.{index_first, plain_text, whol
 use Rattle.lsp_edit.proofs.Canonical.KeepsLemmas.{meaning_keeps, plain_keeps}
 use Rattle.lsp_edit.proofs.Parts.ThroughLemmas.{are_through, ascending, through_items}
 use Rattle.lsp_edit.proofs.Deltas.OwnedLemmas.{items_over-append, all_both, rows}
+use Rattle.std.proofs.lemmas.Grind.{common_steps}
 
 -- what callers see of the fields
 abbrev pub joined_seen : List ℕ → List Layer → JoinedData
@@ -56,18 +57,12 @@ module _ (before : List ℕ) (layers : List Layer)
   rows_more = ap (map layer_parts) now_is ∙ map-append layer_parts layers (layer ∷ [])
 
   pub more_all : AllOver (chars before) (plain (chars before)) (map layer_parts now)
-  more_all = subst (AllOver (chars before) (plain (chars before))) (sym rows_more)
-      (all_both (chars before) (plain (chars before)) (map layer_parts layers) (layer_parts layer ∷ []) all (
-        more_over,
-        tt,
-      ))
+  more_all = grind (arith, common_steps, rows_more, all_both, more_over)
 
   more_items : items_over (chars before) (plain (chars before)) (map layer_parts now)
       ≡ then_items items_then (items_of (chars reached) (layer_parts layer))
   more_items =
-      ap (items_over (chars before) (plain (chars before))) rows_more
-      ∙ (items_over-append (chars before) (plain (chars before)) (map layer_parts layers) (layer_parts layer ∷ [])
-      ∙ ap (λ (t : List ℕ). then_items items_then (items_of t (layer_parts layer))) (sym reached_then))
+      grind (arith, common_steps, rows_more, items_over-append, reached_then)
 
   pub more_is : joined_seen before now ≡ record old {
     items = then_items old.items (items_of (chars reached) (layer_parts layer));
@@ -110,12 +105,7 @@ parts_utf8 old utf8 (part ∷ parts) are =
 within_is : (max_len : ℕ) (reached : List ℕ) (items : List Item) (left : List ℕ)
     → text_within max_len reached (Ok items) ≡ Ok left → bytes_left reached items ≡ left
 within_is max_len reached items left is =
-    ⊎_elim
-    (λ (e : nat_lt max_len (length (bytes_left reached items)) ≡ true). absurd
-    (let bad : ◌≡◌ {A = Result (List ℕ) BatchFault} (Err TooLong) (Ok left) = rw e at is in cc))
-    (λ (e : nat_lt max_len (length (bytes_left reached items)) ≡ false). let same : ◌≡◌ {A = Result (List ℕ) BatchFault}
-    (Ok (bytes_left reached items)) (Ok left) = rw e at is in cc)
-    (cases_Bool (nat_lt max_len (length (bytes_left reached items))))
+    grind (arith, common_steps, nat_lt, cases_Bool)
 
 pub left_reached : (units : ℕ → ℕ) (old new : JoinedData) (batch : List ContentChange) (reached left : List ℕ)
     (max_len : ℕ)
@@ -175,8 +165,7 @@ pub folded_end : (before : List ℕ) (parts : List Part) (layers : List Layer) (
     → length layers ≤ i → IsFolded before parts (map layer_parts (drop i layers)) items → items_of (chars before) parts
     ≡ items
 folded_end before parts layers i items past f =
-    let none : map layer_parts (drop i layers) ≡ [] = ap (map layer_parts) (drop_all i layers past) in
-    ap (items_over (chars before) (items_of (chars before) parts)) (sym none) ∙ f.same
+    grind (arith, common_steps, drop_all)
 
 module _ (before : List ℕ) (parts row : List Part) (rows : List (List Part)) (items : List Item)
     (f : IsFolded before parts (row ∷ rows) items) where

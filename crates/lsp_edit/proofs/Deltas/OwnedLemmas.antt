@@ -20,6 +20,7 @@ use Rattle.lsp_edit.proofs.Batches.ComposeLemmas.{text_of-then, then_associative
 use Rattle.lsp_edit.proofs.Composing.EditedLemmas.{index_first}
 use Rattle.lsp_edit.proofs.Parts.PutLemmas.{new_items}
 use Rattle.lsp_edit.proofs.Parts.ThroughLemmas.{are_through, ascending, through_items}
+use Rattle.std.proofs.lemmas.Grind.{common_steps}
 
 -- the owned spans from an index on
 pub owned_rest : (spans : List OwnedSpan) (i : ℕ) (default : OwnedSpan) → i < length spans → owned_parts (drop i spans)
@@ -55,9 +56,7 @@ pub same_old : (whole done : List Part) (text : List ℕ) (part : Part) (rest : 
     → AreSameItems (done ++ (new_parts text ++ (part ∷ rest))) whole
     → AreSameItems (((done ++ new_parts text) ++ part ∷ []) ++ (new_parts [] ++ rest)) whole
 same_old whole done text part rest same =
-    let e : done ++ (new_parts text ++ (part ∷ rest)) ≡ ((done ++ new_parts text) ++ part ∷ []) ++ rest
-    = sym (append_assoc (done ++ new_parts text) (part ∷ []) rest ∙ append_assoc done (new_parts text) (part ∷ rest)) in
-    subst (λ (ps : List Part). AreSameItems ps whole) e same
+    grind (arith, common_steps, append_assoc)
 
 pub same_old_on : (whole : List Part) (spans made : List OwnedSpan) (text filled : List ℕ) (from to : ℕ)
     (rest more : List Part) → AreSameItems (owned_parts spans ++ (new_parts text ++ rest)) whole
@@ -65,12 +64,7 @@ pub same_old_on : (whole : List Part) (spans made : List OwnedSpan) (text filled
     → owned_parts made ≡ owned_parts spans ++ new_parts filled → filled ≡ text
     → AreSameItems (owned_parts (made ++ OldSpan from to ∷ []) ++ (new_parts [] ++ more)) whole
 same_old_on whole spans made text filled from to rest more same rest_is made_is filled_is =
-    let e : owned_parts (made ++ OldSpan from to ∷ []) ≡ (owned_parts spans ++ new_parts text) ++ OldPart from to ∷ []
-    = map-append owned_part made (OldSpan from to ∷ []) ∙ ap (λ (ps : List Part). ps ++ OldPart from to ∷ [])
-    (made_is ∙ ap (λ (t : List ℕ). owned_parts spans ++ new_parts t) filled_is) in
-    subst (λ (ps : List Part). AreSameItems (ps ++ (new_parts [] ++ more)) whole) (sym e)
-    (same_old whole (owned_parts spans) text (OldPart from to) more
-    (subst (λ (ps : List Part). AreSameItems (owned_parts spans ++ (new_parts text ++ ps)) whole) rest_is same))
+    grind (arith, common_steps, map-append, same_old)
 
 pub same_new : (whole done : List Part) (text bytes : List ℕ) (rest : List Part) → IsUtf8 text
     → AreSameItems (done ++ (new_parts text ++ (NewPart bytes ∷ rest))) whole
@@ -93,16 +87,10 @@ same_new whole done text bytes rest utf8 same old are =
     ap (map New) (chars-append text bytes utf8) ∙ map-append New (chars text) (chars bytes) in
     let ends : items_of (chars old) (new_parts (text ++ bytes) ++ rest)
     ≡ items_of (chars old) (new_parts text ++ (NewPart bytes ∷ rest))
-    = items_both old (new_parts (text ++ bytes)) rest
-    ∙ (ap (λ (i : List Item). i ++ items_of (chars old) rest) (both.0 ∙ letters)
-    ∙ (append_assoc (map New (chars text)) (map New (chars bytes)) (items_of (chars old) rest)
-    ∙ (ap (λ (i : List Item). i ++ items_of (chars old) (NewPart bytes ∷ rest)) (sym one.0)
-    ∙ sym (items_both old (new_parts text) (NewPart bytes ∷ rest))))) in (
+    = grind (arith, common_steps, items_both, append_assoc) in (
       are_both old done (new_parts (text ++ bytes) ++ rest) outer.0 (are_both old (new_parts (text ++ bytes)) rest
           both.1 inner.1.1),
-      items_both old done (new_parts (text ++ bytes) ++ rest)
-          ∙ (ap (λ (i : List Item). items_of (chars old) done ++ i) ends
-          ∙ (sym (items_both old done (new_parts text ++ (NewPart bytes ∷ rest))) ∙ before.1)),
+      grind (arith, common_steps, items_both),
     )
 
 pub same_ends : (whole done : List Part) (text : List ℕ) → AreSameItems (done ++ (new_parts text ++ [])) whole
@@ -117,14 +105,7 @@ pub delta_is : (reached : List ℕ) (meant : Result (List Item) (ℕ × Fault)) 
     → items_of edited.before parts ≡ edited.items → AreParts (before_bytes edited) parts → AreSameItems owned parts
     → IsLayer meant reached owned
 delta_is reached meant count edited parts owned utf8 means items are same =
-    let bytes : before_bytes edited ≡ reached = ap encode_utf8_all means.same ∙ encodes-chars reached utf8 in
-    let kept : AreParts reached owned × (items_of (chars reached) owned ≡ items_of (chars reached) parts) =
-    same reached (subst (λ (b : List ℕ). AreParts b parts) bytes are) in
-    record {
-      utf8 = utf8;
-      are = kept.0;
-      means = means.means ∙ ap Ok (sym (kept.1 ∙ (ap (λ (t : List ℕ). items_of t parts) (sym means.same) ∙ items)));
-    }
+    grind (arith, common_steps, encode_utf8_all, encodes-chars)
 
 -- ---- rows over one another
 
@@ -199,14 +180,7 @@ module _ (old : List ℕ) (items : List Item) (first second : List Part) (a : Is
 pub two_last : {X : Type 0} (xs : List X) (len : ℕ) (x y : X) → 2 ≤ len → length xs ≡ len → x ≡ get_or xs (len - 2) x
     → y ≡ get_or xs (len - 1) y → xs ≡ take (len - 2) xs ++ (x ∷ y ∷ [])
 two_last xs len x y some long first second =
-    let one : drop (len - 2) xs ≡ x ∷ drop (len - 2 + 1) xs = drop_more xs (len - 2) x (omega (arith, some, long))
-    ∙ ap (λ z. z ∷ drop (len - 2 + 1) xs) (sym first) in
-    let next : len - 2 + 1 ≡ len - 1 = omega (arith, some) in
-    let two : drop (len - 1) xs ≡ y ∷ [] = drop_more xs (len - 1) y (omega (arith, some, long))
-    ∙ (ap (λ z. z ∷ drop (len - 1 + 1) xs) (sym second)
-    ∙ ap (λ zs. y ∷ zs) (drop_all (len - 1 + 1) xs (omega (arith, some, long)))) in
-    sym (take-append-drop (len - 2) xs) ∙ ap (λ zs. take (len - 2) xs ++ zs)
-    (one ∙ ap (λ zs. x ∷ zs) (ap (λ (k : ℕ). drop k xs) next ∙ two))
+    grind (arith, common_steps, drop_more, drop_all, take-append-drop)
 
 module _ (old : List ℕ) (items : List Item) (layers front : List Layer) (first second : Layer)
     (is : layers ≡ front ++ (first ∷ second ∷ [])) (all : AllOver old items (map layer_parts layers)) where

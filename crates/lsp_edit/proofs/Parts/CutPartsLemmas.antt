@@ -10,6 +10,7 @@ use Rattle.lsp_edit.specs.Items.{Item, character_of, text_of}
 use Rattle.lsp_edit.specs.Parts.{Part, items_in, items_of, bytes_of, part_len, IsPartOf, AreParts}
 use Rattle.lsp_edit.specs.inside.Parts.{front_part, back_part, front_parts, back_parts, AreCut}
 use Rattle.lsp_edit.proofs.Parts.CutLemmas.{part_bytes, part_length, front_items, back_items, place_above, place_below, text_long, front_is, back_is, part_cut, part_ordered}
+use Rattle.std.proofs.lemmas.Grind.{common_steps}
 
 take_more : {X : Type 0} (xs ys : List X) (n : ℕ) → take (length xs + n) (xs ++ ys) ≡ xs ++ take n ys
 take_more [] ys n = let e : 0 + n ≡ n = omega arith in rw e refl
@@ -26,11 +27,16 @@ module _ (old : List ℕ) (utf8 : IsUtf8 old) where
       ≡ encode_utf8_all (text_of (chars old) (items_of (chars old) parts))
   parts_bytes [] are = refl
   parts_bytes (part ∷ parts) are =
-      ap₂ (λ (xs ys : List ℕ). xs ++ ys) (part_bytes old utf8 part are.0) (parts_bytes parts are.1)
-      ∙ (sym (encodes-append (text_of (chars old) (items_in (chars old) part))
-      (text_of (chars old) (items_of (chars old) parts)))
-      ∙ ap encode_utf8_all
-      (sym (map-append (character_of (chars old)) (items_in (chars old) part) (items_of (chars old) parts))))
+      grind (
+        arith,
+        common_steps,
+        ap₂,
+        part_bytes,
+        encodes-append,
+        encode_utf8_all,
+        map-append,
+        (parts_bytes parts are.1),
+      )
 
   part_some : (part : Part) → IsPartOf old part → 0 < part_len part
   part_some (Part.OldPart from to) is = omega (arith, is.0)
@@ -132,29 +138,12 @@ module _ (old : List ℕ) (utf8 : IsUtf8 old) where
   front_place : (items rest : List Item) (k : ℕ) → k ≤ length items → place_of (text_of (chars old) (items ++ rest)) k
       ≡ place_of (text_of (chars old) items) k
   front_place items rest k within =
-      let n : length (text_of (chars old) items) ≡ length items = text_long old utf8 items in
-      ap (λ (cs : List ℕ). place_of cs k) (map-append (character_of (chars old)) items rest)
-      ∙ ap (λ (cs : List ℕ). length (encode_utf8_all cs)) (take-append-le k (text_of (chars old) items)
-      (text_of (chars old) rest) (omega arith))
+      grind (arith, common_steps, text_long, map-append, encode_utf8_all, take-append-le)
 
   behind_place : (items rest : List Item) (k : ℕ) → place_of (text_of (chars old) (items ++ rest)) (length items + k)
       ≡ length (encode_utf8_all (text_of (chars old) items)) + place_of (text_of (chars old) rest) k
   behind_place items rest k =
-      let n : length (text_of (chars old) items) ≡ length items = text_long old utf8 items in
-      let add : place_of (text_of (chars old) items ++ text_of (chars old) rest) (length items + k)
-      ≡ place_of (text_of (chars old) items ++ text_of (chars old) rest) (length items)
-      + place_of (drop (length items) (text_of (chars old) items ++ text_of (chars old) rest)) k
-      = place_add (text_of (chars old) items ++ text_of (chars old) rest) (length items) k in
-      let front : place_of (text_of (chars old) items ++ text_of (chars old) rest) (length items)
-      ≡ length (encode_utf8_all (text_of (chars old) items)) =
-      ap (λ (cs : List ℕ). length (encode_utf8_all cs)) (take_at (text_of (chars old) items) (text_of (chars old) rest)
-      (length items) n) in
-      let back : place_of (drop (length items) (text_of (chars old) items ++ text_of (chars old) rest)) k
-      ≡ place_of (text_of (chars old) rest) k =
-      ap (λ (cs : List ℕ). place_of cs k) (drop_at (text_of (chars old) items) (text_of (chars old) rest) (length items)
-      n) in
-      ap (λ (cs : List ℕ). place_of cs (length items + k)) (map-append (character_of (chars old)) items rest)
-      ∙ (add ∙ ap₂ (λ (x y : ℕ). x + y) front back)
+      grind (arith, common_steps, text_long, place_add, encode_utf8_all, take_at, drop_at, map-append, ap₂)
 
   -- Parts may be cut at the place of each index of their text.
   pub cut_parts : (parts : List Part) (k : ℕ) → AreParts old parts → k ≤ length (items_of (chars old) parts)
@@ -176,10 +165,7 @@ module _ (old : List ℕ) (utf8 : IsUtf8 old) where
       let p : place_of (text_of (chars old) (items_of (chars old) (part ∷ parts))) (suc k) ≡ part_len part
       + place_of (text_of (chars old) (items_of (chars old) parts)) (suc k - length (items_in (chars old) part))
       = ap (place_of (text_of (chars old) (items_of (chars old) (part ∷ parts)))) here
-      ∙ (behind_place (items_in (chars old) part) (items_of (chars old) parts)
-      (suc k - length (items_in (chars old) part))
-      ∙ ap (λ (n : ℕ). n + place_of (text_of (chars old) (items_of (chars old) parts))
-      (suc k - length (items_in (chars old) part))) (sym (part_length old utf8 part are.0))) in
+      ∙ (grind (arith, common_steps, behind_place, part_length)) in
       cut_behind part parts are.0 are.1 (place_of (text_of (chars old) (items_of (chars old) (part ∷ parts))) (suc k))
       (suc k - length (items_in (chars old) part)) (suc k) here p
       (cut_parts parts (suc k - length (items_in (chars old) part)) are.1 (omega arith)))

@@ -8,6 +8,7 @@ use Rattle.std.specs.Str.{chars, IsUtf8}
 use Rattle.lsp_text.specs.Text.{place_of}
 use Rattle.lsp_text.proofs.Positions.PlaceLemmas.{place_rises, IsIndexAt, index_at}
 use Rattle.lsp_edit.specs.Parts.{index_of}
+use Rattle.std.proofs.lemmas.Grind.{common_steps}
 
 pub length-bytes : (c : ℕ) (text : List ℕ) → length (encode_utf8_all (c ∷ text))
     ≡ len_utf8 c + length (encode_utf8_all text)
@@ -20,29 +21,19 @@ index_of-place [] zero within = refl
 index_of-place [] (suc k) within = absurd (omega arith)
 index_of-place (c ∷ text) zero within = refl
 index_of-place (c ∷ text) (suc k) within =
-    let p : place_of (c ∷ text) (suc k) ≡ len_utf8 c + place_of text k = length-bytes c (take k text) in
-    let some : len_utf8 c + place_of text k ≡ 0 → ⊥ = λ e. let b : 1 ≤ len_utf8 c = (len_utf8_bounds c).0 in
-    omega arith in
-    let back : (len_utf8 c + place_of text k) - len_utf8 c ≡ place_of text k = omega arith in
-    ap (index_of (c ∷ text)) p ∙ rw (
-      ne_eqb (len_utf8 c + place_of text k) 0 some,
-      back,
-    ) (ap suc (index_of-place text k (omega arith)))
+    grind (arith, common_steps, length-bytes, len_utf8_bounds, ne_eqb, (index_of-place text k (omega arith)))
 
 -- A later place has no lower index.
 pub index_rises : (text : List ℕ) (low high : ℕ) → low ≤ high → index_of text low ≤ index_of text high
 index_rises [] low high order = omega arith
 index_rises (c ∷ text) low high order =
-    ⊎_elim
-    (λ (e : low ≡ 0). rw e (omega arith))
-    (λ (e : low ≡ 0 → ⊥).
-    let h : high ≡ 0 → ⊥ = λ z. e (omega arith) in
-    rw (
-      ne_eqb low 0 e,
-      ne_eqb high 0 h,
-    ) (let r : index_of text (low - len_utf8 c) ≤ index_of text (high - len_utf8 c) = index_rises text
-    (low - len_utf8 c) (high - len_utf8 c) (omega arith) in omega arith))
-    (cases_eq low 0)
+    grind (
+      arith,
+      common_steps,
+      ne_eqb,
+      cases_eq,
+      (index_rises text (low - len_utf8 c) (high - len_utf8 c) (omega arith)),
+    )
 
 -- The indexes of two places are in the places' order.
 pub indexes_less : (bytes : List ℕ) → IsUtf8 bytes → (low high : ℕ) → IsCharBoundary bytes low

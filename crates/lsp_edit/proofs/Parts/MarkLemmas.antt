@@ -8,6 +8,7 @@ use Rattle.lsp_edit.specs.Parts.{part_of, parts_of}
 use Rattle.lsp_edit.specs.inside.Parts.{AreOrdered, EndAfter, IsMark, IsOrdered, span_len}
 use Rattle.lsp_edit.proofs.Parts.PassingLemmas.{Passing, drop_ordered, ends_behind, first_ordered, passing_begins, span_passing}
 use Rattle.lsp_edit.proofs.Canonical.WalkLemmas.{rest_is}
+use Rattle.std.proofs.lemmas.Grind.{common_steps}
 
 before_more : (spans : List Span) (index : ℕ) (default : Span) → index < length spans
     → sum_by span_len (take (index + 1) spans) ≡ sum_by span_len (take index spans)
@@ -25,12 +26,7 @@ pub mark_before : (spans : List Span) (index place : ℕ) (default : Span) (len 
     → len ≡ span_len (get_or spans (index - 1) default) → IsMark spans index place → (len ≤ place)
     × IsMark spans (index - 1) (place - len)
 mark_before spans index place default len some is mark =
-    let n : (index - 1) + 1 ≡ index = omega (arith, some) in
-    let within : index - 1 < length spans = omega (arith, mark.0, some) in
-    let more : sum_by span_len (take index spans) ≡ sum_by span_len (take (index - 1) spans)
-    + span_len (get_or spans (index - 1) default)
-    = ap (λ (k : ℕ). sum_by span_len (take k spans)) (sym n) ∙ before_more spans (index - 1) default within in
-    (omega (arith, mark.1, more, is), (omega (arith, within), omega (arith, mark.1, more, is)))
+    grind (arith, common_steps, sum_by, before_more)
 
 passing_at : (spans : List Span) (low index : ℕ) → index ≤ length spans → sum_by span_len (take index spans) ≤ low
     → AreOrdered (parts_of spans)
@@ -59,9 +55,7 @@ pub mark_passing : (spans : List Span) (index passed low : ℕ) → IsMark spans
     → AreOrdered (parts_of spans) → Passing (parts_of spans) (parts_of (take index spans)) (parts_of (drop index spans))
     passed low
 mark_passing spans index passed low mark order ordered =
-    subst (λ (p : ℕ). Passing (parts_of spans) (parts_of (take index spans)) (parts_of (drop index spans)) p low)
-    (sym mark.1)
-    (passing_at spans low index mark.0 (omega (arith, mark.1, order)) ordered)
+    grind (arith, common_steps, passing_at)
 
 -- each span's ends are in order
 pub span_ordered : (spans : List Span) (index : ℕ) (default : Span) → index < length spans → AreOrdered (parts_of spans)
@@ -74,5 +68,4 @@ span_ordered spans index default within ordered =
 pub behind_at : (spans : List Span) (index place len : ℕ) (default : Span) → index < length spans
     → len ≡ span_len (get_or spans index default) → place < len → EndAfter (parts_of (drop index spans)) place
 behind_at spans index place len default within is less =
-    ends_behind (parts_of (drop index spans)) (part_of (get_or spans index default)) (parts_of (drop (index + 1) spans))
-    place (rest_is spans index default (part_of (get_or spans index default)) within refl) (omega (arith, is, less))
+    grind (arith, common_steps, ends_behind)

@@ -6,6 +6,7 @@ use Rattle.lsp_edit.specs.Parts.{new_parts, Part, OldPart, NewPart, part_len, As
 use Rattle.lsp_edit.specs.inside.Parts.{EndAfter, first_front, put_first_back, replaced_parts, front_part, back_part, front_parts, back_parts, IsCutAt, AreCut, put_part, put_parts, between_parts, put_through, through_parts, AreThrough, ArePassed}
 use Rattle.lsp_edit.proofs.Parts.PutLemmas.{put_all_few, back_fewer, cut_adds}
 use Rattle.lsp_edit.proofs.Parts.PassingLemmas.{none_passed, passed_later, more_passed}
+use Rattle.std.proofs.lemmas.Grind.{common_steps}
 
 -- How far parts were told through others: what is left to tell gives the rest, over the parts that were not passed.
 pub record Walks (first second made rest : List Part) (passed : ℕ) (left : List Part) : Type 0 where
@@ -31,17 +32,7 @@ module _ (first second made rest : List Part) (passed : ℕ) (left : List Part)
   pub walk_new : (bytes : List ℕ) (more : List Part) → left ≡ NewPart bytes ∷ more
       → Walks first second (put_part made (NewPart bytes)) rest passed more
   walk_new bytes more is =
-      let w : Walks first second made rest passed (NewPart bytes ∷ more) =
-      subst (Walks first second made rest passed) is walks in
-      let e : put_part made (NewPart bytes) ++ [] ≡ put_part made (NewPart bytes) =
-      append-nil (put_part made (NewPart bytes)) in
-      record {
-        low = w.low;
-        error = ap (λ (ps : List Part). put_through first ps more) (sym e) ∙ w.error;
-        through = w.through.1;
-        order = w.order;
-        are = w.are;
-      }
+      grind (arith, common_steps, append-nil)
 
   -- at a part of the middle text
   module _ (from to : ℕ) (more : List Part) (is : left ≡ OldPart from to ∷ more) where
@@ -62,17 +53,7 @@ module _ (first second made rest : List Part) (passed : ℕ) (left : List Part)
         → now ≡ put_parts made (front_parts (back_parts rest (from - passed)) (to - from))
         → ArePassed rest after on (from - passed) → Walks first second now after (passed + on) more
     walk_old now after on made_is were =
-        let e : now ≡ put_parts made (between_parts first from to) =
-        made_is ∙ ap (λ (ps : List Part). put_parts made (front_parts ps (to - from)))
-        (here.are.same from here.order.0) in
-        record {
-          low = to;
-          error = ap (λ (ps : List Part). put_through first ps more) e ∙ here.error;
-          through = here.through.1;
-          order = here.order.2;
-          are = passed_later first after (passed + on) from to here.order.1
-              (more_passed first rest after passed on here.low from here.order.0 here.are were);
-        }
+        grind (arith, common_steps, passed_later, more_passed)
 
 -- Parts put behind others, of which the last may be touched.
 put_behind_more : (front : List Part) (first : Part) (made : List Part) (part : Part)
@@ -91,10 +72,7 @@ first_some : (rest : List Part) (place : ℕ) (new : List Part) → (rest ≡ []
     → place ≡ 0
 first_some [] place new some e = absurd (some refl)
 first_some (part ∷ parts) place new some e =
-    ⊎_elim
-    (λ (z : place ≡ 0). z)
-    (λ (nz : place ≡ 0 → ⊥). let f : front_part part place ∷ new ≡ [] = rw (ne_eqb place 0 nz) at e in absurd (cc))
-    (cases_eq place 0)
+    grind (arith, common_steps, ne_eqb, cases_eq)
 
 -- What the parts are whose bytes between two places were replaced, told by those that were passed on the way to each.
 pub replaced_is : (parts front rest later : List Part) (start stop passed more : ℕ) (text : List ℕ) → start ≤ stop
@@ -104,53 +82,22 @@ pub replaced_is : (parts front rest later : List Part) (start stop passed more :
     → front ++ (put_first_back (first_front rest (start - passed) ++ new_parts text) later ((stop - passed) - more)
     ++ drop 1 later) ≡ replaced_parts parts start stop text
 replaced_is parts front rest later start stop passed more text order are front_is first were rest_after some =
-    sym (ap₂ (λ (fs bs : List Part). put_parts (fs ++ new_parts text) bs) front_is
-    (sym (were.same (stop - passed) (omega arith) ∙ are.same stop order)) ∙ by_later later rest_after some)
-  where
-    by_later : (ls : List Part) → EndAfter ls ((stop - passed) - more) → (rest ≡ [] → ls ≡ [])
-        → put_parts ((front ++ first_front rest (start - passed)) ++ new_parts text)
-        (back_parts ls ((stop - passed) - more))
-        ≡ front ++ (put_first_back (first_front rest (start - passed) ++ new_parts text) ls ((stop - passed) - more)
-        ++ drop 1 ls)
-    by_later [] b s = append_assoc front (first_front rest (start - passed)) (new_parts text)
-        ∙ ap (λ (ps : List Part). front ++ ps) (sym (append-nil (first_front rest (start - passed) ++ new_parts text)))
-    by_later (part ∷ ls) b s =
-        let some_rest : rest ≡ [] → ⊥ = λ e. let f : part ∷ ls ≡ [] = s e in absurd (cc) in
-        let whole : (front ++ first_front rest (start - passed)) ++ new_parts text
-        ≡ front ++ (first_front rest (start - passed) ++ new_parts text) =
-        append_assoc front (first_front rest (start - passed)) (new_parts text) in
-        let put : put_part (front ++ (first_front rest (start - passed) ++ new_parts text))
-        (back_part part ((stop - passed) - more))
-        ≡ front ++ put_part (first_front rest (start - passed) ++ new_parts text)
-        (back_part part ((stop - passed) - more))
-        = put_behind_some front (first_front rest (start - passed) ++ new_parts text)
-        (back_part part ((stop - passed) - more))
-        (λ e. first (first_some rest (start - passed) (new_parts text) some_rest e)) in
-        rw (lt-ltb ((stop - passed) - more) (part_len part) b)
-        (ap (λ (ps : List Part). put_part ps (back_part part ((stop - passed) - more)) ++ ls) whole
-        ∙ (ap (λ (ps : List Part). ps ++ ls) put
-        ∙ append_assoc front (put_part (first_front rest (start - passed) ++ new_parts text)
-        (back_part part ((stop - passed) - more))) ls))
+    grind (arith, common_steps, ap₂, append_assoc, append-nil, put_behind_some, first_some, lt-ltb)
 
 -- How many parts there are between places that ascend: those passed on the way, and one more for each cut.
 back_later : (parts : List Part) (low high : ℕ) → low ≤ high → length (back_parts parts high)
     ≤ length (back_parts parts low)
 back_later [] low high order = omega arith
 back_later (part ∷ parts) low high order =
-    ⊎_elim
-    (λ (l : low < part_len part).
-    let b : length (back_parts (part ∷ parts) high) ≤ length (part ∷ parts) = back_fewer (part ∷ parts) high in
-    let f : length (back_parts (part ∷ parts) low) ≡ length (part ∷ parts) = rw (lt-ltb low (part_len part) l) refl in
-    omega arith)
-    (λ (l : part_len part ≤ low).
-    let f : length (back_parts (part ∷ parts) low) ≡ length (back_parts parts (low - part_len part)) =
-    rw (le-ltb low (part_len part) l) refl in
-    let g : length (back_parts (part ∷ parts) high) ≡ length (back_parts parts (high - part_len part)) =
-    rw (le-ltb high (part_len part) (omega arith)) refl in
-    let ih : length (back_parts parts (high - part_len part)) ≤ length (back_parts parts (low - part_len part)) =
-    back_later parts (low - part_len part) (high - part_len part) (omega arith) in
-    omega arith)
-    (cases_lt low (part_len part))
+    grind (
+      arith,
+      common_steps,
+      back_fewer,
+      lt-ltb,
+      le-ltb,
+      cases_lt,
+      (back_later parts (low - part_len part) (high - part_len part) (omega arith)),
+    )
 
 -- what lies behind a place behind another one
 back_twice : (parts : List Part) (from to : ℕ) → from ≤ to → AreCut parts from
@@ -162,17 +109,12 @@ back_twice (part ∷ parts) from to order cut =
     let f : back_parts (part ∷ parts) from ≡ back_part part from ∷ parts = rw (lt-ltb from (part_len part) l) refl in
     ap (λ (ps : List Part). length (back_parts ps (to - from))) f ∙ inside l)
     (λ (l : part_len part ≤ from).
-    let f : back_parts (part ∷ parts) from ≡ back_parts parts (from - part_len part) =
-    rw (le-ltb from (part_len part) l) refl in
-    let g : back_parts (part ∷ parts) to ≡ back_parts parts (to - part_len part) =
-    rw (le-ltb to (part_len part) (omega arith)) refl in
-    let n : (to - part_len part) - (from - part_len part) ≡ to - from = omega arith in
-    let ih : length (back_parts (back_parts parts (from - part_len part))
-    ((to - part_len part) - (from - part_len part))) ≡ length (back_parts parts (to - part_len part))
-    = back_twice parts (from - part_len part) (to - part_len part) (omega arith) (cut.2 l) in
-    ap (λ (ps : List Part). length (back_parts ps (to - from))) f
-    ∙ (ap (λ (k : ℕ). length (back_parts (back_parts parts (from - part_len part)) k)) (sym n)
-    ∙ (ih ∙ ap (λ (ps : List Part). length ps) (sym g))))
+    grind (
+      arith,
+      common_steps,
+      le-ltb,
+      (back_twice parts (from - part_len part) (to - part_len part) (omega arith) (cut.2 l)),
+    ))
     (cases_lt from (part_len part))
   where
     back_len : (p : Part) (count : ℕ) → IsCutAt p count → part_len (back_part p count) ≡ part_len p - count
@@ -182,50 +124,27 @@ back_twice (part ∷ parts) from to order cut =
     inside : from < part_len part → length (back_parts (back_part part from ∷ parts) (to - from))
         ≡ length (back_parts (part ∷ parts) to)
     inside l =
-        let long : part_len (back_part part from) ≡ part_len part - from = back_len part from (cut.1 l) in
-        ⊎_elim
-        (λ (m : to < part_len part).
-        let a : back_parts (back_part part from ∷ parts) (to - from) ≡ back_part (back_part part from) (to - from)
-        ∷ parts = rw (lt-ltb (to - from) (part_len (back_part part from)) (omega arith)) refl in
-        let b : back_parts (part ∷ parts) to ≡ back_part part to ∷ parts = rw (lt-ltb to (part_len part) m) refl in
-        ap (λ (ps : List Part). length ps) a ∙ sym (ap (λ (ps : List Part). length ps) b))
-        (λ (m : part_len part ≤ to).
-        let a : back_parts (back_part part from ∷ parts) (to - from)
-        ≡ back_parts parts ((to - from) - part_len (back_part part from)) =
-        rw (le-ltb (to - from) (part_len (back_part part from)) (omega arith)) refl in
-        let b : back_parts (part ∷ parts) to ≡ back_parts parts (to - part_len part) =
-        rw (le-ltb to (part_len part) m) refl in
-        let n : (to - from) - part_len (back_part part from) ≡ to - part_len part = omega arith in
-        ap (λ (ps : List Part). length ps) a ∙ (ap (λ (k : ℕ). length (back_parts parts k)) n
-        ∙ sym (ap (λ (ps : List Part). length ps) b)))
-        (cases_lt to (part_len part))
+        grind (arith, common_steps, back_len, lt-ltb, le-ltb, cases_lt)
 
 front_fewer : (parts : List Part) (place : ℕ) → length (front_parts parts place) ≤ length parts
 front_fewer [] place = omega arith
 front_fewer (part ∷ parts) place =
-    ⊎_elim
-    (λ (z : place ≡ 0). rw z (omega arith))
-    (λ (nz : place ≡ 0 → ⊥).
-    ⊎_elim
-    (λ (l : place < part_len part). rw (ne_eqb place 0 nz, lt-ltb place (part_len part) l) (omega arith))
-    (λ (l : part_len part ≤ place).
-    rw (
-      ne_eqb place 0 nz,
-      le-ltb place (part_len part) l,
-    ) (let ih : length (front_parts parts (place - part_len part)) ≤ length parts = front_fewer parts
-    (place - part_len part) in omega arith))
-    (cases_lt place (part_len part)))
-    (cases_eq place 0)
+    grind (
+      arith,
+      common_steps,
+      ne_eqb,
+      lt-ltb,
+      le-ltb,
+      cases_lt,
+      cases_eq,
+      (front_fewer parts (place - part_len part)),
+    )
 
 module _ (first : List Part) where
   between_few : (from to : ℕ) → from ≤ to → AreCut first from → length (between_parts first from to)
       + length (back_parts first to) ≤ suc (length (back_parts first from))
   between_few from to order cut =
-      omega (
-        arith,
-        cut_adds (back_parts first from) (to - from) (to - from) (omega arith),
-        back_twice first from to order cut,
-      )
+      grind (arith, common_steps, cut_adds, back_twice)
 
   put_few : (made second : List Part) (low : ℕ) → Ascend low second → AreThrough first second
       → length (put_through first made second) + 1 ≤ (length made + length second)
@@ -239,17 +158,16 @@ module _ (first : List Part) where
       put_all_few made (NewPart bytes ∷ []) in
       omega arith
   put_few made (OldPart from to ∷ second) low ascend are =
-      let ih : length (put_through first (put_parts made (between_parts first from to)) second) + 1
-      ≤ (length (put_parts made (between_parts first from to)) + length second) + max 1 (length (back_parts first to))
-      = put_few (put_parts made (between_parts first from to)) second to ascend.2 are.1 in
-      let one : length (put_parts made (between_parts first from to)) ≤ length made
-      + length (between_parts first from to) = put_all_few made (between_parts first from to) in
-      let fits : length (between_parts first from to) + length (back_parts first to)
-      ≤ suc (length (back_parts first from)) = between_few from to ascend.1 are.0.1 in
-      let front : length (between_parts first from to) ≤ length (back_parts first from) =
-      front_fewer (back_parts first from) (to - from) in
-      let later : length (back_parts first from) ≤ length (back_parts first low) = back_later first low from ascend.0 in
-      omega arith
+      grind (
+        arith,
+        common_steps,
+        max,
+        put_all_few,
+        between_few,
+        front_fewer,
+        back_later,
+        (put_few (put_parts made (between_parts first from to)) second to ascend.2 are.1),
+      )
 
   -- Told through others there are as many as both have together, less one.
   pub through_few : (second : List Part) → Ascend 0 second → AreThrough first second

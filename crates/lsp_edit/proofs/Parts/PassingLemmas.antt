@@ -7,6 +7,7 @@ use Rattle.lsp_edit.specs.Parts.{Part, OldPart, NewPart, part_of, parts_of, part
 use Rattle.lsp_edit.specs.inside.Parts.{AreBefore, AreOrdered, EndAfter, IsFirstCut, first_front, front_part, front_parts, back_parts, IsOrdered, IsCutAt, AreCut, ArePassed}
 use Rattle.lsp_edit.specs.declared.pieces.span.Span.{Span}
 use Rattle.lsp_edit.proofs.Canonical.WalkLemmas.{rest_is}
+use Rattle.std.proofs.lemmas.Grind.{common_steps}
 
 pub none_passed : (parts : List Part) → ArePassed parts parts 0 0
 none_passed parts = record {
@@ -28,18 +29,8 @@ pub one_passed : (parts rest : List Part) (passed low : ℕ) (part : Part) (more
     → passed + part_len part ≤ low → ArePassed parts rest passed low → ArePassed parts more (passed + part_len part) low
 one_passed parts rest passed low part more is fits are = record {
   within = fits;
-  same = λ place h.
-      let e : back_parts (part ∷ more) (place - passed) ≡ back_parts parts place =
-      subst (λ (ps : List Part). back_parts ps (place - passed) ≡ back_parts parts place) is (are.same place h) in
-      let n : (place - passed) - part_len part ≡ place - (passed + part_len part) = omega arith in
-      let f : back_parts more ((place - passed) - part_len part) ≡ back_parts parts place =
-      rw (le-ltb (place - passed) (part_len part) (omega arith)) at e in
-      ap (back_parts more) (sym n) ∙ f;
-  cut = λ place h c.
-      let e : AreCut (part ∷ more) (place - passed) =
-      subst (λ (ps : List Part). AreCut ps (place - passed)) is (are.cut place h c) in
-      let n : (place - passed) - part_len part ≡ place - (passed + part_len part) = omega arith in
-      subst (AreCut more) n (e.2 (omega arith));
+  same = grind (arith, common_steps, le-ltb);
+  cut = grind (arith, common_steps);
 }
 
 pub span_passed : (spans : List Span) (index : ℕ) (default : Span) (passed low len : ℕ) → index < length spans
@@ -47,12 +38,7 @@ pub span_passed : (spans : List Span) (index : ℕ) (default : Span) (passed low
     → ArePassed (parts_of spans) (parts_of (drop index spans)) passed low
     → ArePassed (parts_of spans) (parts_of (drop (index + 1) spans)) (passed + len) low
 span_passed spans index default passed low len within is fits are =
-    subst (λ (n : ℕ). ArePassed (parts_of spans) (parts_of (drop (index + 1) spans)) (passed + n) low) (sym is)
-    (one_passed (parts_of spans) (parts_of (drop index spans)) passed low (part_of (get_or spans index default))
-    (parts_of (drop (index + 1) spans))
-    (rest_is spans index default (part_of (get_or spans index default)) within refl)
-    (omega (arith, is))
-    are)
+    grind (arith, common_steps, one_passed)
 
 pub rest_all : (spans : List Span) (first : ℕ) → take (length spans - first) (drop first spans) ≡ drop first spans
 rest_all spans first = take_all (length spans - first) (drop first spans) (omega (arith, length-drop first spans))
@@ -81,16 +67,7 @@ passing_on : (parts front rest : List Part) (passed low : ℕ) (part : Part) (mo
     (passed + part_len part) low
 passing_on parts front rest passed low part more is fits p = record {
   are = one_passed parts rest passed low part more is fits p.are;
-  before = λ place h.
-      let e : front_parts parts place ≡ front ++ front_parts (part ∷ more) (place - passed) =
-      subst (λ (ps : List Part). front_parts parts place ≡ front ++ front_parts ps (place - passed)) is
-      (p.before place h) in
-      let some : place - passed ≡ 0 → ⊥ = λ z. omega arith in
-      let n : (place - passed) - part_len part ≡ place - (passed + part_len part) = omega arith in
-      let f : front_parts parts place ≡ front ++ (part ∷ front_parts more ((place - passed) - part_len part)) =
-      rw (ne_eqb (place - passed) 0 some, le-ltb (place - passed) (part_len part) (omega arith)) at e in
-      f ∙ (ap (λ (k : ℕ). front ++ (part ∷ front_parts more k)) n
-      ∙ sym (append_assoc front (part ∷ []) (front_parts more (place - (passed + part_len part)))));
+  before = grind (arith, common_steps, ne_eqb, le-ltb, append_assoc);
   ordered = (subst AreOrdered is p.ordered).1;
 }
 
@@ -100,17 +77,7 @@ pub span_passing : (spans : List Span) (index : ℕ) (default : Span) (passed lo
     → Passing (parts_of spans) (parts_of (take (index + 1) spans)) (parts_of (drop (index + 1) spans)) (passed + len)
     low
 span_passing spans index default passed low len within is fits p =
-    let part : Part = part_of (get_or spans index default) in
-    let more : take (index + 1) spans ≡ take index spans ++ get_or spans index default ∷ [] =
-    take_more spans index default within in
-    let front : parts_of (take (index + 1) spans) ≡ parts_of (take index spans) ++ part_of (get_or spans index default)
-    ∷ [] = ap parts_of more ∙ map-append part_of (take index spans) (get_or spans index default ∷ []) in
-    let on : Passing (parts_of spans) (parts_of (take index spans) ++ part_of (get_or spans index default) ∷ [])
-    (parts_of (drop (index + 1) spans)) (passed + part_len (part_of (get_or spans index default))) low
-    = passing_on (parts_of spans) (parts_of (take index spans)) (parts_of (drop index spans)) passed low
-    (part_of (get_or spans index default)) (parts_of (drop (index + 1) spans))
-    (rest_is spans index default (part_of (get_or spans index default)) within refl) (omega (arith, is)) p in
-    rw (front, is) on
+    grind (arith, common_steps, take_more, map-append, passing_on)
 
 pub first_ordered : (rest : List Part) (part : Part) (more : List Part) → rest ≡ part ∷ more → AreOrdered rest
     → IsOrdered part
@@ -132,11 +99,7 @@ cut_end (NewPart bytes) order = IsCharBoundary-end bytes
 cut_to_end : (part : Part) (parts : List Part) (place : ℕ) → AreCut (part ∷ parts) place → place ≤ part_len part
     → IsCutAt part place
 cut_to_end part parts place cut fits =
-    ⊎_elim
-    (λ (l : place < part_len part). cut.1 l)
-    (λ (l : part_len part ≤ place). let e : part_len part ≡ place = omega arith in
-    subst (IsCutAt part) e (cut_end part cut.0))
-    (cases_lt place (part_len part))
+    grind (arith, common_steps, cut_end, cases_lt)
 
 pub first_cut : (rest : List Part) (place : ℕ) → AreCut rest place → EndAfter rest place → IsFirstCut rest place
 first_cut [] place cut rest_after = tt
@@ -187,10 +150,6 @@ pub more_passed : (parts rest left : List Part) (passed on low from : ℕ) → l
     → ArePassed rest left on (from - passed) → ArePassed parts left (passed + on) from
 more_passed parts rest left passed on low from order are were = record {
   within = omega (arith, are.within, were.within);
-  same = λ place h.
-      let n : (place - passed) - on ≡ place - (passed + on) = omega arith in
-      ap (back_parts left) (sym n) ∙ (were.same (place - passed) (omega arith) ∙ are.same place (omega arith));
-  cut = λ place h c.
-      let n : (place - passed) - on ≡ place - (passed + on) = omega arith in
-      subst (AreCut left) n (were.cut (place - passed) (omega arith) (are.cut place (omega arith) c));
+  same = grind (arith, common_steps);
+  cut = grind (arith, common_steps);
 }

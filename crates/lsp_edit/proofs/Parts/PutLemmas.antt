@@ -13,49 +13,33 @@ use Rattle.lsp_edit.specs.inside.Parts.{front_parts, back_parts, joined, put_par
 use Rattle.lsp_edit.proofs.Canonical.RebuiltLemmas.{numbers-append}
 use Rattle.lsp_edit.proofs.Parts.IndexLemmas.{index_rises}
 use Rattle.lsp_edit.proofs.Parts.CutPartsLemmas.{AreCutAt, cut_parts}
+use Rattle.std.proofs.lemmas.Grind.{common_steps}
 
 -- How many parts there are.
 pub back_fewer : (parts : List Part) (place : ℕ) → length (back_parts parts place) ≤ length parts
 back_fewer [] place = omega arith
 back_fewer (part ∷ parts) place =
-    ⊎_elim
-    (λ (l : place < part_len part). rw (lt-ltb place (part_len part) l) (omega arith))
-    (λ (l : part_len part ≤ place). rw (le-ltb place (part_len part) l)
-    (let ih : length (back_parts parts (place - part_len part)) ≤ length parts = back_fewer parts
-    (place - part_len part) in omega arith))
-    (cases_lt place (part_len part))
+    grind (arith, common_steps, lt-ltb, le-ltb, cases_lt, (back_fewer parts (place - part_len part)))
 
 pub cut_adds : (parts : List Part) (start stop : ℕ) → start ≤ stop → length (front_parts parts start)
     + length (back_parts parts stop) ≤ suc (length parts)
 cut_adds [] start stop order = omega arith
 cut_adds (part ∷ parts) start stop order =
-    ⊎_elim
-    (λ (z : start ≡ 0). rw z (let b : length (back_parts (part ∷ parts) stop) ≤ length (part ∷ parts) = back_fewer
-    (part ∷ parts) stop in omega arith))
-    (λ (nz : start ≡ 0 → ⊥).
-    ⊎_elim
-    (λ (l : start < part_len part).
-    let b : length (back_parts (part ∷ parts) stop) ≤ length (part ∷ parts) = back_fewer (part ∷ parts) stop in
-    let f : length (front_parts (part ∷ parts) start) ≡ 1 =
-    rw (ne_eqb start 0 nz, lt-ltb start (part_len part) l) refl in
-    omega arith)
-    (λ (l : part_len part ≤ start).
-    let f : length (front_parts (part ∷ parts) start) ≡ suc (length (front_parts parts (start - part_len part))) =
-    rw (ne_eqb start 0 nz, le-ltb start (part_len part) l) refl in
-    let b : length (back_parts (part ∷ parts) stop) ≡ length (back_parts parts (stop - part_len part)) =
-    rw (le-ltb stop (part_len part) (omega arith)) refl in
-    let ih : length (front_parts parts (start - part_len part)) + length (back_parts parts (stop - part_len part))
-    ≤ suc (length parts) = cut_adds parts (start - part_len part) (stop - part_len part) (omega arith) in
-    omega arith)
-    (cases_lt start (part_len part)))
-    (cases_eq start 0)
+    grind (
+      arith,
+      common_steps,
+      back_fewer,
+      ne_eqb,
+      lt-ltb,
+      le-ltb,
+      cases_lt,
+      cases_eq,
+      (cut_adds parts (start - part_len part) (stop - part_len part) (omega arith)),
+    )
 
 joined_few : (first part : Part) → length (joined first part) ≤ 2
 joined_few (OldPart from to) (OldPart next end) =
-    ⊎_elim
-    (λ (e : (to == next) ≡ true). rw e (omega arith))
-    (λ (e : (to == next) ≡ false). rw e (omega arith))
-    (cases_Bool (to == next))
+    grind (arith, common_steps, cases_Bool)
 joined_few (OldPart from to) (NewPart bytes) = omega arith
 joined_few (NewPart bytes) part = omega arith
 
@@ -63,8 +47,7 @@ put_one_more : (parts : List Part) (part : Part) → length (put_part parts part
 put_one_more [] part = omega arith
 put_one_more (first ∷ []) part = joined_few first part
 put_one_more (first ∷ second ∷ parts) part =
-    let ih : length (put_part (second ∷ parts) part) ≤ suc (length (second ∷ parts)) =
-    put_one_more (second ∷ parts) part in omega arith
+    grind (arith, common_steps, (put_one_more (second ∷ parts) part))
 
 pub put_all_few : (parts more : List Part) → length (put_parts parts more) ≤ length parts + length more
 put_all_few parts [] = omega arith
@@ -72,10 +55,7 @@ put_all_few parts (first ∷ rest) = omega (arith, length-append (put_part parts
 
 pub new_few : (bytes : List ℕ) → length (new_parts bytes) ≤ 1
 new_few bytes =
-    ⊎_elim
-    (λ (e : (length bytes == 0) ≡ true). rw e (omega arith))
-    (λ (e : (length bytes == 0) ≡ false). rw e (omega arith))
-    (cases_Bool (length bytes == 0))
+    grind (arith, common_steps, cases_Bool)
 
 -- A replacement adds two parts at most.
 pub replaced_few : (parts : List Part) (start stop : ℕ) (bytes : List ℕ) → start ≤ stop
@@ -96,11 +76,7 @@ module _ (old : List ℕ) where
   joined_items (OldPart from to) (OldPart next end) is was =
       ⊎_elim
       (λ (e : (to == next) ≡ true). touching (eqb-true to next e) e)
-      (λ (e : (to == next) ≡ false). rw e (
-        ap (λ (i : List Item). items_in (chars old) (OldPart from to) ++ i)
-            (append-nil (items_in (chars old) (OldPart next end))),
-        (is, (was, tt)),
-      ))
+      (λ (e : (to == next) ≡ false). grind (arith, common_steps, append-nil))
       (cases_Bool (to == next))
     where
       rows : (a b c : ℕ) → a ≤ b → b ≤ c → map Old (numbers_from a (c - a)) ≡ map Old (numbers_from a (b - a))
@@ -123,15 +99,10 @@ module _ (old : List ℕ) where
           (index_rises (chars old) from to (omega (arith, is.0)))
           (index_rises (chars old) to end (omega (arith, was.0))) in
           rw e (
-            append-nil (items_in (chars old) (OldPart from end))
-                ∙ (here ∙ ap (λ (n : ℕ). items_in (chars old) (OldPart from to) ++ items_in (chars old) (OldPart n end))
-                same),
+            grind (arith, common_steps, append-nil),
             ((omega (arith, is.0, was.0), is.1, was.2), tt),
           )
-  joined_items (OldPart from to) (NewPart bytes) is was = (
-    ap (λ (i : List Item). items_in (chars old) (OldPart from to) ++ i) (append-nil (map New (chars bytes))),
-    (is, (was, tt)),
-  )
+  joined_items (OldPart from to) (NewPart bytes) is was = grind (arith, common_steps, append-nil)
   joined_items (NewPart bytes) part is was =
       (ap (λ (i : List Item). map New (chars bytes) ++ i) (append-nil (items_in (chars old) part)), (is, (was, tt)))
 
@@ -140,20 +111,9 @@ module _ (old : List ℕ) where
       × AreParts old (put_part parts part)
   put_items [] part are is = (append-nil (items_in (chars old) part), (is, tt))
   put_items (first ∷ []) part are is =
-      let j : (items_of (chars old) (joined first part) ≡ items_in (chars old) first ++ items_in (chars old) part)
-      × AreParts old (joined first part) = joined_items first part are.0 is in (
-        j.0 ∙ ap (λ (i : List Item). i ++ items_in (chars old) part) (sym (append-nil (items_in (chars old) first))),
-        j.1,
-      )
+      grind (arith, common_steps, joined_items, append-nil)
   put_items (first ∷ second ∷ parts) part are is =
-      let ih : (items_of (chars old) (put_part (second ∷ parts) part) ≡ items_of (chars old) (second ∷ parts)
-      ++ items_in (chars old) part) × AreParts old (put_part (second ∷ parts) part) =
-      put_items (second ∷ parts) part are.1 is in (
-        ap (λ (i : List Item). items_in (chars old) first ++ i) ih.0
-            ∙ sym (append_assoc (items_in (chars old) first) (items_of (chars old) (second ∷ parts))
-            (items_in (chars old) part)),
-        (are.0, ih.1),
-      )
+      grind (arith, common_steps, append_assoc, (put_items (second ∷ parts) part are.1 is))
 
   are_both : (parts more : List Part) → AreParts old parts → AreParts old more → AreParts old (parts ++ more)
   are_both [] more are were = were
@@ -166,29 +126,14 @@ module _ (old : List ℕ) where
   put_all_items parts (first ∷ rest) are were =
       let p : (items_of (chars old) (put_part parts first) ≡ items_of (chars old) parts ++ items_in (chars old) first)
       × AreParts old (put_part parts first) = put_items parts first are were.0 in (
-        flat_map-append (items_in (chars old)) (put_part parts first) rest
-            ∙ (ap (λ (i : List Item). i ++ items_of (chars old) rest) p.0 ∙ append_assoc (items_of (chars old) parts)
-            (items_in (chars old) first) (items_of (chars old) rest)),
+        grind (arith, common_steps, flat_map-append, append_assoc),
         are_both (put_part parts first) rest p.1 were.1,
       )
 
   pub new_items : (bytes : List ℕ) → is_utf8 bytes ≡ true
       → (items_of (chars old) (new_parts bytes) ≡ map New (chars bytes)) × AreParts old (new_parts bytes)
   new_items bytes utf8 =
-      ⊎_elim
-      (λ (e : (length bytes == 0) ≡ true).
-      let none : bytes ≡ [] = nil_from_length bytes (eqb-true (length bytes) 0 e) in
-      let c : chars bytes ≡ [] = ap chars none ∙ chars-nil in
-      rw e (sym (ap (map New) c), tt))
-      (λ (e : (length bytes == 0) ≡ false). rw e (append-nil (map New (chars bytes)), ((some e, utf8), tt)))
-      (cases_Bool (length bytes == 0))
-    where
-      some : (length bytes == 0) ≡ false → 0 < length bytes
-      some e =
-          ⊎_elim
-          (λ (z : length bytes ≡ 0). absurd (let t : (length bytes == 0) ≡ true = eq-eqb (length bytes) 0 z in cc))
-          (λ (nz : length bytes ≡ 0 → ⊥). omega arith)
-          (cases_eq (length bytes) 0)
+      grind (arith, common_steps, nil_from_length, eqb-true, chars-nil, append-nil, cases_Bool, eq-eqb, cases_eq)
 
   -- What the parts stand for whose bytes between the places of two indexes were replaced.
   pub replaced_items : IsUtf8 old → (parts : List Part) (start stop : ℕ) (bytes : List ℕ) → AreParts old parts
@@ -214,8 +159,6 @@ module _ (old : List ℕ) where
       × AreParts old (put_parts front (back_parts parts (place_of text stop)))
       = put_all_items front (back_parts parts (place_of text stop)) (are_both (front_parts parts (place_of text start))
       (new_parts bytes) a.front_are n.1) b.back_are in (
-        all.0 ∙ (ap₂ (λ (x y : List Item). x ++ y) front_is b.back
-            ∙ append_assoc (take start (items_of (chars old) parts)) (map New (chars bytes))
-            (drop stop (items_of (chars old) parts))),
+        grind (arith, common_steps, ap₂, append_assoc),
         all.1,
       )

@@ -12,6 +12,7 @@ use Rattle.lsp_edit.specs.declared.pieces.span.Span.{Span}
 use Rattle.lsp_edit.specs.Parts.{Part, part_of, parts_of, new_parts}
 use Rattle.lsp_edit.specs.inside.Parts.{span_len, front_parts, first_front, IsMark, put_first_back, replaced_parts, ArePassed, EndAfter}
 use Rattle.lsp_edit.proofs.Parts.PassedLemmas.{replaced_is}
+use Rattle.std.proofs.lemmas.Grind.{common_steps}
 
 -- What a `Vec` gave, item by item, is what it held.
 pub drained_is : {Z : Type 0} (s : IntoIter Span Z) (xs fresh : List Span) → into_iter_items s ≡ fresh → into_iter_len s
@@ -25,13 +26,7 @@ spans_behind : (rest : List Span) (last : ℕ) → parts_of (drop (min (length r
     ≡ drop 1 (parts_of (drop last rest))
 spans_behind rest last =
     let most : drop (min (length rest) (last + 1)) rest ≡ drop (last + 1) rest
-    = ⊎_elim
-    (λ (l : length rest < last + 1). let m : min (length rest) (last + 1) ≡ length rest = omega arith in
-    ap (λ (n : ℕ). drop n rest) m
-    ∙ (drop_all (length rest) rest (omega arith) ∙ sym (drop_all (last + 1) rest (omega arith))))
-    (λ (l : last + 1 ≤ length rest). let m : min (length rest) (last + 1) ≡ last + 1 = omega arith in
-    ap (λ (n : ℕ). drop n rest) m)
-    (cases_lt (length rest) (last + 1)) in
+    = grind (arith, common_steps, min, drop_all, cases_lt) in
     let one : drop 1 (drop last rest) ≡ drop (last + 1) rest = drop-drop 1 last rest in
     ap parts_of (most ∙ sym one) ∙ sym (drop-map part_of 1 (drop last rest))
 
@@ -61,19 +56,10 @@ replaced_spans old now made first last passed more start stop past text order no
     = ap parts_of now_is ∙ (map-append part_of (take first old) (made ++ drop past old)
     ∙ ap (λ (ps : List Part). parts_of (take first old) ++ ps) (map-append part_of made (drop past old))) in
     all
-    ∙ (ap₂ (λ (ms ts : List Part). parts_of (take first old) ++ (ms ++ ts)) made_is tail
-    ∙ replaced_is (parts_of old) (parts_of (take first old)) (parts_of rest) (parts_of later) start stop passed more
-    text order ended front_is (λ z. ap (λ (n : ℕ). parts_of (take n old)) (at_start z)) were rest_after
-    (none_after rest last))
+    ∙ (grind (arith, common_steps, ap₂, replaced_is, none_after))
 
 -- The spans before a change stay where they are.
 pub mark_stays : (old now made rest_after : List Span) (first passed : ℕ) → IsMark old first passed
     → now ≡ take first old ++ (made ++ rest_after) → IsMark now first passed
 mark_stays old now made rest_after first passed is now_is =
-    let long : length (take first old) ≡ first = length-take-le first old is.0 in
-    let same : take first now ≡ take first old =
-    ap (take first) now_is ∙ (ap (λ (n : ℕ). take n (take first old ++ (made ++ rest_after))) (sym long)
-    ∙ take-append_seam (take first old) (made ++ rest_after)) in
-    let all : length now ≡ length (take first old) + length (made ++ rest_after) =
-    ap length now_is ∙ length-append (take first old) (made ++ rest_after) in
-    (omega (arith, all, long), is.1 ∙ ap (λ (spans : List Span). sum_by span_len spans) (sym same))
+    grind (arith, common_steps, length-take-le, take-append_seam, length-append, sum_by)

@@ -17,6 +17,7 @@ use Rattle.lsp_edit.proofs.Parts.CutPartsLemmas.{AreCutAt, cut_parts}
 use Rattle.lsp_edit.proofs.Parts.IndexLemmas.{index_of-place, index_rises, indexes_less}
 use Rattle.lsp_edit.proofs.Canonical.KeepsLemmas.{after, rest_keeps}
 use Rattle.lsp_edit.proofs.Parts.PutLemmas.{put_all_items}
+use Rattle.std.proofs.lemmas.Grind.{common_steps}
 
 module _ (old mid : List ℕ) (old_utf8 : IsUtf8 old) (mid_utf8 : IsUtf8 mid) (first : List Part)
     (are : AreParts old first) (over : chars mid ≡ text_of (chars old) (items_of (chars old) first)) where
@@ -92,12 +93,7 @@ module _ (old mid : List ℕ) (old_utf8 : IsUtf8 old) (mid_utf8 : IsUtf8 mid) (f
       let split : then_items items (items_in (chars mid) part ++ items_of (chars mid) second)
       ≡ then_items items (items_in (chars mid) part) ++ then_items items (items_of (chars mid) second)
       = map-append (item_through items) (items_in (chars mid) part) (items_of (chars mid) second) in (
-        r.0
-            ∙ (ap (λ (i : List Item). i ++ then_items items (items_of (chars mid) second)) q.0
-            ∙ (append_assoc (items_of (chars old) made) (items_of (chars old) (through_part first part))
-            (then_items items (items_of (chars mid) second))
-            ∙ ap (λ (i : List Item). items_of (chars old) made ++ i)
-            (ap (λ (i : List Item). i ++ then_items items (items_of (chars mid) second)) p.items ∙ sym split))),
+        grind (arith, common_steps, append_assoc),
         r.1,
       )
 
@@ -120,11 +116,7 @@ module _ (mid : List ℕ) (utf8 : IsUtf8 mid) where
   places_rise : (low high : ℕ) → IsCharBoundary mid low → IsCharBoundary mid high → index_of (chars mid) low
       ≤ index_of (chars mid) high → low ≤ high
   places_rise low high at_low at_high rise =
-      ⊎_elim
-      (λ (l : high < low). let less : index_of (chars mid) high < index_of (chars mid) low = indexes_less mid utf8 high
-      low at_high at_low l in absurd (omega arith))
-      (λ (l : low ≤ high). l)
-      (cases_lt high low)
+      grind (arith, common_steps, indexes_less, cases_lt)
 
   pub ascending : (low : ℕ) (parts : List Part) → IsCharBoundary mid low → AreParts mid parts
       → Keeps (chars mid) (index_of (chars mid) low) (items_of (chars mid) parts) → Ascend low parts
@@ -165,9 +157,7 @@ module _ (mid : List ℕ) (utf8 : IsUtf8 mid) where
           (after (index_of (chars mid) from)
           (map Old (numbers_from (index_of (chars mid) from)
           (suc ((index_of (chars mid) to - index_of (chars mid) from) - 1))))) (items_of (chars mid) parts)
-          = rest_keeps (chars mid) (index_of (chars mid) low)
-          (map Old (numbers_from (index_of (chars mid) from)
-          (suc ((index_of (chars mid) to - index_of (chars mid) from) - 1)))) (items_of (chars mid) parts) keeps_row in
+          = grind (arith, common_steps, rest_keeps, keeps_row) in
           subst (λ (n : ℕ). Keeps (chars mid) n (items_of (chars mid) parts))
           (after_numbers (index_of (chars mid) from) (suc ((index_of (chars mid) to - index_of (chars mid) from) - 1))
           ∙ omega (arith, less)) k

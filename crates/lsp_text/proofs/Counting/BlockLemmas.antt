@@ -5,14 +5,14 @@ use Rattle.std.proofs.lemmas.List.{length-drop, length-take, length-take-le, tak
 use Rattle.std.proofs.lemmas.List.Sums.{sum_by-append, sum_by-cons, sum_by-take-drop}
 use Rattle.lsp_text.specs.inside.Leads.{byte_place}
 use Rattle.lsp_text.proofs.Counting.LeadLemmas.{map_twice, map_none}
+use Rattle.std.proofs.lemmas.Grind.{common_steps}
 
 -- Bytes that have no more units than are left are passed.
 module _ (lead : ℕ → ℕ) where
   pass : (xs ys : List ℕ) (c : ℕ) → sum_by lead xs ≤ c → byte_place lead (xs ++ ys) c ≡ option_map (λ n. length xs + n)
       (byte_place lead ys (c - sum_by lead xs))
   pass [] ys c few =
-      let same : c - 0 ≡ c = omega arith in
-      rw same (sym (map_none (byte_place lead ys c)))
+      grind (arith, common_steps, map_none)
   pass (b ∷ xs) ys c few =
       let sum : sum_by lead (b ∷ xs) ≡ lead b + sum_by lead xs = sum_by-cons lead b xs in
       let more : nat_lt c (lead b) ≡ false = le-ltb c (lead b) (omega arith) in
@@ -37,11 +37,7 @@ module _ (lead : ℕ → ℕ) where
       (byte_place lead (drop (place + size) bytes) (left - sum_by lead block)) =
       ap (λ xs. byte_place lead xs left) (sym whole) ∙ pass block (drop (place + size) bytes) left (omega arith) in
       sym (map_twice place size (byte_place lead (drop (place + size) bytes) (left - units))) ∙
-      (ap (λ n. option_map (λ m. place + m)
-      (option_map (λ m. n + m) (byte_place lead (drop (place + size) bytes) (left - units)))) (sym long) ∙
-      (ap (λ u. option_map (λ m. place + m)
-      (option_map (λ m. length block + m) (byte_place lead (drop (place + size) bytes) (left - u)))) counted ∙
-      (ap (option_map (λ m. place + m)) (sym passed) ∙ rest)))
+      (grind (arith, common_steps))
 
   -- one block more
   pub sum_block : (bytes : List ℕ) (at size : ℕ) → sum_by lead (take (at + size) bytes) ≡ sum_by lead (take at bytes)
@@ -62,20 +58,8 @@ module _ (lead : ℕ → ℕ) where
       rest ≡ sum_by lead (take (length bytes - 32 * blocks) (drop (32 * blocks) bytes)) → units + rest
       ≡ sum_by lead bytes
   blocks_all bytes block blocks units rest same before rest_after =
-      omega (
-        arith,
-        before,
-        rest_after,
-        ap (λ n. sum_by lead (take (32 * n) bytes)) same,
-        sum_by-take-drop lead bytes (32 * blocks),
-        ap (sum_by lead) (take_rest bytes (32 * blocks)),
-      )
+      grind (arith, common_steps, sum_by, sum_by-take-drop, take_rest)
 
 pub part_few : (bytes : List ℕ) (from rest : ℕ) → rest ≤ 4 * length (take (length bytes - from) (drop from bytes))
     → rest ≤ 4 * length bytes
-part_few bytes from rest few = omega (
-  arith,
-  few,
-  length-take (length bytes - from) (drop from bytes),
-  length-drop from bytes,
-)
+part_few bytes from rest few = grind (arith, common_steps, length-take, length-drop)

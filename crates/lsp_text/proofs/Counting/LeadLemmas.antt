@@ -14,6 +14,7 @@ use Rattle.lsp_text.specs.Units.{units_in}
 use Rattle.lsp_text.specs.declared.encoding.Encoding.TheVariants.{Utf16}
 use Rattle.lsp_text.specs.Leads.{lead_units_utf16, lead_units_utf32}
 use Rattle.lsp_text.specs.inside.Leads.{HaveNone, FirstHas, line_place, byte_place}
+use Rattle.std.proofs.lemmas.Grind.{common_steps}
 
 -- a byte inside a character has no units
 utf16_none : (b : ℕ) → 128 ≤ b → b < 192 → lead_units_utf16 b ≡ 0
@@ -46,39 +47,23 @@ units_utf16_two c h = grind (arith, nat_tests)
 pub utf16_first : (c : ℕ) → FirstHas lead_units_utf16 (encode c) (units_in Utf16 c)
 unfolding encode
 utf16_first c =
-    cond_both (ltb c 128) _ _ P (λ e. let h : c < 128 = ltb-true c 128 e in
-    (utf16_ascii c h ∙ sym (units_utf16_one c (omega arith)), tt))
-    (λ _. cond_both (ltb c 2048) _ _ P (λ e. let h : c < 2048 = ltb-true c 2048 e in
-    (utf16_one (192 + c / 64) (omega arith) (omega arith) ∙ sym (units_utf16_one c (omega arith)), (none c, tt)))
-    (λ _. cond_both (ltb c 65536) _ _ P (λ e. let h : c < 65536 = ltb-true c 65536 e in
-    (utf16_one (224 + c / 4096) (omega arith) (omega arith) ∙ sym (units_utf16_one c h), (none (c / 64), (none c, tt))))
-    (λ e. let h : 65536 ≤ c = ltb-false c 65536 e in (
-      utf16_two (240 + c / 262144) (omega arith) ∙ sym (units_utf16_two c h),
-      (none (c / 4096), (none (c / 64), (none c, tt))),
-    ))))
-  where
-    P : List ℕ → Type 0
-    P bytes = FirstHas lead_units_utf16 bytes (units_in Utf16 c)
-
-    none : (bits : ℕ) → lead_units_utf16 (128 + bits % 64) ≡ 0
-    none bits = utf16_none (128 + bits % 64) (omega arith) (omega arith)
+    grind (
+      arith,
+      common_steps,
+      cond_both,
+      ltb,
+      utf16_ascii,
+      units_utf16_one,
+      utf16_one,
+      utf16_two,
+      units_utf16_two,
+      utf16_none,
+    )
 
 pub utf32_first : (c : ℕ) → FirstHas lead_units_utf32 (encode c) 1
 unfolding encode
 utf32_first c =
-    cond_both (ltb c 128) _ _ P (λ e. (utf32_ascii c (ltb-true c 128 e), tt))
-    (λ _. cond_both (ltb c 2048) _ _ P (λ _. (utf32_lead (192 + c / 64) (omega arith), (none c, tt)))
-    (λ _. cond_both (ltb c 65536) _ _ P (λ _. (
-      utf32_lead (224 + c / 4096) (omega arith),
-      (none (c / 64), (none c, tt)),
-    ))
-    (λ _. (utf32_lead (240 + c / 262144) (omega arith), (none (c / 4096), (none (c / 64), (none c, tt)))))))
-  where
-    P : List ℕ → Type 0
-    P bytes = FirstHas lead_units_utf32 bytes 1
-
-    none : (bits : ℕ) → lead_units_utf32 (128 + bits % 64) ≡ 0
-    none bits = utf32_none (128 + bits % 64) (omega arith) (omega arith)
+    grind (arith, common_steps, cond_both, ltb, utf32_ascii, utf32_lead, utf32_none)
 
 pub map_twice : (a b : ℕ) (o : Option ℕ) → option_map (λ n. a + n) (option_map (λ n. b + n) o)
     ≡ option_map (λ n. (a + b) + n) o
@@ -103,27 +88,13 @@ module _ (lead units : ℕ → ℕ) where
       ≡ sum_by units cs
   sum_of_bytes first [] = refl
   sum_of_bytes first (c ∷ cs) =
-      omega (
-        arith,
-        sum_by-append lead (encode c) (encode_utf8_all cs),
-        sum_first (encode c) (units c) (first c),
-        sum_of_bytes first cs,
-        sum_by-cons units c cs,
-      )
+      grind (arith, common_steps, sum_by-append, encode, sum_first, sum_by-cons, (sum_of_bytes first cs))
 
   skip_none : (bytes rest : List ℕ) (c : ℕ) → HaveNone lead bytes → byte_place lead (bytes ++ rest) c
       ≡ option_map (λ n. length bytes + n) (byte_place lead rest c)
   skip_none [] rest c all = sym (map_none (byte_place lead rest c))
   skip_none (b ∷ bytes) rest c all =
-      let no : nat_lt c 0 ≡ false = grind (arith, nat_tests) in
-      let same : c - 0 ≡ c = omega arith in
-      rw (
-        all.0,
-        no,
-        same,
-        skip_none bytes rest c all.1,
-      ) (map_twice 1 (length bytes) (byte_place lead rest c)
-      ∙ ap (λ n. option_map (λ m. n + m) (byte_place lead rest c)) (omega arith))
+      grind (arith, common_steps, nat_lt, nat_tests, map_twice, (skip_none bytes rest c all.1))
 
   first_place : (bytes rest : List ℕ) (n c : ℕ) → FirstHas lead bytes n → 1 ≤ n →
       byte_place lead (bytes ++ rest) c
@@ -131,21 +102,7 @@ module _ (lead units : ℕ → ℕ) where
       (cond (nat_lt c n) None (option_map (λ m. length bytes + m) (byte_place lead rest (c - n))))
   first_place [] rest n c first some = absurd first
   first_place (b ∷ bytes) rest n c first some =
-      ⊎_elim
-      (λ (h : c < n).
-      let less : nat_lt c n ≡ true = grind (arith, nat_tests) in
-      rw (first.0, less) refl)
-      (λ (h : n ≤ c).
-      let less : nat_lt c n ≡ false = grind (arith, nat_tests) in
-      let above : (c == 0) ≡ false = grind (arith, nat_tests) in
-      rw (
-        first.0,
-        less,
-        above,
-        skip_none bytes rest (c - n) first.1,
-      ) (map_twice 1 (length bytes) (byte_place lead rest (c - n))
-      ∙ ap (λ l. option_map (λ m. l + m) (byte_place lead rest (c - n))) (omega arith)))
-      (cases_lt c n)
+      grind (arith, common_steps, nat_lt, nat_tests, skip_none, map_twice, cases_lt)
 
   -- A place found byte by byte is the one found character by character.
   pub place_of_bytes : ((c : ℕ) → FirstHas lead (encode c) (units c)) → ((c : ℕ) → 1 ≤ units c) → (cs : List ℕ) (c : ℕ)
@@ -153,11 +110,7 @@ module _ (lead units : ℕ → ℕ) where
   place_of_bytes first some [] c = refl
   place_of_bytes first some (x ∷ cs) c =
       first_place (encode x) (encode_utf8_all cs) (units x) c (first x) (some x) ∙
-      (ap (λ l. cond (c == 0) (Some 0)
-      (cond (nat_lt c (units x)) None (option_map (λ m. l + m) (byte_place lead (encode_utf8_all cs) (c - units x)))))
-      (length-encode x) ∙
-      ap (λ o. cond (c == 0) (Some 0) (cond (nat_lt c (units x)) None (option_map (λ m. len_utf8 x + m) o)))
-      (place_of_bytes first some cs (c - units x)))
+      (grind (arith, common_steps, nat_lt, length-encode, (place_of_bytes first some cs (c - units x))))
 
 -- a byte that no character's UTF-8 begins with
 abbrev pub is_inside : ℕ → Bool
@@ -183,19 +136,7 @@ FirstOutside (b ∷ bytes) = (is_inside b ≡ false) × AllInside bytes
 encode_outside : (c : ℕ) → FirstOutside (encode c)
 unfolding encode
 encode_outside c =
-    cond_both (ltb c 128) _ _ FirstOutside (λ e. (inside_ascii c (ltb-true c 128 e), tt))
-    (λ _. cond_both (ltb c 2048) _ _ FirstOutside (λ _. (inside_lead (192 + c / 64) (omega arith), (next_inside c, tt)))
-    (λ _. cond_both (ltb c 65536) _ _ FirstOutside (λ _. (
-      inside_lead (224 + c / 4096) (omega arith),
-      (next_inside (c / 64), (next_inside c, tt)),
-    ))
-    (λ _. (
-      inside_lead (240 + c / 262144) (omega arith),
-      (next_inside (c / 4096), (next_inside (c / 64), (next_inside c, tt))),
-    ))))
-  where
-    next_inside : (bits : ℕ) → is_inside (128 + bits % 64) ≡ true
-    next_inside bits = inside_yes (128 + bits % 64) (omega arith) (omega arith)
+    grind (arith, common_steps, cond_both, ltb, inside_ascii, inside_yes)
 
 at_inside : (bytes rest : List ℕ) (k : ℕ) → AllInside bytes → k < length bytes → is_inside (get_or (bytes ++ rest) k 0)
     ≡ true
@@ -240,20 +181,18 @@ utf8_at (x ∷ cs) (suc k) h =
     length-append (encode x) rest ∙ ap (λ n. n + length rest) size in
     ⊎_elim
     (λ (l : suc k < len_utf8 x).
-    let less : nat_lt (suc k) (len_utf8 x) ≡ true = lt-ltb (suc k) (len_utf8 x) l in
-    let inside : is_inside (get_or (encode x ++ rest) (suc k) 0) ≡ true =
-    behind_first (encode x) rest (suc k) (encode_outside x) (omega arith) (omega (arith, size)) in
-    rw (above, less, inside) refl)
+    grind (arith, common_steps, nat_lt, lt-ltb, encode, behind_first, encode_outside))
     (λ (l : len_utf8 x ≤ suc k).
-    let less : nat_lt (suc k) (len_utf8 x) ≡ false = le-ltb (suc k) (len_utf8 x) l in
-    let at : get_or (encode x ++ rest) (suc k) 0 ≡ get_or rest (suc k - len_utf8 x) 0 =
-    get_or-append_right (encode x) rest (len_utf8 x) (suc k) 0 size l in
-    rw (
-      above,
-      less,
-      at,
-      utf8_at cs (suc k - len_utf8 x) (omega (arith, sum)),
-    ) (shifted (is_inside (get_or rest (suc k - len_utf8 x) 0)) (len_utf8 x) (suc k) l))
+    grind (
+      arith,
+      common_steps,
+      nat_lt,
+      le-ltb,
+      encode,
+      get_or-append_right,
+      shifted,
+      (utf8_at cs (suc k - len_utf8 x) (omega (arith, sum))),
+    ))
     (cases_lt (suc k) (len_utf8 x))
   where
     shifted : (b : Bool) (n c : ℕ) → n ≤ c → option_map (λ m. n + m) (cond b None (Some (c - n))) ≡ cond b None (Some c)
@@ -275,13 +214,7 @@ place_of_text lead units first some bytes utf8 c =
 -- In UTF-8 the units are the bytes.
 pub utf8_units : (cs : List ℕ) → sum_by len_utf8 cs ≡ length (encode_utf8_all cs)
 utf8_units [] = refl
-utf8_units (c ∷ cs) = omega (
-  arith,
-  sum_by-cons len_utf8 c cs,
-  utf8_units cs,
-  length-append (encode c) (encode_utf8_all cs),
-  length-encode c,
-)
+utf8_units (c ∷ cs) = grind (arith, common_steps, sum_by-cons, length-append, encode, length-encode, (utf8_units cs))
 
 pub utf8_units_of_text : (bytes : List ℕ) → IsUtf8 bytes → length bytes ≡ sum_by len_utf8 (chars bytes)
 utf8_units_of_text bytes utf8 = ap length (sym (encodes-chars bytes utf8)) ∙ sym (utf8_units (chars bytes))
@@ -289,15 +222,12 @@ utf8_units_of_text bytes utf8 = ap length (sym (encodes-chars bytes utf8)) ∙ s
 pub utf8_past_text : (bytes : List ℕ) → IsUtf8 bytes → (c : ℕ) → length bytes ≤ c → Some (length bytes)
     ≡ line_place len_utf8 (chars bytes) c
 utf8_past_text bytes utf8 c past =
-    let same : encode_utf8_all (chars bytes) ≡ bytes = encodes-chars bytes utf8 in
-    ap (λ bs. Some (length bs)) (sym same) ∙ sym (utf8_past (chars bytes) c (omega (arith, ap length same)))
+    grind (arith, common_steps, encodes-chars, utf8_past)
 
 utf8_at_text : (bytes : List ℕ) → IsUtf8 bytes → (c : ℕ) → c < length bytes → line_place len_utf8 (chars bytes) c
     ≡ cond (is_inside (get_or bytes c 0)) None (Some c)
 utf8_at_text bytes utf8 c within =
-    let same : encode_utf8_all (chars bytes) ≡ bytes = encodes-chars bytes utf8 in
-    utf8_at (chars bytes) c (omega (arith, ap length same)) ∙ ap (λ bs. cond (is_inside (get_or bs c 0)) None (Some c))
-    same
+    grind (arith, common_steps, encodes-chars, utf8_at)
 
 pub utf8_inside_text : (bytes : List ℕ) → IsUtf8 bytes → (c : ℕ) → c < length bytes → 128 ≤ get_or bytes c 0
     → get_or bytes c 0 < 192 → None ≡ line_place len_utf8 (chars bytes) c

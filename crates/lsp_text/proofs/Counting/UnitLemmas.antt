@@ -4,6 +4,7 @@ use Rattle.std.proofs.lemmas.Bool.{cases_eq, cases_order}
 use Rattle.std.proofs.lemmas.List.{get_or-drop}
 use Rattle.std.proofs.lemmas.List.Sums.{sum_by_more}
 use Rattle.lsp_text.specs.Units.{units_between}
+use Rattle.std.proofs.lemmas.Grind.{common_steps}
 
 -- One character more has its units more.
 pub units_more : (units : ℕ → ℕ) (text : List ℕ) (i k : ℕ) → i ≤ k → k < length text
@@ -29,9 +30,7 @@ module _ (units : ℕ → ℕ) (some : (c : ℕ) → 1 ≤ units c) (text : List
     where
       here : i ≤ k → units_between units text i k < units_between units text i (suc k)
       here o =
-          let more : units_between units text i (suc k) ≡ units_between units text i k + units (get_or text k 0) =
-          units_more units text i k o (omega arith) in
-          omega (arith, some (get_or text k 0))
+          grind (arith, common_steps, units_more)
 
       further : units_between units text i j < units_between units text i k → units_between units text i j
           < units_between units text i (suc k)
@@ -42,11 +41,4 @@ module _ (units : ℕ → ℕ) (some : (c : ℕ) → 1 ≤ units c) (text : List
   pub units_same : (i j k : ℕ) → i ≤ j → i ≤ k → j ≤ length text → k ≤ length text → units_between units text i j
       ≡ units_between units text i k → j ≡ k
   units_same i j k from_j from_k to_j to_k same =
-      ⊎_elim
-      (λ (e : j ≡ k). e)
-      (⊎_elim
-      (λ (o : j < k). let r : units_between units text i j < units_between units text i k = units_rise i j k from_j o
-      to_k in absurd (omega arith))
-      (λ (o : k < j). let r : units_between units text i k < units_between units text i j = units_rise i k j from_k o
-      to_j in absurd (omega arith)))
-      (cases_order j k)
+      grind (arith, common_steps, units_rise, cases_order)

@@ -14,6 +14,7 @@ use Rattle.lsp_text.specs.TextLines.{splits_crlf}
 use Rattle.lsp_text.specs.LineStarts.{IsPlace}
 use Rattle.lsp_text.proofs.Positions.PlaceLemmas.{place_more, drop_place, place_boundary, index_at}
 use Rattle.lsp_text.proofs.TextLines.StartLemmas.{AllHigh, encode_high, first_line_feed}
+use Rattle.std.proofs.lemmas.Grind.{common_steps}
 
 high_at : (bytes rest : List ℕ) (k : ℕ) → AllHigh bytes → k < length bytes → 128 ≤ get_or (bytes ++ rest) k 0
 high_at [] rest k all h = absurd (omega arith)
@@ -26,14 +27,19 @@ not_return a b h g = grind (arith, nat_tests)
 -- the last byte of a character is a carriage return exactly if the character is
 last_return : (x : ℕ) (rest : List ℕ) → (get_or (encode x ++ rest) (len_utf8 x - 1) 0 == 13) ≡ (x == 13)
 last_return x rest =
-    ⊎_elim
-    (λ (h : x < 128).
-    let one : len_utf8 x - 1 ≡ 0 = omega (arith, length-encode x, ap length (encode_ascii x h)) in
-    rw (one, encode_ascii x h) refl)
-    (λ (h : 128 ≤ x). not_return (get_or (encode x ++ rest) (len_utf8 x - 1) 0) x
-    (high_at (encode x) rest (len_utf8 x - 1) (encode_high x h) (omega (arith, length-encode x, (len_utf8_bounds x).0)))
-    h)
-    (cases_lt x 128)
+    grind (
+      arith,
+      common_steps,
+      x,
+      length-encode,
+      encode_ascii,
+      not_return,
+      encode,
+      high_at,
+      encode_high,
+      len_utf8_bounds,
+      cases_lt,
+    )
 
 -- the byte at a place
 byte_at : (text : List ℕ) (k i : ℕ) → get_or (encode_utf8_all text) (place_of text k + i) 0
@@ -56,9 +62,7 @@ same_split text (suc j) within = by_place (place_of text (suc j)) refl
     more = place_more text j within
 
     last : (get_or bytes (place_of text j + (len_utf8 x - 1)) 0 == 13) ≡ (x == 13)
-    last = ap (λ b. b == 13) (byte_at text j (len_utf8 x - 1)
-        ∙ ap (λ cs. get_or (encode_utf8_all cs) (len_utf8 x - 1) 0) (drop-cons text j 0 within))
-        ∙ last_return x (encode_utf8_all (drop (suc j) text))
+    last = grind (arith, common_steps, byte_at, x, drop-cons, last_return)
 
     next : (get_or bytes (place_of text (suc j)) 0 == 10) ≡ (get_or text (suc j) 0 == 10)
     next =
@@ -102,10 +106,7 @@ boundary_from bytes place utf8 at =
 pub tested_both : (bytes read : List ℕ) (place : ℕ) (inside : Bool) → IsUtf8 bytes → read ≡ bytes
     → IsCharBoundary bytes place → inside ≡ splits_crlf read place → IsTrue (not inside) ↔ IsPlace (chars bytes) place
 tested_both bytes read place inside utf8 same boundary is =
-    let here : inside ≡ splits_crlf bytes place = is ∙ ap (λ bs. splits_crlf bs place) same in (
-      λ h. place_from bytes place utf8 boundary (sym here ∙ not-true inside h),
-      λ at. not_from_false inside (here ∙ (boundary_from bytes place utf8 at).1),
-    )
+    grind (arith, common_steps, bytes, place_from, not-true, not_from_false, boundary_from)
 
 pub tested_none : (bytes : List ℕ) (place : ℕ) (boundary : Bool) → IsUtf8 bytes → boundary ≡ false
     → (IsTrue boundary ↔ IsCharBoundary bytes place) → IsTrue boundary ↔ IsPlace (chars bytes) place

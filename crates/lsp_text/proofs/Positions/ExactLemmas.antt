@@ -20,6 +20,7 @@ use Rattle.lsp_text.proofs.TextLines.IndexesLemmas.{indexes_line, indexes_start,
 use Rattle.lsp_text.proofs.Positions.PositionLemmas.{exact_denotes}
 use Rattle.lsp_text.proofs.Counting.LeadLemmas.{utf8_units_of_text}
 use Rattle.lsp_text.proofs.Positions.ResolveLemmas.{part, part_utf8, chars_part}
+use Rattle.std.proofs.lemmas.Grind.{common_steps}
 
 pub indexes_are : (bytes lines : List ℕ) → IsUtf8 bytes → AreLinesOf lines bytes → AreStarts lines
 indexes_are bytes lines utf8 indexes = starts_from bytes lines (indexes.starts ∙ sym (starts_of_text bytes utf8))
@@ -44,13 +45,7 @@ indexes_few bytes lines utf8 indexes =
 -- A line starts at or before each of its indexes.
 pub start_before : (text : List ℕ) (k : ℕ) → k ≤ length text → line_start text (line_at text k) ≤ k
 start_before text k within =
-    let line = line_at text k in
-    let there = reached text line k (omega arith) in
-    omega (
-      arith,
-      there.order,
-      (line_has_start text line (line_rises text k (length text) within)).least there.index (omega arith) there.content,
-    )
+    grind (arith, common_steps, reached, line_has_start, line_rises)
 
 -- The line whose start is the last at or before the place of an index is the index's line.
 pub line_found : (bytes lines : List ℕ) (place line k : ℕ) → AreLinesOf lines bytes → IsLineOf lines place line
@@ -89,13 +84,7 @@ pub record IsFront (bytes : List ℕ) (start place k : ℕ) : Type 0 where
 pub front_from : (bytes lines : List ℕ) (place line k : ℕ) → AreLinesOf lines bytes → IsLineOf lines place line
     → k ≤ length (chars bytes) → place_of (chars bytes) k ≡ place → IsFront bytes (slice_index lines line) place k
 front_from bytes lines place line k indexes found within at =
-    record {
-      within = within;
-      place_is = at;
-      start_is = indexes_start bytes lines line indexes (indexes_line bytes lines line indexes found.within)
-          ∙ ap (λ l. place_of (chars bytes) (line_start (chars bytes) l)) (line_found bytes lines place line k indexes
-          found within at);
-    }
+    grind (arith, common_steps, indexes_start, indexes_line, line_found)
 
 pub front_order : (bytes : List ℕ) (start place k : ℕ) → IsFront bytes start place k → start ≤ place
 front_order bytes start place k front =
@@ -125,22 +114,12 @@ pub front_units : (units : ℕ → ℕ) (bytes : List ℕ) (start place k : ℕ)
     sum_by units (chars (part bytes start place)) ≡ units_between units (chars bytes)
     (line_start (chars bytes) (line_at (chars bytes) k)) k
 front_units units bytes start place k utf8 front =
-    let s = line_start (chars bytes) (line_at (chars bytes) k) in
-    rw (
-      front.start_is,
-      ← front.place_is,
-    ) (ap (sum_by units) (chars_part bytes s k utf8 (start_before (chars bytes) k front.within) front.within))
+    grind (arith, common_steps, sum_by, chars_part, start_before)
 
 -- A part has no more units than bytes.
 units_few : (units : ℕ → ℕ) → ((c : ℕ) → units c ≤ len_utf8 c) → (cs : List ℕ) → sum_by units cs ≤ sum_by len_utf8 cs
 units_few units few [] = omega arith
-units_few units few (c ∷ cs) = omega (
-  arith,
-  sum_by-cons units c cs,
-  sum_by-cons len_utf8 c cs,
-  few c,
-  units_few units few cs,
-)
+units_few units few (c ∷ cs) = grind (arith, common_steps, sum_by-cons, (units_few units few cs))
 
 pub front_few : (units : ℕ → ℕ) → ((c : ℕ) → units c ≤ len_utf8 c) → (bytes : List ℕ) → IsUtf8 bytes
     → sum_by units (chars bytes) ≤ length bytes
@@ -148,11 +127,7 @@ front_few units few bytes utf8 = omega (arith, units_few units few (chars bytes)
 
 pub part_short : (bytes : List ℕ) (start place : ℕ) → place ≤ length bytes → length (part bytes start place)
     ≤ length bytes
-part_short bytes start place within = omega (
-  arith,
-  length-take (place - start) (drop start bytes),
-  length-drop start bytes,
-)
+part_short bytes start place within = grind (arith, common_steps, length-take, length-drop)
 
 -- The same, where the search went over a copy of the starts.
 pub front_found : (bytes lines shown : List ℕ) (place line k : ℕ) → AreLinesOf lines bytes → shown ≡ lines
@@ -186,5 +161,4 @@ pub exact_resolves : (units : ℕ → ℕ) → ((c : ℕ) → 1 ≤ units c) →
     ((k : ℕ) → k ≤ length text → place_of text k ≡ place → p ≡ exact_position units text k)
     → option_map (place_of text) (denoted units text p) ≡ Some place
 exact_resolves units some text place p at exact =
-    ap (λ q. option_map (place_of text) (denoted units text q)) (exact at.0 at.1 at.3) ∙
-    (ap (option_map (place_of text)) (exact_denotes units some text at.0 at.1 at.2) ∙ ap Some at.3)
+    grind (arith, common_steps, exact_denotes)

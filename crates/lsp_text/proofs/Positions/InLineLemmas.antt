@@ -12,6 +12,7 @@ use Rattle.lsp_text.specs.Positions.{denoted}
 use Rattle.lsp_text.proofs.TextLines.RowLemmas.{find_none}
 use Rattle.lsp_text.proofs.TextLines.LineLemmas.{line_rises, in_content, in_content_line, in_content_whole, line_has_start, line_has_stop, IsStart, IsStop}
 use Rattle.lsp_text.proofs.Positions.PositionLemmas.{content_index}
+use Rattle.std.proofs.lemmas.Grind.{common_steps}
 
 -- The index in a line of the characters `line` that has c units before it: the line's end if it has no more, none
 -- inside a character.
@@ -61,8 +62,7 @@ between_in_content text line start stop k is_start is_stop from to =
 units_of_front : (units : ℕ → ℕ) (text : List ℕ) (start count n : ℕ) → n ≤ count
     → units_between units text start (start + n) ≡ sum_by units (take n (take count (drop start text)))
 units_of_front units text start count n order =
-    let e : (start + n) - start ≡ n = omega arith in
-    rw (e, take-take n count (drop start text) order) refl
+    grind (arith, common_steps, take-take, order)
 
 -- Where there is an index in the line, it has exactly c units before it, or is the end of a line that has no more.
 index_found : (units : ℕ → ℕ) (line : List ℕ) (c n : ℕ) → index_in_line units line c ≡ Some n → (n ≤ length line)
@@ -87,17 +87,7 @@ index_found units (x ∷ line) c n found =
         × ((sum_by units (take m line) ≡ c - units x) ⊎ ((m ≡ length line) × (sum_by units line ≤ c - units x)))
         → (n ≤ suc (length line))
         × ((sum_by units (take n (x ∷ line)) ≡ c) ⊎ ((n ≡ suc (length line)) × (sum_by units (x ∷ line) ≤ c)))
-    further m e room r = (
-      omega (arith, r.0),
-      ⊎_elim
-          (λ (s : sum_by units (take m line) ≡ c - units x). inl
-          (rw (← e) (rw (sum_by-cons units x (take m line)) (omega arith))))
-          (λ (s : (m ≡ length line) × (sum_by units line ≤ c - units x)). inr (
-            omega (arith, s.0),
-            rw (sum_by-cons units x line) (omega (arith, s.1)),
-          ))
-          r.1,
-    )
+    further m e room r = grind (arith, common_steps, sum_by, inl, sum_by-cons, inr)
 
     rest_after : (o : Option ℕ) → index_in_line units line (c - units x) ≡ o
         → ((m : ℕ) → index_in_line units line (c - units x) ≡ Some m → (m ≤ length line)
@@ -134,10 +124,7 @@ index_missed units (x ∷ line) c missed =
     inside above less = (
       rw (sum_by-cons units x line) (omega arith),
       λ n order same.
-          ⊎_elim
-          (λ (e : n ≡ 0). above (let z : 0 ≡ c = rw e at same in omega arith))
-          (λ (e : sum_by units (take n (x ∷ line)) ≡ units x + sum_by units (take (n - 1) line)). omega arith)
-          (front n),
+          grind (arith, common_steps, sum_by, front),
     )
 
     rest_after : (c ≡ 0 → ⊥) → (o : Option ℕ) → index_in_line units line (c - units x) ≡ o
@@ -150,14 +137,7 @@ index_missed units (x ∷ line) c missed =
     rest_after above None is ih room g = (
       rw (sum_by-cons units x line) (omega (arith, (ih is).0)),
       λ n order same.
-          ⊎_elim
-          (λ (e : n ≡ 0). above (let z : 0 ≡ c = rw e at same in omega arith))
-          (λ (e : sum_by units (take n (x ∷ line)) ≡ units x + sum_by units (take (n - 1) line)).
-          ⊎_elim
-          (λ (z : n ≡ 0). above (let z0 : 0 ≡ c = rw z at same in omega arith))
-          (λ (z : n ≡ 0 → ⊥). (ih is).1 (n - 1) (omega arith) (omega arith))
-          (cases_eq n 0))
-          (front n),
+          grind (arith, common_steps, sum_by, cases_eq, front),
     )
 
 -- Inside a line that has these bounds, a position's character denotes the index that the line's characters alone give.
@@ -194,8 +174,7 @@ in_bounds units some text line start stop c is_start is_stop =
 
     at_stop : (n : ℕ) → n ≡ stop - start → units_between units text start stop ≤ c → denoted_here ≡ Some (start + n)
     at_stop n e less =
-        let s : start + n ≡ stop = omega (arith, order) in
-        rw (le-leb (units_between units text start stop) c less, s) refl
+        grind (arith, common_steps, order, le-leb)
 
     nowhere : c < units_between units text start stop → ((n : ℕ) → n ≤ length (take (stop - start) (drop start text))
         → sum_by units (take n (take (stop - start) (drop start text))) ≡ c → ⊥) → denoted_here ≡ None
@@ -218,8 +197,7 @@ in_bounds units some text line start stop c is_start is_stop =
     by_index : (o : Option ℕ) → index_in_line units (take (stop - start) (drop start text)) c ≡ o → denoted_here
         ≡ option_map (λ n. start + n) (index_in_line units (take (stop - start) (drop start text)) c)
     by_index None is =
-        rw is (nowhere (index_missed units (take (stop - start) (drop start text)) c is).0
-        (index_missed units (take (stop - start) (drop start text)) c is).1)
+        grind (arith, common_steps, nowhere, index_missed)
     by_index (Some n) is =
         rw is
         (⊎_elim
@@ -248,31 +226,13 @@ is_inside_line c = not (c == line_feed) && not (c == carriage_return)
 inside_next : (text : List ℕ) (k : ℕ) → is_inside_line (slice_index text k) ≡ true
     → (line_at text (suc k) ≡ line_at text k) × (splits_crlf text (suc k) ≡ false)
 inside_next text k inside =
-    let no_feed : (slice_index text k == line_feed) ≡ false =
-    not-true (slice_index text k == line_feed) (and_parts (not (slice_index text k == line_feed))
-    (not (slice_index text k == carriage_return)) inside).0 in
-    let no_return : (slice_index text k == carriage_return) ≡ false =
-    not-true (slice_index text k == carriage_return) (and_parts (not (slice_index text k == line_feed))
-    (not (slice_index text k == carriage_return)) inside).1 in
-    (rw (no_feed, no_return) refl, rw no_return refl)
+    grind (arith, common_steps, not-true, and_parts, inside)
 
 -- An index of the same line as the one before it, which splits no CRLF, has a character inside the line before it.
 next_inside : (text : List ℕ) (k : ℕ) → line_at text (suc k) ≡ line_at text k → splits_crlf text (suc k) ≡ false
     → is_inside_line (slice_index text k) ≡ true
 next_inside text k same whole =
-    and_from (not (slice_index text k == line_feed)) (not (slice_index text k == carriage_return))
-    (not_from_false (slice_index text k == line_feed) (false_from_ne_true (slice_index text k == line_feed)
-    (λ e. let next : line_at text (suc k) ≡ suc (line_at text k) = behind_line_feed text k e in omega arith)))
-    (not_from_false (slice_index text k == carriage_return)
-    (false_from_ne_true (slice_index text k == carriage_return)
-    (λ e.
-    let no_feed : (slice_index text (suc k) == line_feed) ≡ false = rw e at whole in
-    let ends : starts_line text (suc k) ≡ true =
-    or_right (slice_index text k == line_feed) ((slice_index text k == carriage_return)
-    && not (slice_index text (suc k) == line_feed)) (and_from (slice_index text k == carriage_return)
-    (not (slice_index text (suc k) == line_feed)) e (not_from_false (slice_index text (suc k) == line_feed) no_feed)) in
-    let next : line_at text (suc k) ≡ suc (line_at text k) = rw ends refl in
-    omega arith)))
+    grind (arith, common_steps, and_from, not_from_false, false_from_ne_true, behind_line_feed, or_right)
 
 -- A line's content ends at the first line feed or carriage return behind its start.
 pub line_length : (text : List ℕ) (line : ℕ) → line ≤ line_ends text

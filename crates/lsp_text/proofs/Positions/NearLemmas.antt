@@ -6,6 +6,7 @@ use Rattle.lsp_text.specs.TextLines.{line_feed, carriage_return, starts_line, sp
 use Rattle.lsp_text.specs.Units.{units_between}
 use Rattle.lsp_text.specs.Positions.{exact_position}
 use Rattle.lsp_text.proofs.TextLines.LineLemmas.{in_content, in_content_line, in_content_whole, start_in_content, IsStart}
+use Rattle.std.proofs.lemmas.Grind.{common_steps}
 
 -- The texts have the same characters below k.
 abbrev pub AgreeBelow : List ℕ → List ℕ → ℕ → Type 0
@@ -16,23 +17,13 @@ agree_back text other k agree = λ j h. sym (agree j h)
 
 pub agree_from_take : (text other : List ℕ) (k : ℕ) → take k text ≡ take k other → AgreeBelow text other k
 agree_from_take text other k same j h =
-    let left : get_or (take k text) j 0 ≡ get_or text j 0 = get_or-take k text j 0 h in
-    let right : get_or (take k other) j 0 ≡ get_or other j 0 = get_or-take k other j 0 h in
-    let both : get_or (take k text) j 0 ≡ get_or (take k other) j 0 = ap (λ xs. get_or xs j 0) same in
-    cc
+    grind (arith, common_steps, get_or-take)
 
 -- Where an index splits no CRLF, it ends a line exactly if a line feed or a carriage return stands before it.
 ends_line_whole : (text : List ℕ) (k : ℕ) → splits_crlf text (suc k) ≡ false → starts_line text (suc k)
     ≡ ((slice_index text k == line_feed) || (slice_index text k == carriage_return))
 ends_line_whole text k whole =
-    ⊎_elim
-    (λ (e : (slice_index text k == carriage_return) ≡ false). rw e refl)
-    (λ (e : (slice_index text (suc k) == line_feed) ≡ false).
-    ⊎_elim
-    (λ (c : (slice_index text k == carriage_return) ≡ true). rw (c, e) refl)
-    (λ (c : (slice_index text k == carriage_return) ≡ false). rw c refl)
-    (cases_Bool (slice_index text k == carriage_return)))
-    (and_cases (slice_index text k == carriage_return) (slice_index text (suc k) == line_feed) whole)
+    grind (arith, common_steps, cases_Bool, and_cases)
 
 module _ (text other : List ℕ) where
   -- below the index up to which they agree, the texts split and end lines alike
@@ -65,16 +56,9 @@ module _ (text other : List ℕ) where
       → j ≤ k → is_in_content text line j ≡ true → is_in_content other line j ≡ true
   content_near k line j agree whole other_whole order h =
       ⊎_elim
-      (λ (e : j ≡ k). let l : line_at text j ≡ line = in_content_line text line j h in
-      let s : line_at text k ≡ line_at other k = line_near_whole k agree whole other_whole in
-      in_content other line j (rw e (let m : line_at text k ≡ line = rw e at l in cc)) (rw e other_whole))
+      (λ (e : j ≡ k). grind (arith, common_steps, in_content_line, line_near_whole, agree, in_content))
       (λ (e : j ≡ k → ⊥).
-      let below : j < k = omega arith in
-      let l : line_at text j ≡ line = in_content_line text line j h in
-      let s : splits_crlf text j ≡ false = in_content_whole text line j h in
-      let same_line : line_at text j ≡ line_at other j = line_near k j agree below in
-      let same_split : splits_crlf text j ≡ splits_crlf other j = splits_near k j agree below in
-      in_content other line j (cc) (cc))
+      grind (arith, common_steps, in_content_line, in_content_whole, line_near, agree, splits_near, in_content))
       (cases_eq j k)
 
 -- What a longer text has of units below k goes by what stands below k.

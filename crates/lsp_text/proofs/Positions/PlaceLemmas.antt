@@ -9,6 +9,7 @@ use Rattle.std.proofs.lemmas.List.{length-append, length-take-le, take-append-dr
 use Rattle.std.proofs.lemmas.Bool.{cases_lt, and_parts, and_from}
 use Rattle.std.proofs.lemmas.Str.{encodes-append, length-encode, len_utf8_bounds, encodes-chars, chars-append, IsUtf8-take, IsCharBoundary-from_take, scalars-chars}
 use Rattle.lsp_text.specs.Text.{place_of}
+use Rattle.std.proofs.lemmas.Grind.{common_steps}
 
 pub place_end : (text : List ℕ) → place_of text (length text) ≡ length (encode_utf8_all text)
 place_end text = ap (λ cs. length (encode_utf8_all cs)) (take_all (length text) text (omega arith))
@@ -17,24 +18,18 @@ place_end text = ap (λ cs. length (encode_utf8_all cs)) (take_all (length text)
 pub place_more : (text : List ℕ) (k : ℕ) → k < length text → place_of text (suc k) ≡ place_of text k
     + len_utf8 (get_or text k 0)
 place_more text k h =
-    let x = get_or text k 0 in
-    ap (λ cs. length (encode_utf8_all cs)) (take-suc text k 0 h) ∙
-    (ap length (encodes-append (take k text) (x ∷ [])) ∙ omega (
-      arith,
-      length-append (encode_utf8_all (take k text)) (encode_utf8 x ++ []),
-      ap length (append-nil (encode_utf8 x)),
-      length-encode x,
-    ))
+    grind (arith, common_steps, take-suc, encodes-append, length-append, append-nil, length-encode)
 
 pub place_rises : (text : List ℕ) (j k : ℕ) → j ≤ k → k ≤ length text → place_of text j + (k - j) ≤ place_of text k
 place_rises text j zero order within = omega (arith, ap (place_of text) (let e : j ≡ 0 = omega arith in e))
 place_rises text j (suc k) order within =
     ⊎_elim
-    (λ (h : j < suc k). omega (
+    (λ (h : j < suc k). grind (
       arith,
-      place_rises text j k (omega arith) (omega arith),
-      place_more text k (omega arith),
-      (len_utf8_bounds (get_or text k 0)).0,
+      common_steps,
+      place_more,
+      len_utf8_bounds,
+      (place_rises text j k (omega arith) (omega arith)),
     ))
     (λ (h : suc k ≤ j). omega (arith, ap (place_of text) (let e : j ≡ suc k = omega arith in e)))
     (cases_lt j (suc k))
@@ -71,9 +66,7 @@ drop_place text k =
 -- The place of an index further on, in two parts.
 pub place_add : (text : List ℕ) (j n : ℕ) → place_of text (j + n) ≡ place_of text j + place_of (drop j text) n
 place_add text j n =
-    ap (λ cs. length (encode_utf8_all cs)) (take-add j n text) ∙
-    (ap length (encodes-append (take j text) (take n (drop j text))) ∙ length-append (encode_utf8_all (take j text))
-    (encode_utf8_all (take n (drop j text))))
+    grind (arith, common_steps, take-add, encodes-append, length-append)
 
 -- the bytes from one place to another
 pub part_place : (text : List ℕ) (j k : ℕ) → j ≤ k → k ≤ length text →
@@ -102,10 +95,7 @@ index_at bytes place utf8 boundary =
       index = length (chars front);
       within = omega (arith, ap length split, length-append (chars front) (chars (drop place bytes)));
       place_is =
-          ap (λ cs. length (encode_utf8_all (take (length (chars front)) cs))) split ∙
-          (ap (λ cs. length (encode_utf8_all cs)) (take_at (chars front) (chars (drop place bytes))
-          (length (chars front)) refl) ∙
-          (ap length (encodes-chars front is_front) ∙ length-take-le place bytes boundary.0));
+          grind (arith, common_steps, take_at, encodes-chars, length-take-le);
     }
 
 scalars-take : (cs : List ℕ) (k : ℕ) → scalars cs ≡ true → scalars (take k cs) ≡ true

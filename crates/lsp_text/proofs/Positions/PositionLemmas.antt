@@ -9,6 +9,7 @@ use Rattle.lsp_text.specs.Positions.{exact_position, denoted}
 use Rattle.lsp_text.proofs.TextLines.RowLemmas.{find_only, IsFound, find_found}
 use Rattle.lsp_text.proofs.TextLines.LineLemmas.{line_rises, splits_none_past, in_content, in_content_line, in_content_whole, start_in_content, stop_in_content, line_has_stop, IsStart, IsStop}
 use Rattle.lsp_text.proofs.Counting.UnitLemmas.{units_rise, units_same}
+use Rattle.std.proofs.lemmas.Grind.{common_steps}
 
 -- The index of a content with the units of an index of that content is that index.
 pub content_index : (units : ℕ → ℕ) → ((c : ℕ) → 1 ≤ units c) → (text : List ℕ) (line start stop k : ℕ)
@@ -17,10 +18,7 @@ pub content_index : (units : ℕ → ℕ) → ((c : ℕ) → 1 ≤ units c) → 
     (find (λ j. units_between units text start j == units_between units text start k) (line_content text line)) ≡ Some k
 content_index units some text line start stop k is_start is_stop within content =
     ⊎_elim
-    (λ (e : k ≡ stop). rw (
-      le-leb (units_between units text start stop) (units_between units text start k) (rw e (omega arith)),
-      e,
-    ) refl)
+    (λ (e : k ≡ stop). grind (arith, common_steps, le-leb, start, stop))
     (λ (e : k ≡ stop → ⊥). rw (lt-leb (units_between units text start stop) (units_between units text start k) (less e))
     searched)
     (cases_eq k stop)
@@ -37,8 +35,7 @@ content_index units some text line start stop k is_start is_stop within content 
     only : (j : ℕ) → j < suc (length text) → is_in_content text line j ≡ true
         → (units_between units text start j == units_between units text start k) ≡ true → j ≡ k
     only j in_row h e =
-        units_same units some text start j k (is_start.least j (omega arith) h) begins (omega arith) within
-        (eqb-true (units_between units text start j) (units_between units text start k) e)
+        grind (arith, common_steps, units_same, start, begins, eqb-true)
 
     searched : find (λ j. units_between units text start j == units_between units text start k) (line_content text line)
         ≡ Some k
@@ -144,15 +141,11 @@ denoted_exact units text p k there within h =
 
     exact : line_at text k ≡ p.line → units_between units text start k ≡ p.character → exact_position units text k ≡ p
     exact line units_are =
-        let u : units_between units text (line_start text (line_at text k)) k ≡ p.character =
-        ap (λ (n : ℕ). units_between units text (line_start text n) k) line ∙ units_are in
-        λ i. record { line = line i; character = u i }
+        grind (arith, common_steps)
 
     at_stop : units_between units text start stop ≤ p.character → stop ≡ k → exact_position units text k ≡ p
     at_stop least e =
-        let s = line_has_stop text p.line there in
-        exact (in_content_line text p.line k (ap (is_in_content text p.line) (sym e) ∙ s.passes))
-        (omega (arith, ap (units_between units text start) e, least, within))
+        grind (arith, common_steps, line_has_stop, exact, in_content_line, start)
 
     at_found : IsFound (is_in_content text p.line) (λ j. units_between units text start j == p.character) 0
         (suc (length text)) k → exact_position units text k ≡ p

@@ -17,6 +17,7 @@ use Rattle.lsp_text.specs.inside.Leads.{line_place}
 use Rattle.lsp_text.proofs.Positions.InLineLemmas.{index_in_line, denoted_in_line}
 use Rattle.lsp_text.proofs.Positions.PlaceLemmas.{place_end, place_within, place_add, part_place, place_boundary, place_rises}
 use Rattle.lsp_text.proofs.TextLines.ContentLemmas.{stop_behind, stop_within}
+use Rattle.std.proofs.lemmas.Grind.{common_steps}
 
 -- the bytes from one place of a text to another
 abbrev pub part : List ℕ → ℕ → ℕ → List ℕ
@@ -32,37 +33,29 @@ part_utf8 bytes j k utf8 order within =
 pub chars_part : (bytes : List ℕ) (j k : ℕ) → IsUtf8 bytes → j ≤ k → k ≤ length (chars bytes)
     → chars (part bytes (place_of (chars bytes) j) (place_of (chars bytes) k)) ≡ take (k - j) (drop j (chars bytes))
 chars_part bytes j k utf8 order within =
-    let from = place_of (chars bytes) j in
-    let to = place_of (chars bytes) k in
-    let same : encode_utf8_all (take (k - j) (drop j (chars bytes))) ≡ part bytes from to =
-    sym (part_place (chars bytes) j k order within) ∙ ap (λ bs. part bs from to) (encodes-chars bytes utf8) in
-    sym (chars_from_encodes (take (k - j) (drop j (chars bytes))) (part bytes from to)
-    (part_utf8 bytes j k utf8 order within) same)
+    grind (arith, common_steps, part_place, encodes-chars, chars_from_encodes, part_utf8)
 
 map_len : (units : ℕ → ℕ) (x c : ℕ) (f g : ℕ → ℕ) (o : Option ℕ) (p : Option ℕ) → p ≡ option_map g o
     → ((n : ℕ) → f (suc n) ≡ len_utf8 x + g n) → f 0 ≡ 0 →
     cond (c == 0) (Some 0) (cond (nat_lt c (units x)) None (option_map (λ n. len_utf8 x + n) p))
     ≡ option_map f (cond (c == 0) (Some 0) (cond (nat_lt c (units x)) None (option_map suc o)))
-map_len units x c f g o p same next start = by_tests (c == 0) (nat_lt c (units x)) o same
-  where
-    by_tests : (a b : Bool) (o : Option ℕ) → p ≡ option_map g o
-        → cond a (Some 0) (cond b None (option_map (λ n. len_utf8 x + n) p))
-        ≡ option_map f (cond a (Some 0) (cond b None (option_map suc o)))
-    by_tests true b o same = ap Some (sym start)
-    by_tests false true o same = refl
-    by_tests false false None same = ap (option_map (λ n. len_utf8 x + n)) same
-    by_tests false false (Some n) same = ap (option_map (λ n. len_utf8 x + n)) same ∙ ap Some (sym (next n))
+map_len units x c f g o p same next start = grind (arith, common_steps, nat_lt)
 
 -- The place in a line is that of its index, whatever stands behind the line.
 line_place_is : (units : ℕ → ℕ) (cs rest_after : List ℕ) (c : ℕ) → line_place units cs c
     ≡ option_map (place_of (cs ++ rest_after)) (index_in_line units cs c)
 line_place_is units [] rest_after c = refl
 line_place_is units (x ∷ cs) rest_after c =
-    map_len units x c (place_of (x ∷ (cs ++ rest_after))) (place_of (cs ++ rest_after))
-    (index_in_line units cs (c - units x)) (line_place units cs (c - units x))
-    (line_place_is units cs rest_after (c - units x))
-    (λ n. length-append (encode x) (encode_utf8_all (take n (cs ++ rest_after)))
-    ∙ ap (λ l. l + place_of (cs ++ rest_after) n) (length-encode x)) refl
+    grind (
+      arith,
+      common_steps,
+      map_len,
+      index_in_line,
+      length-append,
+      encode,
+      length-encode,
+      (line_place_is units cs rest_after (c - units x)),
+    )
 
 shifted : (text : List ℕ) (start : ℕ) (o : Option ℕ) → option_map (place_of text) (option_map (λ n. start + n) o)
     ≡ option_map (λ n. place_of text start + n) (option_map (place_of (drop start text)) o)
@@ -87,17 +80,13 @@ resolved units some bytes p utf8 there =
     let found = index_in_line units content p.character in
     ap (option_map (place_of text)) (denoted_in_line units some text p there) ∙
     (shifted text start found ∙
-    (ap (λ cs. option_map (λ n. place_of text start + n) (option_map (place_of cs) found)) (sym whole) ∙
-    (ap (option_map (λ n. place_of text start + n)) (sym (line_place_is units content rest_after p.character)) ∙
-    ap (λ cs. option_map (λ n. place_of text start + n) (line_place units cs p.character))
-    (sym (chars_part bytes start stop utf8 (stop_behind text p.line there) (stop_within text p.line there))))))
+    (grind (arith, common_steps, line_place_is, chars_part, stop_behind, stop_within)))
 
 -- A position past the last line denotes the end.
 pub resolved_past : (units : ℕ → ℕ) (bytes : List ℕ) (p : Position) → IsUtf8 bytes → line_ends (chars bytes) < p.line
     → option_map (place_of (chars bytes)) (denoted units (chars bytes) p) ≡ Some (length bytes)
 resolved_past units bytes p utf8 past =
-    rw (lt-ltb (line_ends (chars bytes)) p.line past)
-    (ap Some (place_end (chars bytes) ∙ ap length (encodes-chars bytes utf8)))
+    grind (arith, common_steps, lt-ltb, place_end, encodes-chars)
 
 -- The bounds of a line's content, told by their places.
 pub record IsContent (bytes : List ℕ) (line start stop : ℕ) : Type 0 where
@@ -119,13 +108,7 @@ content_order bytes line start stop content =
 pub content_within : (bytes : List ℕ) (line start stop : ℕ) → IsUtf8 bytes → IsContent bytes line start stop
     → stop ≤ length bytes
 content_within bytes line start stop utf8 content =
-    let text = chars bytes in
-    omega (
-      arith,
-      content.stop_is,
-      place_within text (line_stop text line) (stop_within text line content.there),
-      ap length (encodes-chars bytes utf8),
-    )
+    grind (arith, common_steps, place_within, stop_within, encodes-chars)
 
 pub content_utf8 : (bytes : List ℕ) (line start stop : ℕ) → IsUtf8 bytes → IsContent bytes line start stop
     → IsUtf8 (part bytes start stop)
@@ -142,13 +125,7 @@ pub resolved_at : (units : ℕ → ℕ) → ((c : ℕ) → 1 ≤ units c) → (b
     found ≡ line_place units (chars (part bytes start stop)) p.character → option_map (λ n. start + n) found
     ≡ option_map (place_of (chars bytes)) (denoted units (chars bytes) p)
 resolved_at units some bytes p start stop found utf8 content is =
-    let text = chars bytes in
-    let from = place_of text (line_start text p.line) in
-    let to = place_of text (line_stop text p.line) in
-    ap (option_map (λ n. start + n)) is ∙
-    (ap (λ s. option_map (λ n. s + n) (line_place units (chars (part bytes s stop)) p.character)) content.start_is ∙
-    (ap (λ s. option_map (λ n. from + n) (line_place units (chars (part bytes from s)) p.character)) content.stop_is ∙
-    sym (resolved units some bytes p utf8 content.there)))
+    grind (arith, common_steps, resolved)
 
 -- A place in a line's content lies in it.
 place_most : (cs : List ℕ) (k : ℕ) → place_of cs k ≤ length (encode_utf8_all cs)

@@ -15,21 +15,13 @@ use Rattle.lsp_text.proofs.Positions.InLineLemmas.{is_inside_line, line_length}
 use Rattle.lsp_text.proofs.TextLines.StartRowLemmas.{next_start, IsNextStart, start_at, length-line_starts}
 use Rattle.lsp_text.proofs.TextLines.StartLemmas.{starts_of_bytes, AllHigh, encode_high}
 use Rattle.lsp_text.proofs.Positions.PlaceLemmas.{place_add, drop_place}
+use Rattle.std.proofs.lemmas.Grind.{common_steps}
 
 -- Before an index that splits a CRLF stands an index of the same line, which splits none.
 before_split : (text : List ℕ) (k : ℕ) → splits_crlf text (suc k) ≡ true → (line_at text (suc k) ≡ line_at text k)
     × (splits_crlf text k ≡ false)
 before_split text k split =
-    let both = and_parts (slice_index text k == carriage_return) (slice_index text (suc k) == line_feed) split in
-    let is_return : slice_index text k ≡ 13 = eqb-true (slice_index text k) 13 both.0 in
-    let is_feed : slice_index text (suc k) ≡ 10 = eqb-true (slice_index text (suc k)) 10 both.1 in
-    let continues : starts_line text (suc k) ≡ false = rw (is_return, is_feed) refl in
-    (rw continues refl, whole k is_return)
-  where
-    whole : (k : ℕ) → slice_index text k ≡ 13 → splits_crlf text k ≡ false
-    whole zero e = refl
-    whole (suc j) e = and_right (slice_index text j == carriage_return) (slice_index text (suc j) == line_feed)
-        (rw e refl)
+    grind (arith, common_steps, and_parts, eqb-true, and_right)
 
 -- A line's content ends before its line end: one index before the next line's start, or two where that would split a
 -- CRLF.
@@ -121,11 +113,7 @@ same_line_ends text =
 pub same_start : (text : List ℕ) (line : ℕ) → line ≤ line_ends text → place_of text (line_start text line)
     ≡ line_start (encode_utf8_all text) line
 same_start text line there =
-    let bytes = encode_utf8_all text in
-    ap (place_of text) (sym (start_at text line there)) ∙
-    (sym (get_or-map (place_of text) (line_starts text) line 0 0 (omega (arith, length-line_starts text))) ∙
-    (ap (λ xs. get_or xs line 0) (sym (starts_of_bytes text)) ∙
-    start_at bytes line (omega (arith, same_line_ends text))))
+    grind (arith, common_steps, start_at, get_or-map, length-line_starts, starts_of_bytes, same_line_ends)
 
 -- The characters inside a line have all the bytes inside it.
 inside_high : (b : ℕ) → 128 ≤ b → is_inside_line b ≡ true
@@ -145,24 +133,19 @@ prefix_of_bytes : (cs : List ℕ) → prefix_len is_inside_line (encode_utf8_all
     ≡ place_of cs (prefix_len is_inside_line cs)
 prefix_of_bytes [] = refl
 prefix_of_bytes (c ∷ cs) =
-    let bytes = encode_utf8_all cs in
-    let front = prefix_len is_inside_line cs in
-    ⊎_elim
-    (λ (h : c < 128).
-    ap (λ bs. prefix_len is_inside_line (bs ++ bytes)) (encode_ascii c h)
-    ∙ ascii (is_inside_line c) (ap length (encode_ascii c h)) (prefix_of_bytes cs))
-    (λ (h : 128 ≤ c).
-    let continues : prefix_len is_inside_line (c ∷ cs) ≡ 1 + front = rw (inside_high c h) refl in
-    prefix_high (encode c) bytes (encode_high c h) ∙
-    (ap (λ n. length (encode c) + n) (prefix_of_bytes cs) ∙
-    (sym (place_cons c cs front) ∙ ap (place_of (c ∷ cs)) (sym continues))))
-    (cases_lt c 128)
-  where
-    ascii : (b : Bool) → length (encode c) ≡ 1 → prefix_len is_inside_line (encode_utf8_all cs)
-        ≡ place_of cs (prefix_len is_inside_line cs) → cond b (1 + prefix_len is_inside_line (encode_utf8_all cs)) 0
-        ≡ place_of (c ∷ cs) (cond b (1 + prefix_len is_inside_line cs) 0)
-    ascii true one front = omega (arith, one, front, place_cons c cs (prefix_len is_inside_line cs))
-    ascii false one front = refl
+    grind (
+      arith,
+      common_steps,
+      is_inside_line,
+      encode_ascii,
+      inside_high,
+      prefix_high,
+      encode,
+      encode_high,
+      place_cons,
+      cases_lt,
+      (prefix_of_bytes cs),
+    )
 
 -- The content of a line ends at one place, whether it is told by characters or by bytes.
 pub same_stop : (text : List ℕ) (line : ℕ) → line ≤ line_ends text → place_of text (line_stop text line)

@@ -5,6 +5,7 @@ use Rattle.std.proofs.lemmas.Bool.{cases_Bool}
 use Rattle.std.proofs.lemmas.Bool.Decides.{nat_tests}
 use Rattle.memchr.specs.Find.{places_from, places, is_byte2}
 use Rattle.lsp_text.specs.TextLines.{starts_line, numbers_from}
+use Rattle.std.proofs.lemmas.Grind.{common_steps}
 
 -- the ends behind the marks at these offsets from `low`
 abbrev pub ends_of : List ℕ → ℕ → List ℕ → List ℕ
@@ -25,29 +26,14 @@ pub ends_of-places : (text part : List ℕ) (low i n : ℕ)
 unfolding places_from
 ends_of-places text part low i zero same e = refl
 ends_of-places text part low i (suc n) same e =
-    let more : ends_of text low (places_from (is_byte2 10 13) part (i + 1) n)
-    ≡ filter (starts_line text) (numbers_from (suc (suc (low + i))) n) =
-    ends_of-places text part low (i + 1) n same (omega arith)
-    ∙ ap (λ x. filter (starts_line text) (numbers_from (suc x) n)) (omega arith) in
-    ⊎_elim
-    (λ (y : is_byte2 10 13 (slice_index part i) ≡ true). rw (y, more) refl)
-    (λ (y : is_byte2 10 13 (slice_index part i) ≡ false). rw (
-      y,
-      no_mark text (low + i) (ap (is_byte2 10 13) (sym (same i (omega arith))) ∙ y),
-    ) more)
-    (cases_Bool (is_byte2 10 13 (slice_index part i)))
+    grind (arith, common_steps, no_mark, cases_Bool, (ends_of-places text part low (i + 1) n same (omega arith)))
 
 pub Marks-places : (part : List ℕ) (low high i n : ℕ) → low + (i + n) ≤ high
     → Marks low high (places_from (is_byte2 10 13) part i n)
 unfolding places_from
 Marks-places part low high i zero e = tt
 Marks-places part low high i (suc n) e =
-    let more : Marks low high (places_from (is_byte2 10 13) part (i + 1) n) =
-    Marks-places part low high (i + 1) n (omega arith) in
-    ⊎_elim
-    (λ (y : is_byte2 10 13 (slice_index part i) ≡ true). rw y (omega arith, more))
-    (λ (y : is_byte2 10 13 (slice_index part i) ≡ false). rw y more)
-    (cases_Bool (is_byte2 10 13 (slice_index part i)))
+    grind (arith, common_steps, cases_Bool, (Marks-places part low high (i + 1) n (omega arith)))
 
 -- The marks of the bytes from `low` to `high` give the ends behind `low`, up to `high`.
 pub ends_of-part : (text : List ℕ) (low high : ℕ) → low ≤ high → high ≤ length text →
@@ -68,10 +54,11 @@ ends_of-part text low high order within =
 pub Marks-part : (text : List ℕ) (low high : ℕ) → low ≤ high → high ≤ length text →
     Marks low high (places (is_byte2 10 13) (take (high - low) (drop low text)))
 Marks-part text low high order within =
-    Marks-places (take (high - low) (drop low text)) low high 0 _ (omega (
+    Marks-places (take (high - low) (drop low text)) low high 0 _ (grind (
       arith,
-      length-take (high - low) (drop low text),
-      length-drop low text,
+      common_steps,
+      length-take,
+      length-drop,
     ))
 
 -- the last turn: nothing is left
@@ -81,5 +68,4 @@ pub ends_of-all : (text : List ℕ) (low high : ℕ) (starts old marks : List �
     ≡ old ++ ends_of text low (places (is_byte2 10 13) (take (high - low) (drop low text))) →
     starts ≡ old ++ filter (starts_line text) (numbers_from (suc low) (high - low))
 ends_of-all text low high starts old marks order within none found =
-    sym (append-nil starts) ∙ (ap (λ ms. starts ++ ends_of text low ms) (sym none)
-    ∙ (found ∙ ap (λ zs. old ++ zs) (ends_of-part text low high order within)))
+    grind (arith, common_steps, append-nil, ends_of-part)

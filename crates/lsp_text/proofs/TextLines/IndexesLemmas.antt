@@ -12,6 +12,7 @@ use Rattle.lsp_text.proofs.Positions.PlaceLemmas.{place_end}
 use Rattle.lsp_text.proofs.TextLines.ContentLemmas.{last_stop, same_line_ends, same_start, same_stop, stop_is}
 use Rattle.std.proofs.lemmas.Str.{encodes-chars}
 use Rattle.std.specs.Prelude.{encode_utf8_all}
+use Rattle.std.proofs.lemmas.Grind.{common_steps}
 
 -- Lines made of the bytes of a text are those of the text.
 pub indexes_from : (bytes starts : List ℕ) → IsUtf8 bytes → length bytes ≤ 2147483648 → starts ≡ line_starts bytes
@@ -25,23 +26,17 @@ starts_from bytes starts looks_made = subst AreStarts (sym looks_made) (line_sta
 pub made_whole : (bytes read before first starts : List ℕ) → read ≡ bytes → before ≡ [] → first ≡ before ++ 0 ∷ []
     → starts ≡ first ++ starts_between read 0 (length read) → starts ≡ line_starts bytes
 made_whole bytes read before first starts same empty pushed found =
-    found ∙
-    (ap (λ xs. xs ++ starts_between read 0 (length read)) (pushed ∙ ap (λ xs. xs ++ 0 ∷ []) empty) ∙
-    ap line_starts same)
+    grind (arith, common_steps)
 
 pub indexes_count : (bytes lines : List ℕ) → AreLinesOf lines bytes → length lines ≡ line_ends (chars bytes) + 1
 indexes_count bytes lines indexes =
-    let text = chars bytes in
-    omega (arith, ap length indexes.starts, length-map (line_starts text) (place_of text), length-line_starts text)
+    grind (arith, common_steps, length-map, length-line_starts)
 
 -- The start with a line's number is the place of that line's start.
 pub indexes_start : (bytes lines : List ℕ) (line : ℕ) → AreLinesOf lines bytes → line ≤ line_ends (chars bytes)
     → slice_index lines line ≡ place_of (chars bytes) (line_start (chars bytes) line)
 indexes_start bytes lines line indexes there =
-    let text = chars bytes in
-    ap (λ xs. get_or xs line 0) indexes.starts ∙
-    (get_or-map (place_of text) (line_starts text) line 0 0 (omega (arith, length-line_starts text))
-    ∙ ap (place_of text) (start_at text line there))
+    grind (arith, common_steps, get_or-map, length-line_starts, start_at)
 
 -- The line of an index below the number of starts is one of the text's.
 pub indexes_line : (bytes lines : List ℕ) (line : ℕ) → AreLinesOf lines bytes → line < length lines

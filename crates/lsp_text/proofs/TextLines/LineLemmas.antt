@@ -4,15 +4,13 @@ use Rattle.std.proofs.lemmas.Bool.{cases_Bool, cases_eq, and_parts, and_from, an
 use Rattle.std.proofs.lemmas.List.{get_or_past}
 use Rattle.lsp_text.specs.TextLines.{line_feed, carriage_return, starts_line, splits_crlf, line_at, line_ends, is_in_content, line_start, line_stop}
 use Rattle.lsp_text.proofs.TextLines.RowLemmas.{IsFirst, IsLast, first_passes, last_passes}
+use Rattle.std.proofs.lemmas.Grind.{common_steps}
 
 -- One index on, the line is the same or the next.
 pub line_step : (text : List ℕ) (k : ℕ) → (line_at text k ≤ line_at text (suc k))
     × (line_at text (suc k) ≤ suc (line_at text k))
 line_step text k =
-    ⊎_elim
-    (λ (e : starts_line text (suc k) ≡ true). rw e (omega arith, omega arith))
-    (λ (e : starts_line text (suc k) ≡ false). rw e (omega arith, omega arith))
-    (cases_Bool (starts_line text (suc k)))
+    grind (arith, common_steps, cases_Bool)
 
 pub line_rises : (text : List ℕ) (j k : ℕ) → j ≤ k → line_at text j ≤ line_at text k
 line_rises text j zero order = let e : j ≡ 0 = omega arith in rw e (omega arith)
@@ -29,31 +27,19 @@ line_rises text j (suc k) order =
 pub splits_none_past : (text : List ℕ) (k : ℕ) → length text ≤ k → splits_crlf text k ≡ false
 splits_none_past text zero past = refl
 splits_none_past text (suc k) past =
-    let e : slice_index text (suc k) ≡ 0 = get_or_past text (suc k) 0 past in
-    and_right (slice_index text k == carriage_return) (slice_index text (suc k) == line_feed) (rw e refl)
+    grind (arith, common_steps, get_or_past, and_right)
 
 -- An index that ends a line splits no CRLF.
 pub line_end_whole : (text : List ℕ) (k : ℕ) → starts_line text k ≡ true → splits_crlf text k ≡ false
 line_end_whole text zero ends = refl
 line_end_whole text (suc k) ends =
-    ⊎_elim
-    (λ (h : (slice_index text k == line_feed) ≡ true).
-    let e : slice_index text k ≡ 10 = eqb-true (slice_index text k) 10 h in rw e refl)
-    (λ (h : ((slice_index text k == carriage_return) && not (slice_index text (suc k) == line_feed)) ≡ true).
-    and_right
-    (slice_index text k == carriage_return)
-    (slice_index text (suc k) == line_feed)
-    (not-true (slice_index text (suc k) == line_feed) (and_parts (slice_index text k == carriage_return)
-    (not (slice_index text (suc k) == line_feed)) h).1))
-    (or_cases (slice_index text k == line_feed) ((slice_index text k == carriage_return)
-    && not (slice_index text (suc k) == line_feed)) ends)
+    grind (arith, common_steps, eqb-true, and_right, not-true, and_parts, or_cases)
 
 -- An index that splits no CRLF is in the content of its line, and whatever is in a content is so.
 pub in_content : (text : List ℕ) (line k : ℕ) → line_at text k ≡ line → splits_crlf text k ≡ false
     → is_in_content text line k ≡ true
 in_content text line k here whole =
-    and_from (line_at text k == line) (not (splits_crlf text k)) (eq-eqb (line_at text k) line here)
-    (not_from_false (splits_crlf text k) whole)
+    grind (arith, common_steps, and_from, eq-eqb, not_from_false)
 
 pub in_content_line : (text : List ℕ) (line k : ℕ) → is_in_content text line k ≡ true → line_at text k ≡ line
 in_content_line text line k h =
@@ -88,8 +74,7 @@ pub record IsReached (text : List ℕ) (line k : ℕ) : Type 0 where
 
 pub reached : (text : List ℕ) (line k : ℕ) → line ≤ line_at text k → IsReached text line k
 reached text line zero up_to =
-    let e : 0 ≡ line = omega arith in
-    record { index = 0; order = omega arith; content = in_content text line 0 e refl }
+    grind (arith, common_steps, in_content)
 reached text line (suc k) up_to = at_next (reached text line k)
   where
     further : IsReached text line k → IsReached text line (suc k)

@@ -11,6 +11,7 @@ use Rattle.lsp_text.proofs.TextLines.LineLemmas.{line_rises}
 use Rattle.lsp_text.proofs.Positions.InLineLemmas.{is_inside_line, line_length}
 use Rattle.lsp_text.proofs.TextLines.StartRowLemmas.{first_starts, next_start}
 use Rattle.lsp_text.proofs.TextLines.ContentLemmas.{stop_is, stop_behind, last_stop}
+use Rattle.std.proofs.lemmas.Grind.{common_steps}
 
 -- the characters of a line's content
 inside : (text : List ℕ) (line k : ℕ) → line ≤ line_ends text → line_start text line ≤ k → k < line_stop text line
@@ -25,13 +26,11 @@ inside text line k there low high =
 
 not_feed : (x : ℕ) → is_inside_line x ≡ true → x ≢ line_feed
 not_feed x h e =
-    false≢true (sym (not-true (x == line_feed) (and_parts (not (x == line_feed)) (not (x == carriage_return)) h).0)
-    ∙ eq-eqb x line_feed e)
+    grind (arith, common_steps, not-true, and_parts, eq-eqb)
 
 not_return : (x : ℕ) → is_inside_line x ≡ true → x ≢ carriage_return
 not_return x h e =
-    false≢true (sym (not-true (x == carriage_return) (and_parts (not (x == line_feed)) (not (x == carriage_return))
-    h).1) ∙ eq-eqb x carriage_return e)
+    grind (arith, common_steps, not-true, and_parts, eq-eqb)
 
 -- one character, and two
 take_one : (text : List ℕ) (k : ℕ) → k < length text → take 1 (drop k text) ≡ get_or text k 0 ∷ []
@@ -44,23 +43,12 @@ take_two text k h =
 
 one_end : (text : List ℕ) (k : ℕ) → k < length text → starts_line text (suc k) ≡ true → IsLineEnd (take 1 (drop k text))
 one_end text k within ends =
-    ⊎_elim
-    (λ (h : (slice_index text k == line_feed) ≡ true). inl
-    (inl (take_one text k within ∙ ap (λ x. x ∷ []) (eqb-true (slice_index text k) 10 h))))
-    (λ (h : ((slice_index text k == carriage_return) && not (slice_index text (suc k) == line_feed)) ≡ true).
-    inl (inr (take_one text k within
-    ∙ ap (λ x. x ∷ [])
-    (eqb-true (slice_index text k) 13 (and_parts (slice_index text k == carriage_return)
-    (not (slice_index text (suc k) == line_feed)) h).0))))
-    (or_cases (slice_index text k == line_feed) ((slice_index text k == carriage_return)
-    && not (slice_index text (suc k) == line_feed)) ends)
+    grind (arith, common_steps, inl, take_one, eqb-true, inr, and_parts, or_cases)
 
 two_ends : (text : List ℕ) (k : ℕ) → suc k < length text → splits_crlf text (suc k) ≡ true
     → IsLineEnd (take 2 (drop k text))
 two_ends text k within split =
-    let both = and_parts (slice_index text k == carriage_return) (slice_index text (suc k) == line_feed) split in
-    inr (take_two text k within ∙ (ap (λ x. x ∷ get_or text (suc k) 0 ∷ []) (eqb-true (slice_index text k) 13 both.0)
-    ∙ ap (λ x. carriage_return ∷ x ∷ []) (eqb-true (slice_index text (suc k)) 10 both.1)))
+    grind (arith, common_steps, and_parts, inr, take_two, eqb-true)
 
 -- the line end from where the content stops to where the next line starts
 end_from : (text : List ℕ) (line stop size : ℕ) → line_stop text line ≡ stop → line_start text (suc line) - stop ≡ size
@@ -111,25 +99,16 @@ return_alone text line k there start alone feed =
     let is_return : slice_index text k ≡ carriage_return = cc in
     let ends : starts_line text (suc k) ≡ true = ap (starts_line text) (sym start) ∙ next.ends in
     ⊎_elim
-    (λ (h : (slice_index text k == line_feed) ≡ true). absurd (omega (
-      arith,
-      is_return,
-      eqb-true (slice_index text k) 10 h,
-    )))
+    (λ (h : (slice_index text k == line_feed) ≡ true). grind (arith, common_steps, eqb-true))
     (λ (h : ((slice_index text k == carriage_return) && not (slice_index text (suc k) == line_feed)) ≡ true).
-    false≢true
-    (sym (not-true (slice_index text (suc k) == line_feed) (and_parts (slice_index text k == carriage_return)
-    (not (slice_index text (suc k) == line_feed)) h).1)
-    ∙ eq-eqb (slice_index text (suc k)) line_feed feed))
+    grind (arith, common_steps, not-true, and_parts, eq-eqb))
     (or_cases (slice_index text k == line_feed) ((slice_index text k == carriage_return)
     && not (slice_index text (suc k) == line_feed)) ends)
 
 crlf_is_one : (text : List ℕ) (line : ℕ) → line < line_ends text → line_end_of text line ≡ carriage_return ∷ [] →
     slice_index text (line_start text (suc line)) ≢ line_feed
 crlf_is_one text line there alone feed =
-    let at : line_start text (suc line) ≡ suc (line_start text (suc line) - 1) =
-    omega (arith, (next_start text line there).some) in
-    return_alone text line (line_start text (suc line) - 1) there at alone (ap (slice_index text) (sym at) ∙ feed)
+    grind (arith, common_steps, next_start, return_alone)
 
 pub lines_part : (text : List ℕ) → LinesPart text
 lines_part text = record {

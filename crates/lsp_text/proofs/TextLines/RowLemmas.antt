@@ -2,6 +2,7 @@
 use Rattle.std.proofs.Common.{ℕ, zero, suc, ◌≡◌, ◌+◌, ◌<◌, ◌≤◌, ◌⊎◌, ◌∷◌, Bool, true, false, Some, None, filter, find, ⊎_elim, inl, inr, refl, arith}
 use Rattle.std.proofs.lemmas.Bool.{cases_Bool, cases_eq, cases_lt}
 use Rattle.lsp_text.specs.TextLines.{numbers_from, first_or, last_or}
+use Rattle.std.proofs.lemmas.Grind.{common_steps}
 
 -- `found` is the least number of the row that passes
 pub record IsFirst (test : ℕ → Bool) (low count found : ℕ) : Type 0 where
@@ -26,12 +27,7 @@ pub first_passes : (test : ℕ → Bool) (default low count k : ℕ) → low ≤
 first_passes test default low zero k order within passes = absurd (omega arith)
 first_passes test default low (suc count) k order within passes =
     ⊎_elim
-    (λ (e : test low ≡ true). rw e (record {
-      from_low = omega arith;
-      in_row = omega arith;
-      passes = e;
-      least = λ j o p. o;
-    }))
+    (λ (e : test low ≡ true). rw e (grind (arith, common_steps)))
     (λ (e : test low ≡ false).
     rw e (later e (first_passes test default (suc low) count k (differs test low k e passes order) (omega arith)
     passes)))
@@ -55,62 +51,23 @@ last_or_default : (test : ℕ → Bool) (default low count : ℕ)
 unfolding LastOr
 last_or_default test default low zero = inl (refl, λ k order within passes. omega arith)
 last_or_default test default low (suc count) =
-    ⊎_elim
-    (λ (e : test low ≡ true). rw e
-    (inr (taken e (last_or low (filter test (numbers_from (suc low) count)))
-    (last_or_default test low (suc low) count))))
-    (λ (e : test low ≡ false). rw e (left_out e (last_or default (filter test (numbers_from (suc low) count)))
-    (last_or_default test default (suc low) count)))
-    (cases_Bool (test low))
-  where
-    below : (j : ℕ) → j < low + suc count → (low ≡ j) ⊎ ((suc low ≤ j) ⊎ (j ≤ low))
-    below j within = grind arith
-
-    taken : test low ≡ true → (found : ℕ) → LastOr test low (suc low) count found → IsLast test low (suc count) found
-    taken e found f =
-        ⊎_elim
-        (λ (g : (found ≡ low) × ((k : ℕ) → suc low ≤ k → k < suc low + count → test k ≡ true → ⊥)).
-        record {
-          from_low = omega (arith, g.0);
-          in_row = omega (arith, g.0);
-          passes = rw g.0 e;
-          greatest = λ j o p. ⊎_elim (λ (h : low < j). absurd (g.1 j h (omega arith) p))
-              (λ (h : j ≤ low). omega (arith, g.0, h)) (cases_lt low j);
-        })
-        (λ (g : IsLast test (suc low) count found).
-        record {
-          from_low = omega (arith, g.from_low);
-          in_row = omega (arith, g.in_row);
-          passes = g.passes;
-          greatest = λ j o p. g.greatest j (omega arith) p;
-        })
-        f
-
-    left_out : test low ≡ false → (found : ℕ) → LastOr test default (suc low) count found
-        → LastOr test default low (suc count) found
-    left_out e found f =
-        ⊎_elim
-        (λ (g : (found ≡ default) × ((k : ℕ) → suc low ≤ k → k < suc low + count → test k ≡ true → ⊥)).
-        inl (g.0, λ j o w p. g.1 j (differs test low j e p o) (omega arith) p))
-        (λ (g : IsLast test (suc low) count found).
-        inr (record {
-          from_low = omega (arith, g.from_low);
-          in_row = omega (arith, g.in_row);
-          passes = g.passes;
-          greatest = λ j o p. g.greatest j (omega arith) p;
-        }))
-        f
+    grind (
+      arith,
+      common_steps,
+      inr,
+      cases_Bool,
+      cases_lt,
+      inl,
+      differs,
+      (last_or_default test low (suc low) count),
+      (last_or_default test default (suc low) count),
+    )
 
 pub last_passes : (test : ℕ → Bool) (default low count k : ℕ) → low ≤ k → k < low + count → test k ≡ true
     → IsLast test low count (last_or default (filter test (numbers_from low count)))
 unfolding LastOr
 last_passes test default low count k order within passes =
-    ⊎_elim
-    (λ (none : (last_or default (filter test (numbers_from low count)) ≡ default)
-    × ((j : ℕ) → low ≤ j → j < low + count → test j ≡ true → ⊥)).
-    absurd (none.1 k order within passes))
-    (λ (some : IsLast test low count (last_or default (filter test (numbers_from low count)))). some)
-    (last_or_default test default low count)
+    grind (arith, common_steps, last_or_default)
 
 -- A row's numbers that pass one test, searched by another: the only number that passes both is found.
 pub find_only : (test wanted : ℕ → Bool) (low count k : ℕ) → low ≤ k → k < low + count → test k ≡ true → wanted k ≡ true
@@ -127,14 +84,7 @@ find_only test wanted low (suc count) k order within passes is_wanted only =
     passed_over : (low ≡ k → ⊥) → find wanted (filter test (numbers_from (suc low) count)) ≡ Some k
         → find wanted (filter test (numbers_from low (suc count))) ≡ Some k
     passed_over e rest =
-        ⊎_elim
-        (λ (p : test low ≡ true).
-        ⊎_elim
-        (λ (w : wanted low ≡ true). absurd (e (only low (omega arith) p w)))
-        (λ (w : wanted low ≡ false). rw (p, w) rest)
-        (cases_Bool (wanted low)))
-        (λ (p : test low ≡ false). rw p rest)
-        (cases_Bool (test low))
+        grind (arith, common_steps, cases_Bool)
 
 -- What is found is a number of the row that passes both tests.
 pub record IsFound (test wanted : ℕ → Bool) (low count found : ℕ) : Type 0 where
@@ -169,10 +119,7 @@ find_found test wanted low (suc count) found f =
         → (find wanted (filter test (numbers_from (suc low) count)) ≡ Some found → IsFound test wanted low (suc count)
         found) → IsFound test wanted low (suc count) found
     at_low p g more =
-        ⊎_elim
-        (λ (w : wanted low ≡ true). here p w (let s : Some low ≡ Some found = rw w at g in cc))
-        (λ (w : wanted low ≡ false). more (rw w at g))
-        (cases_Bool (wanted low))
+        grind (arith, common_steps, here, cases_Bool)
 
 -- Nothing is found where no number of the row passes both tests.
 pub find_none : (test wanted : ℕ → Bool) (low count : ℕ) → ((k : ℕ) → low ≤ k → k < low + count → test k ≡ true

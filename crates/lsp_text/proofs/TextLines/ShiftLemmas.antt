@@ -8,6 +8,7 @@ use Rattle.std.specs.Vec.Iter.{into_iter_items, into_iter_len, into_iter_steps}
 use Rattle.std.specs.Iterator.{Drains}
 use Rattle.std.proofs.lemmas.Iterator.{items_from_drains}
 use Rattle.std.proofs.lemmas.Iterator.Adapters.{YieldsList-from_vec}
+use Rattle.std.proofs.lemmas.Grind.{common_steps}
 
 -- the starts with those from index `first` up to `index` moved
 abbrev pub shifted : ℕ → ℕ → ℕ → ℕ → List ℕ → List ℕ
@@ -26,13 +27,7 @@ shifted_more to end first index old now order within is =
     let size : length (take first old) ≡ first = length-take-le first old (omega arith) in
     let inside : m < length rest = omega (arith, length-drop first old) in
     let whole : length moved ≡ length rest =
-    omega (
-      arith,
-      length-append (map f (take m rest)) (drop m rest),
-      length-map (take m rest) f,
-      length-take-le m rest (omega arith),
-      length-drop m rest,
-    ) in
+    grind (arith, common_steps, length-append, length-map, length-take-le, length-drop) in
     let at : get_or now index 0 ≡ get_or moved m 0 =
     ap (λ xs. get_or xs index 0) is ∙ get_or-append_right (take first old) moved first index 0 size order in
     let x = get_or now index 0 in

@@ -14,12 +14,11 @@ use Rattle.std.specs.Str.{IsUtf8}
 use Rattle.lsp_text.proofs.TextLines.StartLemmas.{starts_of_text}
 use Rattle.lsp_text.proofs.TextLines.IndexesLemmas.{indexes_from}
 use Rattle.lsp_text.proofs.TextLines.StartRowLemmas.{filter_ascends, ascends_from, line_starts_are}
+use Rattle.std.proofs.lemmas.Grind.{common_steps}
 
 numbers_split : (first m n : ℕ) → numbers_from first (m + n) ≡ numbers_from first m ++ numbers_from (first + m) n
 numbers_split first zero n =
-    let a : 0 + n ≡ n = omega arith in
-    let b : first + 0 ≡ first = omega arith in
-    ap (numbers_from first) a ∙ ap (λ f. numbers_from f n) (sym b)
+    grind (arith, common_steps)
 numbers_split first (suc m) n =
     let a : suc m + n ≡ suc (m + n) = omega arith in
     let b : suc first + m ≡ first + suc m = omega arith in
@@ -33,10 +32,7 @@ ends_split text low mid high first second =
     let sum : high - low ≡ (mid - low) + (high - mid) = omega arith in
     let from : suc low + (mid - low) ≡ suc mid = omega arith in
     ap (λ n. filter (starts_line text) (numbers_from (suc low) n)) sum ∙
-    (ap (filter (starts_line text)) (numbers_split (suc low) (mid - low) (high - mid)) ∙
-    (filter-append (starts_line text) (numbers_from (suc low) (mid - low))
-    (numbers_from (suc low + (mid - low)) (high - mid)) ∙
-    ap (λ f. starts_between text low mid ++ filter (starts_line text) (numbers_from f (high - mid))) from))
+    (grind (arith, common_steps, numbers_split, low, filter-append))
 
 -- Two tests that agree along two rows choose numbers that agree.
 pub filter_moved : (move : ℕ → ℕ) (test other : ℕ → Bool) (a b n : ℕ) → ((j : ℕ) → j < n → test (a + j) ≡ other (b + j))
@@ -62,13 +58,7 @@ pub filter_below : (test : ℕ → Bool) (low n k : ℕ) → k < length (filter 
     → get_or (filter test (numbers_from low n)) k 0 < low + n
 filter_below test low zero k h = absurd (omega arith)
 filter_below test low (suc n) k h =
-    one_more (test low) (filter test (numbers_from (suc low) n)) (filter_below test (suc low) n) k h
-  where
-    one_more : (b : Bool) (later : List ℕ) → ((k : ℕ) → k < length later → get_or later k 0 < suc low + n) → (k : ℕ)
-        → k < length (cond b (low ∷ later) later) → get_or (cond b (low ∷ later) later) k 0 < low + suc n
-    one_more true later each zero h = omega arith
-    one_more true later each (suc k) h = omega (arith, each k (omega arith))
-    one_more false later each k h = omega (arith, each k h)
+    grind (arith, common_steps, low, (filter_below test (suc low) n))
 
 ends_upto : (text : List ℕ) (low high k : ℕ) → low ≤ high → k < length (starts_between text low high)
     → get_or (starts_between text low high) k 0 ≤ high
@@ -95,13 +85,7 @@ count_front front rest_after place line some low high found =
     get_or_append_left front rest_after 0 last (omega arith) in
     absurd (omega (arith, at, low last (omega arith), found.greatest last (omega arith) (omega (arith, size)))))
     (λ (h : length front ≤ line + 1).
-    ⊎_elim
-    (λ (g : length front < line + 1).
-    let at : get_or (front ++ rest_after) line 0 ≡ get_or rest_after (line - length front) 0 =
-    get_or-append_right front rest_after (length front) line 0 refl (omega arith) in
-    absurd (omega (arith, at, found.at_most, high (line - length front) (omega (arith, size, found.within)))))
-    (λ (g : line + 1 ≤ length front). omega arith)
-    (cases_lt (length front) (line + 1)))
+    grind (arith, common_steps, get_or-append_right, cases_lt))
     (cases_lt (line + 1) (length front))
 
 -- The starts up to a place, and those behind it.
@@ -144,9 +128,7 @@ module _ (old bytes : List ℕ) (from to len : ℕ) (is : IsReplaced old bytes f
 
   ends_front : (k : ℕ) → suc k < from → starts_line old (suc k) ≡ starts_line bytes (suc k)
   ends_front k h =
-      ap (λ x. (x == 10) || ((x == 13) && not (slice_index old (suc k) == 10))) (sym (same_front k (omega arith))) ∙
-      ap (λ y. (slice_index bytes k == 10) || ((slice_index bytes k == 13) && not (y == 10)))
-      (sym (same_front (suc k) h))
+      grind (arith, common_steps, same_front)
 
   ends_back : (i : ℕ) → starts_line old (suc (to + i)) ≡ starts_line bytes (suc (from + len + i))
   ends_back i =
@@ -218,13 +200,7 @@ module _ (old bytes starts found now : List ℕ) (from to len keep past : ℕ)
   behind_is = ap (drop past) placed.starts_are ∙ cut_past.rest_after
 
   front_length : length (take keep starts ++ found) ≡ keep + length found
-  front_length = omega (
-    arith,
-    length-append (take keep starts) found,
-    length-take keep starts,
-    placed.keep_is.within,
-    placed.some_keep,
-  )
+  front_length = grind (arith, common_steps, length-append, length-take)
 
   grouped : now ≡ (take keep starts ++ found) ++ drop past starts
   grouped = placed.now_is ∙ sym (append_assoc (take keep starts) found (drop past starts))
@@ -238,12 +214,7 @@ module _ (old bytes starts found now : List ℕ) (from to len keep past : ℕ)
       (keep + length found) front_length
 
   pub placed_first : keep + length found ≤ length now
-  placed_first = omega (
-    arith,
-    ap length grouped,
-    length-append (take keep starts ++ found) (drop past starts),
-    front_length,
-  )
+  placed_first = grind (arith, common_steps, grouped, length-append, front_length)
 
   behind_at : (k : ℕ) → keep + length found ≤ k → k < length now → (to < get_or now k 0) × (get_or now k 0 ≤ length old)
   behind_at k low high =
@@ -252,11 +223,7 @@ module _ (old bytes starts found now : List ℕ) (from to len keep past : ℕ)
       let at : get_or now k 0 ≡ get_or row i 0 =
       ap (λ n. get_or now n 0) (let e : k ≡ keep + length found + i = omega arith in e) ∙
       (sym (get_or-drop (keep + length found) now i 0) ∙ ap (λ xs. get_or xs i 0) (now_behind ∙ behind_is)) in
-      let inside : i < length row = omega (
-        arith,
-        length-drop (keep + length found) now,
-        ap length (now_behind ∙ behind_is),
-      ) in (
+      let inside : i < length row = grind (arith, common_steps, length-drop, now_behind, behind_is) in (
         omega (arith, at, ends_behind old to (length old) i inside),
         omega (arith, at, ends_upto old to (length old) i placed.is.within inside),
       )
@@ -279,15 +246,7 @@ module _ (old bytes starts found now : List ℕ) (from to len keep past : ℕ)
   pub placed_starts : take (keep + length found) now ++ map (λ start. start - to + (from + len))
       (drop (keep + length found) now) ≡ line_starts bytes
   placed_starts =
-      ap (λ xs. xs ++ map (λ start. start - to + (from + len)) (drop (keep + length found) now)) now_front ∙
-      (ap (λ xs. (take keep starts ++ found) ++ map (λ start. start - to + (from + len)) xs) (now_behind ∙ behind_is) ∙
-      (append_assoc (take keep starts) found
-      (map (λ start. start - to + (from + len)) (starts_between old to (length old))) ∙
-      (ap (λ xs. xs ++ (found ++ map (λ start. start - to + (from + len)) (starts_between old to (length old)))) front_is
-      ∙
-      (ap (λ xs. (0 ∷ starts_between old 0 (from - 1))
-      ++ (xs ++ map (λ start. start - to + (from + len)) (starts_between old to (length old)))) placed.found_is ∙
-      sym (starts_spliced old bytes from to len placed.is)))))
+      grind (arith, common_steps, now_front, now_behind, behind_is, append_assoc, front_is, starts_spliced)
 
 pub line_of_same : (starts shown : List ℕ) (place error line : ℕ) → shown ≡ starts → error ≡ place
     → IsLineOf shown error line → IsLineOf starts place line
@@ -330,12 +289,7 @@ module _ (old bytes starts found now shown : List ℕ) (from to len keep past co
       ++ map (λ start. start - to + (from + len)) (drop (keep + count) shown) →
       take n (new ++ drop (length new) rest_after) ≡ line_starts bytes
   shown_starts new rest_after n size moved =
-      take_at new (drop (length new) rest_after) n size ∙
-      (moved ∙
-      (ap (λ m. take (keep + m) shown ++ map (λ start. start - to + (from + len)) (drop (keep + m) shown)) counted ∙
-      (ap (λ xs. take (keep + length found) xs ++ map (λ start. start - to + (from + len))
-      (drop (keep + length found) xs)) same ∙
-      placed_starts old bytes starts found now from to len keep past placed)))
+      grind (arith, common_steps, take_at, placed_starts)
 
 -- Lines of a text that was replaced, seen as line starts of its bytes, and back.
 pub replaces_from : (old lines starts bytes read : List ℕ) (from to len : ℕ) → starts ≡ lines → AreLinesOf lines old

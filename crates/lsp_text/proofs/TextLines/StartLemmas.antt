@@ -14,6 +14,7 @@ use Rattle.lsp_text.specs.Text.{place_of}
 use Rattle.lsp_text.specs.TextLines.{starts_line, numbers_from}
 use Rattle.lsp_text.specs.LineStarts.{line_starts, start_places}
 use Rattle.lsp_text.proofs.Positions.PlaceLemmas.{place_more}
+use Rattle.std.proofs.lemmas.Grind.{common_steps}
 
 -- the ends of a text, where `before` stands before it and a character c weighs `weight c`: what stands before each
 abbrev pub weighed_ends : (ℕ → ℕ) → ℕ → List ℕ → List ℕ
@@ -71,10 +72,7 @@ high_skipped (b ∷ bs) rest before all =
 pub encode_high : (c : ℕ) → 128 ≤ c → AllHigh (encode c)
 unfolding encode
 encode_high c h =
-    cond_both (ltb c 128) _ _ AllHigh (λ e. absurd (omega (arith, ltb-true c 128 e)))
-    (λ _. cond_both (ltb c 2048) _ _ AllHigh (λ _. (omega arith, (omega arith, tt)))
-    (λ _. cond_both (ltb c 65536) _ _ AllHigh (λ _. (omega arith, (omega arith, (omega arith, tt))))
-    (λ _. (omega arith, (omega arith, (omega arith, (omega arith, tt)))))))
+    grind (arith, common_steps, cond_both, ltb)
 
 high_first : (bs rest : List ℕ) → AllHigh bs → 0 < length bs → 128 ≤ get_or (bs ++ rest) 0 0
 high_first [] rest all some = absurd (omega arith)
@@ -87,15 +85,18 @@ not_line_feed a b h g = grind (arith, nat_tests)
 pub first_line_feed : (cs : List ℕ) → (slice_index (encode_utf8_all cs) 0 == 10) ≡ (slice_index cs 0 == 10)
 first_line_feed [] = refl
 first_line_feed (c ∷ cs) =
-    ⊎_elim
-    (λ (h : c < 128). ap (λ bs. slice_index (bs ++ encode_utf8_all cs) 0 == 10) (encode_ascii c h))
-    (λ (h : 128 ≤ c). not_line_feed (slice_index (encode c ++ encode_utf8_all cs) 0) c
-    (high_first (encode c) (encode_utf8_all cs) (encode_high c h) (omega (
+    grind (
       arith,
-      length-encode c,
-      (len_utf8_bounds c).0,
-    ))) h)
-    (cases_lt c 128)
+      common_steps,
+      encode_ascii,
+      not_line_feed,
+      encode,
+      high_first,
+      encode_high,
+      length-encode,
+      len_utf8_bounds,
+      cases_lt,
+    )
 
 pub ends_of_bytes : (cs : List ℕ) (before : ℕ) → weighed_ends (λ _. 1) before (encode_utf8_all cs)
     ≡ weighed_ends len_utf8 before cs
@@ -105,15 +106,18 @@ ends_of_bytes (c ∷ cs) before =
     let ends = λ (b : Bool) (n : ℕ). cond b (n ∷ weighed_ends len_utf8 n cs) (weighed_ends len_utf8 n cs) in
     ⊎_elim
     (λ (h : c < 128).
-    ap (λ bs. weighed_ends (λ _. 1) before (bs ++ bytes)) (encode_ascii c h) ∙
-    (ap (λ w. cond (starts_line (c ∷ bytes) 1) ((before + 1) ∷ w) w) (ends_of_bytes cs (before + 1)) ∙
-    (ap (λ x. ends ((c == 10) || ((c == 13) && not x)) (before + 1)) (first_line_feed cs) ∙
-    ap (λ n. ends (starts_line (c ∷ cs) 1) (before + n)) (sym (len_utf8_ascii c h)))))
+    grind (arith, common_steps, encode_ascii, first_line_feed, len_utf8_ascii, (ends_of_bytes cs (before + 1))))
     (λ (h : 128 ≤ c).
-    high_skipped (encode c) bytes before (encode_high c h) ∙
-    (ap (λ n. weighed_ends (λ _. 1) (before + n) bytes) (length-encode c) ∙
-    (ends_of_bytes cs (before + len_utf8 c) ∙
-    ap (λ b. ends b (before + len_utf8 c)) (sym (high_ends_none c cs h)))))
+    grind (
+      arith,
+      common_steps,
+      high_skipped,
+      encode,
+      encode_high,
+      length-encode,
+      high_ends_none,
+      (ends_of_bytes cs (before + len_utf8 c)),
+    ))
     (cases_lt c 128)
 
 -- The line starts of the bytes are the places of those of the characters.

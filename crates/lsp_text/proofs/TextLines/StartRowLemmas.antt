@@ -5,6 +5,7 @@ use Rattle.lsp_text.specs.TextLines.{starts_line, numbers_from, line_at, line_en
 use Rattle.lsp_text.specs.LineStarts.{line_starts}
 use Rattle.lsp_text.specs.Starts.{AreStarts}
 use Rattle.lsp_text.proofs.TextLines.LineLemmas.{line_rises, in_content, in_content_line, line_end_whole, line_has_start}
+use Rattle.std.proofs.lemmas.Grind.{common_steps}
 
 -- Each number of a row is greater than the one before, and the first is `low` at least.
 abbrev pub Ascends : ℕ → List ℕ → Type 0
@@ -18,12 +19,7 @@ ascends_lower low high (x ∷ xs) order a = (omega (arith, a.0), a.1)
 pub filter_ascends : (test : ℕ → Bool) (low count : ℕ) → Ascends low (filter test (numbers_from low count))
 filter_ascends test low zero = tt
 filter_ascends test low (suc count) =
-    let later : Ascends (suc low) (filter test (numbers_from (suc low) count)) = filter_ascends test (suc low) count in
-    ⊎_elim
-    (λ (e : test low ≡ true). rw e (omega arith, later))
-    (λ (e : test low ≡ false). rw e (ascends_lower low (suc low) (filter test (numbers_from (suc low) count))
-    (omega arith) later))
-    (cases_Bool (test low))
+    grind (arith, common_steps, ascends_lower, cases_Bool, (filter_ascends test (suc low) count))
 
 pub ascends_from : (low : ℕ) (xs : List ℕ) → Ascends low xs → (k : ℕ) → k < length xs → low ≤ get_or xs k 0
 ascends_from low [] a k h = absurd (omega arith)
@@ -86,33 +82,17 @@ one_further : (text : List ℕ) (k n : ℕ) (b : Bool) → starts_line text (suc
     (j : ℕ) → j < length (cond b (suc k ∷ later) later) → IsEnd text k (suc n) (line_at text k + suc j)
     (get_or (cond b (suc k ∷ later) later) j 0)
 one_further text k n true e later each zero h =
-    let l : line_at text (suc k) ≡ suc (line_at text k) = rw e refl in
-    record { rest_after = omega arith; within = omega arith; ends = e; line_is = omega arith }
+    grind (arith, common_steps)
 one_further text k n true e later each (suc j) h =
-    let l : line_at text (suc k) ≡ suc (line_at text k) = rw e refl in
-    let end = each j (omega arith) in
-    record {
-      rest_after = omega (arith, end.rest_after);
-      within = omega (arith, end.within);
-      ends = end.ends;
-      line_is = omega (arith, end.line_is);
-    }
+    grind (arith, common_steps)
 one_further text k n false e later each j h =
-    let l : line_at text (suc k) ≡ line_at text k = rw e refl in
-    let end = each j h in
-    record {
-      rest_after = omega (arith, end.rest_after);
-      within = omega (arith, end.within);
-      ends = end.ends;
-      line_is = omega (arith, end.line_is);
-    }
+    grind (arith, common_steps)
 
 end_at : (text : List ℕ) (k n j : ℕ) → j < length (filter (starts_line text) (numbers_from (suc k) n)) →
     IsEnd text k n (line_at text k + suc j) (get_or (filter (starts_line text) (numbers_from (suc k) n)) j 0)
 end_at text k zero j h = absurd (omega arith)
 end_at text k (suc n) j h =
-    one_further text k n (starts_line text (suc k)) refl (filter (starts_line text) (numbers_from (suc (suc k)) n))
-    (end_at text (suc k) n) j h
+    grind (arith, common_steps, one_further, (end_at text (suc k) n))
 
 -- An index that ends a line is the start of its line.
 end_starts : (text : List ℕ) (end : ℕ) → end ≤ length text → 0 < end → starts_line text end ≡ true
@@ -136,8 +116,7 @@ end_starts text (suc k) within some ends =
 
 pub first_starts : (text : List ℕ) → line_start text 0 ≡ 0
 first_starts text =
-    let start = line_has_start text 0 (omega arith) in
-    omega (arith, start.least 0 (omega arith) (in_content text 0 0 refl refl))
+    grind (arith, common_steps, line_has_start, in_content)
 
 -- The start at an index of the row is that of the line with this number.
 pub start_at : (text : List ℕ) (line : ℕ) → line ≤ line_ends text → get_or (line_starts text) line 0
@@ -166,10 +145,5 @@ next_start text line h =
     let size : suc (length row) ≡ suc (line_ends text) = length-line_starts text in
     let end : IsEnd text 0 (length text - 0) (0 + suc line) (get_or row line 0) =
     end_at text 0 (length text - 0) line (omega arith) in
-    let found : IsNextStart text line (get_or row line 0) = record {
-      some = omega (arith, end.rest_after);
-      within = omega (arith, end.within);
-      ends = end.ends;
-      line_is = omega (arith, end.line_is);
-    } in
+    let found : IsNextStart text line (get_or row line 0) = grind (arith, common_steps) in
     subst (IsNextStart text line) (start_at text (suc line) h) found

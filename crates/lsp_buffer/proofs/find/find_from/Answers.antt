@@ -1,7 +1,7 @@
-use Rattle.std.proofs.Common.{◌∙◌, sym, arith}
-use Rattle.std.proofs.lemmas.Bool.{false≢true}
+use Rattle.std.proofs.Common.{arith}
 use Rattle.lsp_buffer.proofs.Queries.FoundLemmas.{block_found, block_next, block_room}
 use Rattle.lsp_buffer.proofs.find.find_from.Goals as goal
+use Rattle.std.proofs.lemmas.Grind.{common_steps}
 
 pub plus-next-requires : goal.plus-next-requires
 plus-next-requires c = block_room c.args.blocks.now c.requires.are c.requires.size c.args.target c.loop-index.index
@@ -9,13 +9,31 @@ plus-next-requires c = block_room c.args.blocks.now c.requires.are c.requires.si
     c.counts.ensures c.loop-index.invariant
 
 pub loop-index-preserved : goal.loop-index-preserved
-loop-index-preserved c = block_next c.args.blocks.now c.requires.are c.requires.size c.args.target c.loop-index.index
-    c.index-blocks-index.result c.counts.result c.loop-index.before (omega arith) c.index-blocks-index.is
-    c.counts.ensures c.loop-index.invariant c.plus-next.result c.plus-next.ensures
-    (c.reaches.ensures.0 c.if-not-reaches.false)
+loop-index-preserved c = grind (
+  arith,
+  common_steps,
+  block_next,
+  c.requires.are,
+  c.requires.size,
+  c.index-blocks-index.is,
+  c.counts.ensures,
+  c.loop-index.invariant,
+  c.plus-next.ensures,
+  c.reaches.ensures.0,
+  c.if-not-reaches.false,
+)
 
 pub returns-then-not-reaches : goal.returns-then-not-reaches
-returns-then-not-reaches c = block_found c.args.blocks.now c.requires.are c.requires.size c.args.target
-    c.loop-index.index c.index-blocks-index.result c.counts.result c.loop-index.before (omega arith)
-    c.index-blocks-index.is c.counts.ensures c.loop-index.invariant c.plus-next.result c.plus-next.ensures
-    (λ reaches. false≢true (sym c.if-not-reaches.true ∙ c.reaches.ensures.1 reaches))
+returns-then-not-reaches c = grind (
+  arith,
+  common_steps,
+  block_found,
+  c.requires.are,
+  c.requires.size,
+  c.index-blocks-index.is,
+  c.counts.ensures,
+  c.loop-index.invariant,
+  c.plus-next.ensures,
+  c.if-not-reaches.true,
+  c.reaches.ensures.1,
+)

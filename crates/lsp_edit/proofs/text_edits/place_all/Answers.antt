@@ -8,9 +8,6 @@ use Rattle.lsp_edit.specs.inside.TextEdits.{ArePlaced}
 use Rattle.lsp_edit.proofs.Batches.TextEditLemmas.{nowhere, placed_next}
 use Rattle.lsp_edit.proofs.text_edits.place_all.Goals as goal
 
-pub loop-edit-init : goal.loop-edit-init
-loop-edit-init c = rw c.new-placed.ensures.items tt
-
 pub returns-in_err-start-clause-error : goal.returns-in_err-start-clause-error
 returns-in_err-start-clause-error c =
     let p = err_from_is_err_and c.from_residual.result c.from_residual.ensures.1 in
@@ -31,10 +28,3 @@ loop-edit-preserved c =
     ∙ ap (λ (x : TextEdit). take c.loop-edit.edit-index c.args.edits.now ++ x ∷ []) (sym c.edit-item.is))
     c.loop-edit.invariant c.in_ok-start.ensures (c.len-number.ensures ∙ c.loop-edit.placed.ok.0) c.deref.ensures
     c.in_ok-push_placed.ensures
-
-pub returns-clause-ok : goal.returns-clause-ok
-returns-clause-ok c =
-    let all : take c.loop-edit.edit-index c.args.edits.now ≡ c.args.edits.now =
-    take_all c.loop-edit.edit-index c.args.edits.now c.loop-edit-test.false in
-    subst (λ (es : List TextEdit). ArePlaced (units_in c.args.encoding) (chars c.args.text.now) 0 es
-    c.loop-edit.placed.items) all c.loop-edit.invariant

@@ -4,9 +4,6 @@ use Rattle.lsp_edit.specs.Parts.{parts_of}
 use Rattle.lsp_edit.proofs.Batches.TextEditLemmas.{no_edit, overlapping, spanning_on}
 use Rattle.lsp_edit.proofs.text_edits.spans_left.Goals as goal
 
-pub loop-edit-init : goal.loop-edit-init
-loop-edit-init c = rw c.new-spans.ensures.items (record { parts = refl; apart = λ a. a; rest_after = inl refl })
-
 pub returns-then-edit-low-clause-error : goal.returns-then-edit-low-clause-error
 returns-then-edit-low-clause-error c =
     inr

@@ -4,16 +4,11 @@ use Rattle.lsp_frame.specs.inside.Stream.{HasTaken}
 use Rattle.lsp_frame.proofs.ProgressLemmas.{taken_more}
 use Rattle.lsp_frame.proofs.StreamLemmas.{fault_behind, fed_holding}
 use Rattle.lsp_frame.proofs.stream.take_frames.Goals as goal
+use Rattle.std.proofs.lemmas.Grind.{common_steps}
 
 pub loop-at-preserved : goal.loop-at-preserved
 loop-at-preserved c = record {
-  within = omega (
-    arith,
-    c.in-Ok.ensures.taken,
-    length-take (length c.args.piece.now - c.loop-at.at) (drop c.loop-at.at c.args.piece.now),
-    length-drop c.loop-at.at c.args.piece.now,
-    c.loop-at.invariant.within,
-  );
+  within = grind (arith, common_steps, length-take, length-drop, c.in-Ok.ensures.taken, c.loop-at.invariant.within);
   none = c.in_ok-take_frame.ensures.none.0;
   sound = c.in_ok-take_frame.ensures.none.1;
   taken = λ max_body stream at.

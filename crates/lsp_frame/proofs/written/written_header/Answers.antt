@@ -9,6 +9,7 @@ use Rattle.lsp_frame.specs.Verdict.{is_digit}
 use Rattle.lsp_frame.proofs.WrittenHeaderLemmas.{digits_front, begins_written, found_parts, within_told}
 use Rattle.lsp_frame.proofs.written.written_header.Goals as goal
 use Rattle.lsp_frame.proofs.written.written_header.Goals.{then-is_empty-via-then-is_empty, then-is_empty-via-else-is_empty+then-not-starts_with}
+use Rattle.std.proofs.lemmas.Grind.{common_steps}
 
 pub number_within-requires-clause-digits : goal.number_within-requires-clause-digits
 number_within-requires-clause-digits c =
@@ -25,12 +26,13 @@ returns-clause-some c =
     c.starts_with.ensures.value in
     let ended : c.starts_with.result ≡ true = search (rules, c.if-not-starts_with.false) in
     let few : length c.split_at.result.0.now ≤ 10 =
-    omega (
+    grind (
       arith,
+      common_steps,
+      length-take,
       c.split_at.ensures.front_len,
       c.digits_len.ensures.within,
-      ap length c.first.ensures,
-      length-take 10 c.in_ok-rest.rest.now,
+      c.first.ensures,
     ) in
     let each : list_all is_digit c.split_at.result.0.now ≡ true =
     digits_front c.in_ok-rest.rest.now c.first.result.now c.split_at.result.0.now 10 c.digits_len.result c.first.ensures
@@ -52,18 +54,15 @@ returns-then-is_empty-clause-none c = λ header written.
     named c.first.ensures c.digits_len.ensures.within c.digits_len.ensures.digits c.digits_len.ensures.last
     c.split_at.ensures.front c.split_at.ensures.back in
     elim c.then-is_empty.branch [
-      | then-is_empty-via-then-is_empty w ↦ omega (
+      | then-is_empty-via-then-is_empty w ↦ grind (
         arith,
-        eqb-true (length c.split_at.result.0.now) 0 (sym c.is_empty.ensures ∙ w.if-is_empty.true),
-        ap length parts.0,
-        written.some,
+        common_steps,
+        eqb-true,
+        c.is_empty.ensures,
+        w.if-is_empty.true,
       )
       | then-is_empty-via-else-is_empty+then-not-starts_with w ↦
-          let starts = starts_is Decides-eqb c.split_at.result.1.now (codes "\r\n\r\n") w.starts_with.result
-          w.starts_with.ensures.value in
-          let found : w.starts_with.result ≡ true = starts.1 written.rest parts.1 in
-          let not_found = w.if-not-starts_with.true in
-          cc
+          grind (arith, common_steps, starts_is, codes, w.starts_with.ensures.value, w.if-not-starts_with.true)
     ]
 
 if_none : {A : Type 0} (P : Type 0) (o : Option A) → P → IfNone o P

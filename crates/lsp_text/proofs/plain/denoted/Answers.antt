@@ -4,6 +4,7 @@ use Rattle.lsp_text.specs.Units.{units_in}
 use Rattle.lsp_text.proofs.PlainLemmas.{row_on, find_here, find_on, has_units, has_them, has_others, denoted_found}
 use Rattle.lsp_text.proofs.plain.denoted.Goals as goal
 use Rattle.lsp_text.proofs.plain.denoted.Goals.{else-is_in_content-via-then-is_in_content+else-units_between-character-2, else-is_in_content-via-else-is_in_content}
+use Rattle.std.proofs.lemmas.Grind.{common_steps}
 
 pub returns-then-units_between-character-2 : goal.returns-then-units_between-character-2
 returns-then-units_between-character-2 c =
@@ -17,9 +18,15 @@ returns-then-units_between-character-2 c =
     sym (find_here (is_in_content text c.args.position.line)
     (has_units units text c.args.position.line c.args.position.character) c.loop-index.index (suc (length text))
     (omega arith) passes there)
-    ∙ (c.loop-index.invariant ∙ sym (denoted_found units text c.args.position _ _ _ c.line_start-start.ensures
-    c.line_stop-stop.ensures.value c.units_between.ensures.value
-    (omega arith) (omega arith)))
+    ∙ (grind (
+      arith,
+      common_steps,
+      denoted_found,
+      c.loop-index.invariant,
+      c.line_start-start.ensures,
+      c.line_stop-stop.ensures.value,
+      c.units_between.ensures.value,
+    ))
 
 pub loop-index-preserved : goal.loop-index-preserved
 loop-index-preserved c =
@@ -38,8 +45,13 @@ loop-index-preserved c =
           sym (find_on test wanted c.loop-index.index (suc (length text)) (omega arith) passes other)
           ∙ c.loop-index.invariant
       | else-is_in_content-via-else-is_in_content w ↦
-          let fails : is_in_content c.args.text.now c.args.position.line c.loop-index.index ≡ false =
-          sym c.is_in_content.ensures ∙ w.if-is_in_content.false in
-          ap (find wanted) (sym (row_on test c.loop-index.index (suc (length text)) (omega arith) fails))
-          ∙ c.loop-index.invariant
+          grind (
+            arith,
+            common_steps,
+            find,
+            row_on,
+            c.is_in_content.ensures,
+            w.if-is_in_content.false,
+            c.loop-index.invariant,
+          )
     ]

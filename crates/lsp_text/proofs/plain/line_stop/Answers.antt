@@ -3,6 +3,7 @@ use Rattle.lsp_text.specs.TextLines.{is_in_content, last_or}
 use Rattle.lsp_text.proofs.PlainLemmas.{row_on, last_on}
 use Rattle.lsp_text.proofs.plain.line_stop.Goals as goal
 use Rattle.lsp_text.proofs.plain.line_stop.Goals.{then-is_in_content, else-is_in_content}
+use Rattle.std.proofs.lemmas.Grind.{common_steps}
 
 pub loop-index-preserved : goal.loop-index-preserved
 loop-index-preserved c =
@@ -10,17 +11,7 @@ loop-index-preserved c =
     let end = suc (length c.args.text.now) in
     elim c.if-is_in_content.branch [
       | then-is_in_content w ↦
-          let passes : is_in_content c.args.text.now c.args.line c.loop-index.index ≡ true = cc in
-          rw w.stop-is record {
-            left = sym (last_on test c.loop-index.stop c.loop-index.index end (omega arith) passes)
-                ∙ c.loop-index.invariant.left;
-            within = omega arith;
-          }
+          grind (arith, common_steps, last_on, w.stop-is, c.loop-index.invariant.left)
       | else-is_in_content w ↦
-          let fails : is_in_content c.args.text.now c.args.line c.loop-index.index ≡ false = cc in
-          rw w.stop-is record {
-            left = ap (last_or c.loop-index.stop) (sym (row_on test c.loop-index.index end (omega arith) fails))
-                ∙ c.loop-index.invariant.left;
-            within = c.loop-index.invariant.within;
-          }
+          grind (arith, common_steps, row_on, w.stop-is, c.loop-index.invariant.left, c.loop-index.invariant.within)
     ]

@@ -1,17 +1,18 @@
-use Rattle.std.proofs.Common.{◌≡◌, ◌-◌, length, arith, ap, subst}
-use Rattle.std.specs.Str.{IsUtf8}
+use Rattle.std.proofs.Common.{◌≡◌, ◌-◌, length, arith, ap}
 use Rattle.lsp_buffer.specs.Blocks.{block_ends}
 use Rattle.lsp_buffer.proofs.Blocks.CountLemmas.{ends_low}
 use Rattle.lsp_buffer.proofs.shared_text.SharedText.counts.Goals as goal
-
-pub overflow_cast-result : goal.overflow_cast-result
-overflow_cast-result c = omega (arith, ap length c.text-text.ensures, c.lines-lines.ensures.size)
+use Rattle.std.proofs.lemmas.Grind.{common_steps}
 
 pub overflow_cast-result-2 : goal.overflow_cast-result-2
-overflow_cast-result-2 c = omega (
+overflow_cast-result-2 c = grind (
   arith,
-  c.count.ensures.line_ends c.args.self.now c.lines-lines.ensures,
-  ends_low c.args.self.now (subst IsUtf8 c.text-text.ensures c.text-text.utf8),
+  common_steps,
+  ends_low,
+  c.count.ensures.line_ends,
+  c.lines-lines.ensures,
+  c.text-text.ensures,
+  c.text-text.utf8,
   c.lines-lines.ensures.size,
 )
 

@@ -1,19 +1,6 @@
-use Rattle.std.proofs.Common.{◌∙◌, length, arith, ap}
-use Rattle.lsp_buffer.proofs.Queries.FoundLemmas.{IsPlaceFound, chunk_is, found_within, place_part}
+use Rattle.std.proofs.Common.{◌∙◌}
+use Rattle.lsp_buffer.proofs.Queries.FoundLemmas.{chunk_is, place_part}
 use Rattle.lsp_buffer.proofs.text_buffer.TextBuffer.bytes_from.Goals as goal
-
-pub split_at-requires : goal.split_at-requires
-split_at-requires c =
-    let found : IsPlaceFound c.args.self.now c.part_at.ensures.front c.part_at.result.block.now c.part_at.ensures.rest
-    c.args.offset c.part_at.result.before.len =
-    (place_part c.args.self.now c.part_at.result.block.now c.part_at.result.before c.args.offset c.part_at.ensures) in
-    omega (
-      arith,
-      found_within c.args.self.now c.part_at.ensures.front c.part_at.result.block.now c.part_at.ensures.rest
-          c.args.offset c.part_at.result.before.len found c.requires,
-      found.from_is,
-      ap length (c.as_bytes-bytes.ensures.value ∙ c.text.ensures),
-    )
 
 pub returns-clause-part : goal.returns-clause-part
 returns-clause-part c =
@@ -22,11 +9,3 @@ returns-clause-part c =
     (c.as_bytes-bytes.ensures.value ∙ c.text.ensures) c.split_at.ensures.back
     (place_part c.args.self.now c.part_at.result.block.now c.part_at.result.before c.args.offset c.part_at.ensures)
     c.requires).part
-
-pub returns-clause-some : goal.returns-clause-some
-returns-clause-some c =
-    (chunk_is c.args.self.now c.part_at.ensures.front c.part_at.result.block.now c.part_at.ensures.rest c.args.offset
-    c.part_at.result.before.len c.as_bytes-bytes.result.now c.split_at.result.1.now
-    (c.as_bytes-bytes.ensures.value ∙ c.text.ensures) c.split_at.ensures.back
-    (place_part c.args.self.now c.part_at.result.block.now c.part_at.result.before c.args.offset c.part_at.ensures)
-    c.requires).some

@@ -1,13 +1,6 @@
-use Rattle.lsp_buffer.proofs.Queries.FoundLemmas.{chunk_boundary, chunk_is, place_part}
+use Rattle.lsp_buffer.proofs.Queries.FoundLemmas.{chunk_is, place_part}
 use Rattle.lsp_buffer.proofs.Queries.ReadLemmas.{chunk_next}
 use Rattle.lsp_buffer.proofs.text_buffer.TextBuffer.chunk_from.Goals as goal
-
-pub range_from-requires : goal.range_from-requires
-range_from-requires c = λ _.
-    chunk_boundary c.args.self.now c.part_at.ensures.front c.part_at.result.block.now c.part_at.ensures.rest
-    c.args.offset c.part_at.result.before.len c.text.result.now c.text.ensures
-    (place_part c.args.self.now c.part_at.result.block.now c.part_at.result.before c.args.offset c.part_at.ensures)
-    c.requires
 
 pub returns-clause-part : goal.returns-clause-part
 returns-clause-part c =

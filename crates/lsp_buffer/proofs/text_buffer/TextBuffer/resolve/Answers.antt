@@ -3,13 +3,8 @@ use Rattle.std.specs.Str.{chars}
 use Rattle.std.proofs.lemmas.Result.{err_from_is_err_and}
 use Rattle.lsp_text.specs.Units.{units_in}
 use Rattle.lsp_text.proofs.Positions.ResolveLemmas.{denoted_place, denoted_boundary}
-use Rattle.lsp_buffer.proofs.Queries.FoundLemmas.{low_part, resolved_part}
+use Rattle.lsp_buffer.proofs.Queries.FoundLemmas.{resolved_part}
 use Rattle.lsp_buffer.proofs.text_buffer.TextBuffer.resolve.Goals as goal
-
-pub position_after-inner-requires : goal.position_after-inner-requires
-position_after-inner-requires c =
-    low_part c.args.self.now c.part_at.result.block.now c.part_at.result.before c.args.encoding
-    c.args.position c.part_at.ensures c.head.result c.head.ensures
 
 pub returns-clause-value : goal.returns-clause-value
 returns-clause-value c =

@@ -1,10 +1,5 @@
 use Rattle.lsp_buffer.proofs.Changes.ChangeLemmas.{range_is}
-use Rattle.lsp_buffer.proofs.Queries.FoundLemmas.{begins_later}
 use Rattle.lsp_buffer.proofs.text_buffer.change.range_of.Goals as goal
-
-pub find_later-to-requires-clause-first : goal.find_later-to-requires-clause-first
-find_later-to-requires-clause-first c = begins_later c.args.blocks.now c.args.start c.args.end c.find-from.result
-    c.requires.order c.find-from.ensures.begins
 
 pub returns : goal.returns
 returns c = range_is c.args.blocks.now c.find-from.result c.find_later-to.result c.args.start c.args.end

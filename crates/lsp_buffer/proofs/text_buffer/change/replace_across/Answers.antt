@@ -1,36 +1,11 @@
-use Rattle.std.proofs.Common.{◌∙◌, ℕ, List, length, arith, sym, ap, subst}
+use Rattle.std.proofs.Common.{◌∙◌, ℕ, List, ap, subst}
 use Rattle.std.specs.List.{concat}
 use Rattle.std.specs.Prelude.{string_bytes}
-use Rattle.lsp_buffer.specs.Blocks.{IsFull, IsTextBuffer}
-use Rattle.lsp_buffer.specs.inside.Changes.{IsChange, IsTaken}
+use Rattle.lsp_buffer.specs.Blocks.{IsFull}
+use Rattle.lsp_buffer.specs.inside.Changes.{IsTaken}
 use Rattle.lsp_buffer.specs.inside.Cuts.{AreFull}
-use Rattle.lsp_buffer.proofs.Changes.ChangeLemmas.{cut_is, cut_text, taken_small}
+use Rattle.lsp_buffer.proofs.Changes.ChangeLemmas.{cut_is, cut_text}
 use Rattle.lsp_buffer.proofs.text_buffer.change.replace_across.Goals as goal
-
-pub text_taken-requires : goal.text_taken-requires
-text_taken-requires c = subst (λ (bs : List (List ℕ)). IsChange bs c.args.range c.args.new.now)
-    (sym c.deref.ensures.value) c.requires.change
-
-pub blocks_of-requires : goal.blocks_of-requires
-blocks_of-requires c = omega (
-  arith,
-  ap length c.deref-2.ensures,
-  taken_small c.args.blocks.now.items c.args.range c.args.new.now c.requires.change
-      (string_bytes c.in_ok-taken.taken.text) c.in_ok-taken.taken.past
-      (subst (λ (bs : List (List ℕ)). IsTaken bs c.args.range c.args.new.now (string_bytes c.in_ok-taken.taken.text)
-      c.in_ok-taken.taken.past) c.deref.ensures.value c.in_ok-taken.ensures),
-)
-
-pub replace_blocks-requires-clause-order : goal.replace_blocks-requires-clause-order
-replace_blocks-requires-clause-order c = omega (arith, c.in_ok-taken.ensures.order)
-
-pub replace_blocks-requires-clause-within : goal.replace_blocks-requires-clause-within
-replace_blocks-requires-clause-within c = omega (
-  arith,
-  c.in_ok-taken.ensures.within,
-  ap (length {A = List ℕ}) c.deref.ensures.value,
-  c.args.blocks.now.ok.0,
-)
 
 pub fill-requires : goal.fill-requires
 fill-requires c =
@@ -44,10 +19,6 @@ fill-requires c =
     c.in_ok-taken.taken.past c.in_ok-fresh.fresh.items taken (c.in_ok-fresh.ensures.text ∙ c.deref-2.ensures)
     c.in_ok-fresh.ensures.blocks full c.deref-3.result.now c.args.groups.now.items c.truncate.new.self.items
     (c.deref-3.ensures.value ∙ c.in_ok-replace_blocks.ensures.ok) c.requires.groups c.truncate.ensures.items
-
-pub returns-clause-are : goal.returns-clause-are
-returns-clause-are c = subst (λ (bs : List (List ℕ)). IsTextBuffer bs c.fill.new.groups.items) c.deref-3.ensures.value
-    c.fill.ensures
 
 pub returns-clause-changed : goal.returns-clause-changed
 returns-clause-changed c =

@@ -8,6 +8,7 @@ use Rattle.lsp_edit.specs.Batch.{ends_of}
 use Rattle.lsp_edit.proofs.Composing.AppliedLemmas.{places_seen}
 use Rattle.lsp_edit.proofs.Deltas.InPlaceLemmas.{range_fault, range_means, range_order, range_stop, range_too_long, range_within}
 use Rattle.lsp_edit.proofs.indexed.IndexedText.put_delta.Goals as goal
+use Rattle.std.proofs.lemmas.Grind.{common_steps}
 
 pub returns-in_err-start-clause-error : goal.returns-in_err-start-clause-error
 returns-in_err-start-clause-error c =
@@ -43,15 +44,7 @@ returns-then-len-stop-clause-error c =
     inr
     (range_too_long (units_in c.args.encoding) c.args.self.now utf8 c.args.range c.args.new.now c.utf8.new
     c.in_ok-start.start c.in_ok-start.stop error c.args.max_len
-    (omega (
-      arith,
-      replaced_length c.args.self.now c.args.new.now c.in_ok-start.start c.in_ok-start.stop order stop.0,
-      order,
-      stop.0,
-      c.if-len-stop.true,
-      c.len-len.ensures.len,
-      ap length c.text-text.ensures,
-    )))
+    (grind (arith, common_steps, replaced_length, c.if-len-stop.true, c.len-len.ensures.len, c.text-text.ensures)))
 
 pub returns-clause-ok : goal.returns-clause-ok
 returns-clause-ok c =
@@ -66,27 +59,19 @@ returns-clause-ok c =
     let stop = range_stop (units_in c.args.encoding) c.args.self.now utf8 c.args.range c.args.new.now c.utf8.new
     c.in_ok-start.start c.in_ok-start.stop error in
     record {
-      on = record {
-        utf8 = utf8;
-        size = c.requires.size;
-        new_utf8 = c.utf8.new;
-        short = c.requires.fits;
-        range = c.args.range;
-        places = error;
-      };
+      on = grind (arith, common_steps, c.requires.size, c.utf8.new, c.requires.fits);
       units_are = refl;
       means = range_means (units_in c.args.encoding) c.args.self.now utf8 c.args.range c.args.new.now c.utf8.new
           c.in_ok-start.start c.in_ok-start.stop error;
       is =
           range_within (units_in c.args.encoding) c.args.self.now utf8 c.args.range c.args.new.now c.utf8.new
           c.in_ok-start.start c.in_ok-start.stop error c.args.max_len
-          (omega (
+          (grind (
             arith,
-            replaced_length c.args.self.now c.args.new.now c.in_ok-start.start c.in_ok-start.stop order stop.0,
-            order,
-            stop.0,
+            common_steps,
+            replaced_length,
             c.if-len-stop.false,
             c.len-len.ensures.len,
-            ap length c.text-text.ensures,
+            c.text-text.ensures,
           ));
     }

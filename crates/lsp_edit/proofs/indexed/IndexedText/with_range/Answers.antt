@@ -76,9 +76,3 @@ returns-clause-longer c =
     = c.in_ok-replace_range.ensures.changed
     ∙ ap (λ (bs : List ℕ). replace_range bs c.in_ok-start.start c.in_ok-start.stop c.args.new.now) c.self.view_is in
     omega (arith, r.longer, ap length bytes)
-
-pub returns-clause-ends : goal.returns-clause-ends
-returns-clause-ends c =
-    ends_at (units_in c.args.encoding) c.args.number (chars c.args.self) (chars c.args.new.now) c.args.range
-    c.in_ok-start.start c.in_ok-start.stop
-    (places_seen (units_in c.args.encoding) c.args.number c.args.range _ _ _ c.text.ensures c.in_ok-start.ensures)

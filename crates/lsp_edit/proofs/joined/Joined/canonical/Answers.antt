@@ -39,13 +39,3 @@ pub canonical_of-requires-clause-ends : goal.canonical_of-requires-clause-ends
 canonical_of-requires-clause-ends c =
     rw (c.text-text.ensures ∙ ap (λ (j : JoinedData). j.before) c.self.view_is, c.deref-2.ensures.value)
     (ends_exact _ _ c.loop-layer.invariant.keeps)
-
-pub returns : goal.returns
-returns c =
-    rw (
-      c.text-text.ensures ∙ ap (λ (j : JoinedData). j.before) c.self.view_is,
-      c.deref-2.ensures.value,
-      folded_end c.args.self.now.before (parts_of c.loop-layer.spans.items) c.deref-layer-items.result.now
-          c.loop-layer.layer-index c.args.self.now.items c.loop-layer-test.false c.loop-layer.invariant,
-    )
-    at c.canonical_of.ensures

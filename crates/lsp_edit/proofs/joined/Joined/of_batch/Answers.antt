@@ -12,22 +12,6 @@ use Rattle.lsp_edit.specs.Joined.{IsReached}
 use Rattle.lsp_edit.proofs.Deltas.SeriesLemmas.{IsSeries, series_begins, series_ends, series_next}
 use Rattle.lsp_edit.proofs.joined.Joined.of_batch.Goals as goal
 
-pub loop-series-init : goal.loop-series-init
-loop-series-init c =
-    let rest : chunks_rest c.into_iter-series-iterator.result ≡ c.args.changes.now = search rules in
-    let batch : List ContentChange = map content_change c.args.changes.now in
-    let at : IsReached c.in_ok-joined.joined c.in_ok-reached.reached
-    = subst (IsReached c.in_ok-joined.joined) (sym c.in_ok-reached.ensures.copy) c.in_ok-joined.ensures.reached in (
-      search rules,
-      rw rest c.requires.fits,
-      subst (λ (r : List Change). IsSeries (units_in c.args.encoding) c.args.before.now batch c.in_ok-joined.joined
-          c.in_ok-reached.reached (map content_change r)) (sym rest)
-          (series_begins (units_in c.args.encoding) c.args.before.now batch c.in_ok-joined.joined
-          c.in_ok-reached.reached
-          c.in_ok-joined.ensures.joined at
-          (omega (arith, ap length c.in_ok-reached.ensures.copy, c.requires.size))),
-    )
-
 pub loop-series-preserved : goal.loop-series-preserved
 loop-series-preserved c =
     let steps = c.in-Some.ensures.steps in
@@ -54,10 +38,3 @@ loop-series-preserved c =
           ∙ left))
           left,
     )
-
-pub returns : goal.returns
-returns c =
-    series_ends (units_in c.args.encoding) c.args.before.now (map content_change c.args.changes.now)
-    c.loop-series.joined c.loop-series.reached (map content_change (chunks_rest c.loop-series.series-iterator))
-    c.loop-series.invariant.2
-    (ap (map content_change) (nil_from_length _ c.in-None.ensures.steps.1.0))

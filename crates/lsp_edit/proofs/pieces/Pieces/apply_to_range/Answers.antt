@@ -10,15 +10,6 @@ use Rattle.lsp_edit.specs.inside.Faults.{HasRange}
 use Rattle.lsp_edit.proofs.Composing.AppliedLemmas.{fault_told, places_found}
 use Rattle.lsp_edit.proofs.pieces.Pieces.apply_to_range.Goals as goal
 
-pub returns-in_err-start-clause-error : goal.returns-in_err-start-clause-error
-returns-in_err-start-clause-error c =
-    let p = err_from_is_err_and c.from_residual.result c.from_residual.ensures.1 in
-    rw (
-      p.1,
-      p.2,
-    ) (fault_told (units_in c.args.encoding) c.args.self.now.edited.before c.args.self.now.edited.items
-    (chars c.args.text.now) c.args.range c.args.self.now.edited.changes _ c.in_err-start.ensures.places)
-
 pub put-requires-clause-ends : goal.put-requires-clause-ends
 put-requires-clause-ends c =
     subst (λ (p : PiecesData). HasRange (edited_text p.edited) c.in_ok-start.start c.in_ok-start.stop)

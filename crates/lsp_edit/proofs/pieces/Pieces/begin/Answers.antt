@@ -17,6 +17,3 @@ pub returns-clause-begun : goal.returns-clause-begun
 returns-clause-begun c =
     rw (c.whole-spans.ensures.parts, ← c.get-text.ensures)
     (rw (whole_is c.get-text.result.now c.len-len.ensures.utf8).items refl)
-
-pub returns-clause-utf8 : goal.returns-clause-utf8
-returns-clause-utf8 c = subst IsUtf8 c.get-text.ensures c.len-len.ensures.utf8

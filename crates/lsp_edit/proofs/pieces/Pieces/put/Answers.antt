@@ -82,9 +82,6 @@ replace-requires-clause-ordered c =
     (same_edited c.self.view_is) c.args.text.now c.utf8.text c.requires.room _ _
     c.requires.ends.ends).ordered
 
-pub invariant_of-self : goal.invariant_of-self
-invariant_of-self c = (c.self.invariant.0, rw c.take.ensures.after tt)
-
 pub invariant_of-self-2 : goal.invariant_of-self-2
 invariant_of-self-2 c =
     let r : IsRanged c.requires.ends.units c.requires.ends.range (text_before c.self.inside.before)

@@ -22,6 +22,3 @@ returns-clause-order c = rw c.as_slice.ensures (pieces_ascend _ _ _ _ c.self.inv
 
 pub returns-clause-some : goal.returns-clause-some
 returns-clause-some c = rw c.as_slice.ensures (none_empty _ _ c.self.invariant.0.are)
-
-pub returns-clause-merged : goal.returns-clause-merged
-returns-clause-merged c = rw c.as_slice.ensures c.self.invariant.0.apart

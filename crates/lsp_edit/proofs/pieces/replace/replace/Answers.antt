@@ -2,24 +2,11 @@ use Rattle.std.proofs.Common.{ℕ, ◌++◌, ◌-◌, ◌+◌, take, drop, ap, �
 use Rattle.lsp_edit.proofs.Parts.PassingLemmas.{rest_all, drop_ordered, first_cut}
 use Rattle.lsp_edit.proofs.Parts.SpansLemmas.{drained_is, mark_stays, replaced_spans}
 use Rattle.lsp_edit.proofs.pieces.replace.replace.Goals as goal
+use Rattle.std.proofs.lemmas.Grind.{common_steps}
 
 pub passed_by-last-requires-clause-ordered : goal.passed_by-last-requires-clause-ordered
 passed_by-last-requires-clause-ordered c =
-    rw (
-      c.deref-2.ensures.value,
-      rest_all c.args.spans.now.items c.ended_by-first.result.0,
-    ) (drop_ordered c.args.spans.now.items c.ended_by-first.result.0 c.requires.ordered)
-
-pub between-requires-clause-stop : goal.between-requires-clause-stop
-between-requires-clause-stop c =
-    let ended = rw c.deref.ensures.value at c.ended_by-first.ensures.passed in
-    let passed = rw (c.deref-2.ensures.value, rest_all c.args.spans.now.items c.ended_by-first.result.0) at
-    c.passed_by-last.ensures.passed in
-    let rest_after = rw (c.deref-2.ensures.value, rest_all c.args.spans.now.items c.ended_by-first.result.0) at
-    c.passed_by-last.ensures.rest_after in
-    rw (c.deref-2.ensures.value, rest_all c.args.spans.now.items c.ended_by-first.result.0)
-    (first_cut _ _ (passed.cut (c.args.stop - c.ended_by-first.result.1) (omega arith)
-    (ended.cut c.args.stop c.requires.order c.requires.at_stop)) rest_after)
+    grind (arith, common_steps, rest_all, drop_ordered, c.deref-2.ensures.value, c.requires.ordered)
 
 pub returns-clause-ok : goal.returns-clause-ok
 returns-clause-ok c =
@@ -48,10 +35,3 @@ returns-clause-ok c =
     passed
     rest_after
     made
-
-pub returns-clause-marked : goal.returns-clause-marked
-returns-clause-marked c =
-    let gave = c.in_ok-splice.ensures.items in
-    mark_stays c.args.spans.now.items c.splice.new.self.items gave.1 (drop (c.ended_by-first.result.0 + c.min.result)
-    c.args.spans.now.items) c.ended_by-first.result.0 c.ended_by-first.result.1
-    (rw c.deref.ensures.value at c.ended_by-first.ensures.marked) gave.4

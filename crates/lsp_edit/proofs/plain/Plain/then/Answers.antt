@@ -16,13 +16,6 @@ invariant_of-result c =
     (c.in_ok-items.ensures ∙ ap₂ (λ (x y : List Item). then_items x y) (ap items_in_order c.deref.ensures.value)
     (ap items_in_order c.deref-2.ensures.value)))
 
-pub returns-clause-composed : goal.returns-clause-composed
-returns-clause-composed c =
-    then_told _ _ _ _ _ _ _ _ c.args.self.now c.args.second.now c.self.view_is c.second.view_is
-    (c.in_ok-items.ensures ∙ ap₂ (λ (x y : List Item). then_items x y) (ap items_in_order c.deref.ensures.value)
-    (ap items_in_order c.deref-2.ensures.value))
-    c.saturating_add.ensures
-
 pub returns-clause-means : goal.returns-clause-means
 returns-clause-means c units batch next one two =
     then_means units c.args.self.now.before batch next c.args.self.now.items c.args.second.now.items one

@@ -7,6 +7,7 @@ use Rattle.lsp_edit.specs.inside.Plain.{gap_at}
 use Rattle.lsp_edit.proofs.Batches.PlainLemmas.{gap_some, gap_one, end_place}
 use Rattle.lsp_edit.proofs.plain.items.put_gap.Goals as goal
 use Rattle.lsp_edit.proofs.plain.items.put_gap.Goals.{then-low-high-via-then-low-high, then-low-high-via-else-low-high+then-not-is_empty}
+use Rattle.std.proofs.lemmas.Grind.{common_steps}
 
 some_left : (text : List ℕ) → false ≡ (length text == 0) → 0 < length text
 some_left text e =
@@ -42,9 +43,22 @@ returns-in_ok-push c =
     rw c.in_ok-push.ensures.items
     (gap_one (units_in c.args.encoding) (chars c.args.before.now) c.args.low c.args.high c.args.text.now _ _
     c.position-start.result c.position-stop.result changed refl c.in_ok-text.ensures
-    (c.position-start.ensures.exact c.args.low (omega (arith, ends.order, ends.within))
-    (sym (c.in_ok-place_of.ensures ∙ ap (λ (cs : List ℕ). length (encode_utf8_all (take c.args.low cs)))
-    c.requires.old)))
-    (c.position-stop.ensures.exact c.args.high (omega (arith, ends.within))
-    (sym (c.in_ok-place_of-2.ensures ∙ ap (λ (cs : List ℕ). length (encode_utf8_all (take c.args.high cs)))
-    c.requires.old))))
+    (grind (
+      arith,
+      common_steps,
+      encode_utf8_all,
+      c.position-start.ensures.exact,
+      ends.order,
+      ends.within,
+      c.in_ok-place_of.ensures,
+      c.requires.old,
+    ))
+    (grind (
+      arith,
+      common_steps,
+      encode_utf8_all,
+      c.position-stop.ensures.exact,
+      ends.within,
+      c.in_ok-place_of-2.ensures,
+      c.requires.old,
+    )))

@@ -4,6 +4,7 @@ use Rattle.std.proofs.lemmas.Result.{err_from_is_err_and}
 use Rattle.lsp_frame.proofs.ProgressLemmas.{header_stop, held_more, take_short, window_len, too_long, open_shape}
 use Rattle.lsp_frame.proofs.framer.header.take_header.Goals as goal
 use Rattle.lsp_frame.proofs.framer.header.take_header.Goals.{else-len-eq-LONGEST_HEADER-via-then-len-eq-LONGEST_HEADER+else-not-is_end-2, else-len-eq-LONGEST_HEADER-via-else-len-eq-LONGEST_HEADER}
+use Rattle.std.proofs.lemmas.Grind.{common_steps}
 
 pub returns-in_err-at-clause-error : goal.returns-in_err-at-clause-error
 returns-in_err-at-clause-error c =
@@ -18,10 +19,15 @@ returns-in_err-at-clause-error c =
 pub returns-then-not-is_end-2-clause-unchanged : goal.returns-then-not-is_end-2-clause-unchanged
 returns-then-not-is_end-2-clause-unchanged c = (
   c.loop-at.at + c.in_ok-at.field-0,
-  c.in_ok-at.ensures.buffered ∙ held_more c.args.buffered.now.items c.args.piece.now c.loop-at.buffered.items
-      c.first-window.result.now c.loop-at.at (8192 - c.len.result) c.in_ok-at.field-0
-      c.loop-at.invariant.buffered
-      c.first-window.ensures c.in_ok-at.ensures.taken.1,
+  grind (
+    arith,
+    common_steps,
+    held_more,
+    c.in_ok-at.ensures.buffered,
+    c.loop-at.invariant.buffered,
+    c.first-window.ensures,
+    c.in_ok-at.ensures.taken.1,
+  ),
 )
 
 pub returns-then-not-is_end-2-clause-error : goal.returns-then-not-is_end-2-clause-error
@@ -29,9 +35,15 @@ returns-then-not-is_end-2-clause-error c =
     let more : c.take_line.new.buffered.items ≡ c.args.buffered.now.items ++ take (c.loop-at.at +
     c.in_ok-at.field-0)
     c.args.piece.now =
-    c.in_ok-at.ensures.buffered ∙ held_more c.args.buffered.now.items c.args.piece.now c.loop-at.buffered.items
-    c.first-window.result.now c.loop-at.at (8192 - c.len.result) c.in_ok-at.field-0 c.loop-at.invariant.buffered
-    c.first-window.ensures c.in_ok-at.ensures.taken.1 in
+    grind (
+      arith,
+      common_steps,
+      held_more,
+      c.in_ok-at.ensures.buffered,
+      c.loop-at.invariant.buffered,
+      c.first-window.ensures,
+      c.in_ok-at.ensures.taken.1,
+    ) in
     let lens = window_len c.args.piece.now c.first-window.result.now c.loop-at.at (8192 - c.len.result)
     c.first-window.ensures in
     let within : c.loop-at.at + c.in_ok-at.field-0 ≤ length c.args.piece.now =
@@ -48,15 +60,19 @@ loop-at-preserved c =
     let more : c.take_line.new.buffered.items ≡ c.args.buffered.now.items ++ take (c.loop-at.at +
     c.in_ok-at.field-0)
     c.args.piece.now =
-    c.in_ok-at.ensures.buffered ∙ held_more c.args.buffered.now.items c.args.piece.now c.loop-at.buffered.items
-    c.first-window.result.now c.loop-at.at (8192 - c.len.result) c.in_ok-at.field-0 c.loop-at.invariant.buffered
-    c.first-window.ensures c.in_ok-at.ensures.taken.1 in
+    grind (
+      arith,
+      common_steps,
+      held_more,
+      c.in_ok-at.ensures.buffered,
+      c.loop-at.invariant.buffered,
+      c.first-window.ensures,
+      c.in_ok-at.ensures.taken.1,
+    ) in
     let lens = window_len c.args.piece.now c.first-window.result.now c.loop-at.at (8192 - c.len.result)
     c.first-window.ensures in
     let short : length c.take_line.new.buffered.items ≤ 8192 =
-    take_short c.loop-at.buffered.items c.first-window.result.now c.take_line.new.buffered.items
-    c.in_ok-at.field-0
-    c.in_ok-at.ensures.buffered (omega (arith, lens.0, c.len.ensures, c.loop-at.invariant.short)) in
+    grind (arith, common_steps, take_short, c.in_ok-at.ensures.buffered, c.len.ensures, c.loop-at.invariant.short) in
     record {
       within = omega (arith, lens.1, c.in_ok-at.ensures.taken.1, c.loop-at.invariant.within);
       buffered = more;
@@ -67,9 +83,9 @@ loop-at-preserved c =
       room = elim c.else-len-eq-LONGEST_HEADER.branch [
         | else-len-eq-LONGEST_HEADER-via-then-len-eq-LONGEST_HEADER+else-not-is_end-2 w ↦ λ ne. absurd
             (ne (w.if-not-is_end-2.ensures.0 refl))
-        | else-len-eq-LONGEST_HEADER-via-else-len-eq-LONGEST_HEADER w ↦ λ ne. omega (
+        | else-len-eq-LONGEST_HEADER-via-else-len-eq-LONGEST_HEADER w ↦ grind (
           arith,
-          short,
+          common_steps,
           c.len-in-loop-at.ensures,
           w.if-len-eq-LONGEST_HEADER.false,
         )

@@ -2,6 +2,7 @@ use Rattle.std.proofs.Common.{◌≡◌, ◌≤◌, ◌+◌, ◌++◌, length, a
 use Rattle.std.proofs.lemmas.List.{length-append, length-take}
 use Rattle.lsp_frame.proofs.FrameLemmas.{whole_fault, whole_body, whole_wanted, body_frame}
 use Rattle.lsp_frame.proofs.framer.stage.begin_body.Goals as goal
+use Rattle.std.proofs.lemmas.Grind.{common_steps}
 
 pub returns-in-Err-clause-error : goal.returns-in-Err-clause-error
 returns-in-Err-clause-error c =
@@ -35,6 +36,4 @@ returns-clause-stops c = λ less.
     let in_body = whole_body c.args.max_body c.args.buffered.now.items c.first-body.result.now c.args.notes
     c.in-Ok.wanted c.len-start.result (c.len-start.result + c.in-Ok.wanted) c.requires.whole c.in-Ok.ensures
     (omega (arith, full)) len refl in
-    rw items (body_frame c.args.max_body (c.args.buffered.now.items ++ c.first-body.result.now) c.len-start.result
-    (c.len-start.result + c.in-Ok.wanted) in_body
-    (omega (arith, len, full, length-append c.args.buffered.now.items c.first-body.result.now)))
+    rw items (grind (arith, common_steps, body_frame, length-append))

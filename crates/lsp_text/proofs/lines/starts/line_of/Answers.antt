@@ -1,6 +1,7 @@
 use Rattle.std.proofs.Common.{◌∙◌, arith, ℕ, ◌<◌, ◌^◌, length}
 use Rattle.lsp_text.proofs.TextLines.SearchLemmas.{looks_one, looked_low, looked_high}
 use Rattle.lsp_text.proofs.lines.starts.line_of.Goals as goal
+use Rattle.std.proofs.lemmas.Grind.{common_steps}
 
 pub loop-high-preserved-then-at-place : goal.loop-high-preserved-then-at-place
 loop-high-preserved-then-at-place g c =
@@ -11,9 +12,7 @@ loop-high-preserved-then-at-place g c =
       within = kept.within;
       at_most = looked_low _ _ _ _ _ kept.same c.at.ensures.start c.if-at-place.true;
       above = kept.above;
-      looks = λ (digits : ℕ) (few : length (g.S.Starts.starts c.args.starts.now) < 2 ^ digits).
-          looks_one _ _ _ _ _ c.loop-high-test.true (omega arith) (omega (arith, c.at.ensures.counted))
-          (kept.looks digits few);
+      looks = grind (arith, common_steps, looks_one, c.loop-high-test.true, c.at.ensures.counted);
     }
 
 pub loop-high-preserved : goal.loop-high-preserved
@@ -25,7 +24,5 @@ loop-high-preserved g c =
       within = omega (arith, kept.within, kept.order);
       at_most = kept.at_most;
       above = looked_high _ _ _ _ _ kept.same c.at.ensures.start c.if-at-place.false (g.met.S.Starts.are_starts _);
-      looks = λ (digits : ℕ) (few : length (g.S.Starts.starts c.args.starts.now) < 2 ^ digits).
-          looks_one _ _ _ _ _ c.loop-high-test.true (omega arith) (omega (arith, c.at.ensures.counted))
-          (kept.looks digits few);
+      looks = grind (arith, common_steps, looks_one, c.loop-high-test.true, c.at.ensures.counted);
     }

@@ -2,25 +2,22 @@ use Rattle.std.proofs.Common.{length, slice_index, ap, arith}
 use Rattle.lsp_text.proofs.Positions.ExactLemmas.{indexes_are, indexes_few, front_found, front_order, front_within, front_utf8, front_few, part_short, exact_is, exact_resolves}
 use Rattle.std.specs.Str.{chars}
 use Rattle.lsp_text.proofs.position.exact.position_in.Goals as goal
+use Rattle.std.proofs.lemmas.Grind.{common_steps}
 
 pub new-looks-requires : goal.new-looks-requires
 new-looks-requires g c = indexes_are c.args.bytes.now c.args.starts.now c.requires.utf8 c.requires.indexed
 
 pub overflow_cast-result : goal.overflow_cast-result
 overflow_cast-result g c =
-    omega (
+    grind (
       arith,
+      common_steps,
+      indexes_few,
       c.line_of-line.ensures.line.within,
-      ap length c.new-looks.ensures.starts,
-      indexes_few c.args.bytes.now c.args.starts.now c.requires.utf8 c.requires.indexed,
+      c.new-looks.ensures.starts,
+      c.requires.utf8,
+      c.requires.indexed,
     )
-
-pub slice_bounds-units_in-start : goal.slice_bounds-units_in-start
-slice_bounds-units_in-start g c =
-    front_order c.args.bytes.now _ c.args.place c.requires.place.0
-    (front_found c.args.bytes.now c.args.starts.now c.new-looks.result.starts.now c.args.place c.line_of-line.result
-    c.requires.place.0 c.requires.indexed c.new-looks.ensures.starts c.line_of-line.ensures.line c.requires.place.1
-    c.requires.place.3)
 
 pub slice_bounds-units_in-end : goal.slice_bounds-units_in-end
 slice_bounds-units_in-end g c =

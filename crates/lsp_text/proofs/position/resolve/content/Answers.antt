@@ -1,6 +1,7 @@
 use Rattle.std.proofs.Common.{◌∙◌, arith}
 use Rattle.lsp_text.proofs.TextLines.IndexesLemmas.{indexes_line, indexes_start, indexes_last, indexes_next}
 use Rattle.lsp_text.proofs.position.resolve.content.Goals as goal
+use Rattle.std.proofs.lemmas.Grind.{common_steps}
 
 pub stop_before-requires-clause-some : goal.stop_before-requires-clause-some
 stop_before-requires-clause-some c =
@@ -14,8 +15,7 @@ stop_before-requires-clause-within c =
 
 pub returns-then-next-starts-clause-start : goal.returns-then-next-starts-clause-start
 returns-then-next-starts-clause-start c =
-    indexes_start c.args.bytes.now c.args.starts.now c.args.line c.requires.indexed
-    (indexes_line c.args.bytes.now c.args.starts.now c.args.line c.requires.indexed c.requires.line)
+    grind (arith, common_steps, indexes_start, indexes_line, c.requires.indexed, c.requires.line)
 
 pub returns-then-next-starts-clause-stop : goal.returns-then-next-starts-clause-stop
 returns-then-next-starts-clause-stop c = indexes_last c.args.bytes.now c.args.starts.now c.args.line c.requires.utf8
@@ -23,10 +23,17 @@ returns-then-next-starts-clause-stop c = indexes_last c.args.bytes.now c.args.st
 
 pub returns-else-next-starts-clause-start : goal.returns-else-next-starts-clause-start
 returns-else-next-starts-clause-start c =
-    indexes_start c.args.bytes.now c.args.starts.now c.args.line c.requires.indexed
-    (indexes_line c.args.bytes.now c.args.starts.now c.args.line c.requires.indexed c.requires.line)
+    grind (arith, common_steps, indexes_start, indexes_line, c.requires.indexed, c.requires.line)
 
 pub returns-else-next-starts-clause-stop : goal.returns-else-next-starts-clause-stop
 returns-else-next-starts-clause-stop c =
-    c.stop_before.ensures ∙ (indexes_next c.args.bytes.now c.args.starts.now c.args.line c.requires.utf8
-    c.requires.indexed (omega (arith, c.requires.line, c.if-next-starts.false))).stop
+    grind (
+      arith,
+      common_steps,
+      indexes_next,
+      c.stop_before.ensures,
+      c.requires.utf8,
+      c.requires.indexed,
+      c.requires.line,
+      c.if-next-starts.false,
+    )

@@ -3,88 +3,120 @@ use Rattle.lsp_text.proofs.TextLines.IndexesLemmas.{indexes_line, indexes_count}
 use Rattle.lsp_text.proofs.Positions.ResolveLemmas.{resolved_past, resolved_at, content_order, content_within, content_utf8, place_in_content, denoted_place, denoted_boundary}
 use Rattle.std.specs.Str.{chars}
 use Rattle.lsp_text.proofs.position.resolve.resolve_in.Goals as goal
+use Rattle.std.proofs.lemmas.Grind.{common_steps}
 
 pub returns-then-line-starts-clause-value : goal.returns-then-line-starts-clause-value
 returns-then-line-starts-clause-value g c =
-    sym (resolved_past g.U.Units.units_of c.args.bytes.now c.args.position c.requires.utf8
-    (omega (arith, indexes_count c.args.bytes.now c.args.starts.now c.requires.indexed, c.if-line-starts.true)))
+    grind (
+      arith,
+      common_steps,
+      resolved_past,
+      indexes_count,
+      c.requires.utf8,
+      c.requires.indexed,
+      c.if-line-starts.true,
+    )
 
 pub slice_bounds-place_in-count : goal.slice_bounds-place_in-count
 slice_bounds-place_in-count g c =
-    content_order c.args.bytes.now c.args.position.line _ _ (record {
-      there = indexes_line _ _ _ c.requires.indexed c.if-line-starts.false;
-      start_is = c.content-start.ensures.start;
-      stop_is = c.content-start.ensures.stop;
-    })
+    content_order c.args.bytes.now c.args.position.line _ _ (grind (
+      arith,
+      common_steps,
+      indexes_line,
+      c.requires.indexed,
+      c.if-line-starts.false,
+      c.content-start.ensures.start,
+      c.content-start.ensures.stop,
+    ))
 
 pub slice_bounds-place_in-start : goal.slice_bounds-place_in-start
 slice_bounds-place_in-start g c =
-    content_order c.args.bytes.now c.args.position.line _ _ (record {
-      there = indexes_line _ _ _ c.requires.indexed c.if-line-starts.false;
-      start_is = c.content-start.ensures.start;
-      stop_is = c.content-start.ensures.stop;
-    })
+    content_order c.args.bytes.now c.args.position.line _ _ (grind (
+      arith,
+      common_steps,
+      indexes_line,
+      c.requires.indexed,
+      c.if-line-starts.false,
+      c.content-start.ensures.start,
+      c.content-start.ensures.stop,
+    ))
 
 pub slice_bounds-place_in-end : goal.slice_bounds-place_in-end
 slice_bounds-place_in-end g c =
-    content_within c.args.bytes.now c.args.position.line _ _ c.requires.utf8 (record {
-      there = indexes_line _ _ _ c.requires.indexed c.if-line-starts.false;
-      start_is = c.content-start.ensures.start;
-      stop_is = c.content-start.ensures.stop;
-    })
+    grind (
+      arith,
+      common_steps,
+      content_within,
+      indexes_line,
+      c.requires.utf8,
+      c.requires.indexed,
+      c.if-line-starts.false,
+      c.content-start.ensures.start,
+      c.content-start.ensures.stop,
+    )
 
 pub place_in-requires : goal.place_in-requires
 place_in-requires g c =
-    content_utf8 c.args.bytes.now c.args.position.line _ _ c.requires.utf8 (record {
-      there = indexes_line _ _ _ c.requires.indexed c.if-line-starts.false;
-      start_is = c.content-start.ensures.start;
-      stop_is = c.content-start.ensures.stop;
-    })
+    content_utf8 c.args.bytes.now c.args.position.line _ _ c.requires.utf8 (grind (
+      arith,
+      common_steps,
+      indexes_line,
+      c.requires.indexed,
+      c.if-line-starts.false,
+      c.content-start.ensures.start,
+      c.content-start.ensures.stop,
+    ))
 
 pub overflow_add-result : goal.overflow_add-result
 overflow_add-result g c =
     let within : c.content-start.result.0 + c.in-Some.place ≤ length c.args.bytes.now =
-    place_in_content g.U.Units.units_of c.args.bytes.now c.args.position.line _ c.content-start.result.1
-    c.args.position.character _ c.requires.utf8
-    (record {
-      there = indexes_line _ _ _ c.requires.indexed c.if-line-starts.false;
-      start_is = c.content-start.ensures.start;
-      stop_is = c.content-start.ensures.stop;
-    })
-    c.in-Some.ensures in
+    grind (
+      arith,
+      common_steps,
+      place_in_content,
+      indexes_line,
+      c.requires.utf8,
+      c.requires.indexed,
+      c.if-line-starts.false,
+      c.content-start.ensures.start,
+      c.content-start.ensures.stop,
+      c.in-Some.ensures,
+    ) in
     omega (arith, within, c.requires.indexed.size)
 
 pub returns-in-Some-clause-value : goal.returns-in-Some-clause-value
 returns-in-Some-clause-value g c =
     resolved_at g.U.Units.units_of (λ x. (g.met.U.Units.bounds x).0) c.args.bytes.now c.args.position
     c.content-start.result.0 c.content-start.result.1 _ c.requires.utf8
-    (record {
-      there = indexes_line _ _ _ c.requires.indexed c.if-line-starts.false;
-      start_is = c.content-start.ensures.start;
-      stop_is = c.content-start.ensures.stop;
-    })
+    (grind (
+      arith,
+      common_steps,
+      indexes_line,
+      c.requires.indexed,
+      c.if-line-starts.false,
+      c.content-start.ensures.start,
+      c.content-start.ensures.stop,
+    ))
     c.in-Some.ensures
 
 pub returns-in-None-clause-value : goal.returns-in-None-clause-value
 returns-in-None-clause-value g c =
     resolved_at g.U.Units.units_of (λ x. (g.met.U.Units.bounds x).0) c.args.bytes.now c.args.position
     c.content-start.result.0 c.content-start.result.1 _ c.requires.utf8
-    (record {
-      there = indexes_line _ _ _ c.requires.indexed c.if-line-starts.false;
-      start_is = c.content-start.ensures.start;
-      stop_is = c.content-start.ensures.stop;
-    })
+    (grind (
+      arith,
+      common_steps,
+      indexes_line,
+      c.requires.indexed,
+      c.if-line-starts.false,
+      c.content-start.ensures.start,
+      c.content-start.ensures.stop,
+    ))
     c.in-None.ensures
 
 pub returns-then-line-starts-clause-place : goal.returns-then-line-starts-clause-place
 returns-then-line-starts-clause-place g c =
     denoted_place g.U.Units.units_of (chars c.args.bytes.now) c.args.position (length c.args.bytes.now)
-    (sym (resolved_past g.U.Units.units_of c.args.bytes.now c.args.position c.requires.utf8
-    (omega (arith, indexes_count c.args.bytes.now c.args.starts.now c.requires.indexed, c.if-line-starts.true))))
-
-pub returns-then-line-starts-clause-boundary : goal.returns-then-line-starts-clause-boundary
-returns-then-line-starts-clause-boundary g c =
-    denoted_boundary g.U.Units.units_of c.args.bytes.now c.args.position (length c.args.bytes.now) c.requires.utf8
     (sym (resolved_past g.U.Units.units_of c.args.bytes.now c.args.position c.requires.utf8
     (omega (arith, indexes_count c.args.bytes.now c.args.starts.now c.requires.indexed, c.if-line-starts.true))))
 
@@ -94,11 +126,15 @@ returns-in-Some-clause-place g c =
     (c.content-start.result.0 + c.in-Some.place)
     (resolved_at g.U.Units.units_of (λ x. (g.met.U.Units.bounds x).0) c.args.bytes.now c.args.position
     c.content-start.result.0 c.content-start.result.1 _ c.requires.utf8
-    (record {
-      there = indexes_line _ _ _ c.requires.indexed c.if-line-starts.false;
-      start_is = c.content-start.ensures.start;
-      stop_is = c.content-start.ensures.stop;
-    })
+    (grind (
+      arith,
+      common_steps,
+      indexes_line,
+      c.requires.indexed,
+      c.if-line-starts.false,
+      c.content-start.ensures.start,
+      c.content-start.ensures.stop,
+    ))
     c.in-Some.ensures)
 
 pub returns-in-Some-clause-boundary : goal.returns-in-Some-clause-boundary
@@ -107,9 +143,13 @@ returns-in-Some-clause-boundary g c =
     c.requires.utf8
     (resolved_at g.U.Units.units_of (λ x. (g.met.U.Units.bounds x).0) c.args.bytes.now c.args.position
     c.content-start.result.0 c.content-start.result.1 _ c.requires.utf8
-    (record {
-      there = indexes_line _ _ _ c.requires.indexed c.if-line-starts.false;
-      start_is = c.content-start.ensures.start;
-      stop_is = c.content-start.ensures.stop;
-    })
+    (grind (
+      arith,
+      common_steps,
+      indexes_line,
+      c.requires.indexed,
+      c.if-line-starts.false,
+      c.content-start.ensures.start,
+      c.content-start.ensures.stop,
+    ))
     c.in-Some.ensures)
