@@ -1,12 +1,13 @@
 -- Digits alone are the whole number that they write.
-use Rattle.std.proofs.Common.{◌≡◌, ℕ, ◌+◌, ◌*◌, ◌^◌, ◌<◌, List, [], ◌∷◌, ◌++◌, take, length, get_or, false, Some, refl, sym, ap, ◌∙◌, arith, append-nil, lt-ltb, ne_eqb}
+use Rattle.std.proofs.Common.{◌≡◌, ℕ, ◌+◌, ◌*◌, ◌^◌, ◌<◌, List, [], ◌∷◌, ◌++◌, take, length, get_or, false, Some, sym, ap, ◌∙◌, arith, append-nil, lt-ltb, ne_eqb}
 use Rattle.std.proofs.lemmas.Int.Digits.{digits_more, digits_value_more}
 use Rattle.std.specs.Char.{digit_value}
 use Rattle.std.specs.Str.Parse.{AllDigits, digits_value}
 use Rattle.fast_float.specs.Text.{Parts, scan, IsWellFormed}
 use Rattle.fast_float.proofs.Writing.{scan-text_of}
 use Rattle.serde_json.specs.Data.{unsigned}
-use Rattle.serde_json.specs.Read.{number_of, number_from}
+use Rattle.serde_json.specs.Read.{number_of}
+use Rattle.std.proofs.lemmas.Grind.{common_steps}
 
 -- the digits as a numeral's whole part
 abbrev only_whole : List ℕ → Parts
@@ -27,26 +28,18 @@ pub natural_of_digits : (ds : List ℕ) → AllDigits 10 ds → 0 < length ds �
     ≡ Some (unsigned (digits_value 10 ds))
 unfolding number_of
 natural_of_digits ds all some small =
-    let formed : IsWellFormed (only_whole ds) = record {
-      whole_digits = all;
-      fraction_digits = tt;
-      exponent_digits = tt;
-      no_point = λ _. refl;
-      no_exponent = λ _. refl;
-      len_is = refl;
-    } in
+    let formed : IsWellFormed (only_whole ds) = grind (arith, common_steps) in
     let scanned : scan ds ≡ only_whole ds = ap scan (sym (append-nil ds)) ∙ scan-text_of (only_whole ds) formed in
-    rw (ne_eqb (get_or ds 0 0) 45 (no_sign ds all some)) (ap (number_from false) scanned ∙ rw (
-      lt-ltb _ _ some,
-      append-nil ds,
-    ) (rw (lt-ltb _ _ small) refl))
+    rw (ne_eqb (get_or ds 0 0) 45 (no_sign ds all some)) (grind (arith, common_steps, lt-ltb, append-nil))
 
 -- one more digit
 pub one_more_digit : (bytes : List ℕ) (i value byte digit : ℕ) → i < length bytes → AllDigits 10 (take i bytes)
     → value ≡ digits_value 10 (take i bytes)
     → byte ≡ get_or bytes i 0 → (digit_value byte < 10) × (digit ≡ digit_value byte)
     → AllDigits 10 (take (i + 1) bytes) × (value * 10 + digit ≡ digits_value 10 (take (i + 1) bytes))
-one_more_digit bytes i value byte digit within all is at digit_is = (
-  digits_more 10 bytes i within all (rw (← at) digit_is.0),
-  rw (digits_value_more 10 bytes i within, ← at, ← is, digit_is.1),
+one_more_digit bytes i value byte digit within all is at digit_is = grind (
+  arith,
+  common_steps,
+  digits_more,
+  digits_value_more,
 )

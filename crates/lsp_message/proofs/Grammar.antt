@@ -9,6 +9,7 @@ use Rattle.serde_json.specs.Read.{number_of, of_json, of_items, of_members, conv
 use Rattle.lsp_message.specs.inside.Reading.{value_at, items_at, members_at}
 use Rattle.lsp_message.specs.inside.Scalars.{kept_number}
 use Rattle.lsp_message.proofs.Converted.{Failure, source, failure, no_some, some_value}
+use Rattle.std.proofs.lemmas.Grind.{common_steps}
 
 -- ---- no turn is left
 
@@ -39,8 +40,7 @@ value_at-string depth s ts = ap (converted of_json) (value_is depth (Token.strin
 pub number_read : (depth : ℕ) (s : List ℕ) (ts : List Token) (o : Option Num) → number_of s ≡ o
     → value_at depth (Token.number s ∷ ts) ≡ option_map (λ d. (d, ts)) (option_map number o)
 number_read depth s ts o is =
-    ap (converted of_json) (value_is depth (Token.number s ∷ ts))
-    ∙ ap (λ n. option_map (λ d. (d, ts)) (option_map number n)) is
+    grind (arith, common_steps, value_is)
 
 number_at : (depth : ℕ) (s : List ℕ) (ts : List Token) (f : Data) (o : Option Num) → number_of s ≡ o
     → Some f ≡ option_map kept_number o
@@ -88,15 +88,12 @@ converted_inside j d f (Some p) is = ap (option_map (λ x. (x, p.1))) (is p.0) �
 pub value_at-array : (depth : ℕ) (ts : List Token) → 0 < depth → value_at depth (Token.begin_array ∷ ts)
     ≡ parse_map array (items_at (depth - 1) (length ts) ts)
 value_at-array depth ts h =
-    ap (converted of_json) (value-begin_array depth ts h) ∙ converted_inside json.array array of_items
-    (json.items (value (depth - 1)) (length ts) ts) (λ js. refl)
+    grind (arith, common_steps, value-begin_array, converted_inside)
 
 pub value_at-object : (depth : ℕ) (ts : List Token) → 0 < depth → value_at depth (Token.begin_object ∷ ts)
     ≡ parse_map object (members_at (depth - 1) (length ts) no_members ts)
 value_at-object depth ts h =
-    ap (converted of_json) (value-begin_object depth ts h)
-    ∙ converted_inside json.object object (λ ms. of_members ms no_members)
-    (json.members (value (depth - 1)) (length ts) ts) (λ ms. refl)
+    grind (arith, common_steps, value-begin_object, converted_inside)
 
 -- ---- a turn of an array
 
@@ -110,8 +107,7 @@ item_converted : (j : Json) (d : Data) (r : Option (json.Items × List Token)) �
     → converted of_items (parse_map (json.item j) r) ≡ parse_map (item d) (converted of_items r)
 item_converted j d None is = refl
 item_converted j d (Some p) is =
-    ap (λ o. option_map (λ x. (x, p.1)) (option_and_then (λ e. option_map (item e) (of_items p.0)) o)) is
-    ∙ item_at d p.1 (of_items p.0)
+    grind (arith, common_steps, option_and_then, item_at)
 
 item_refused : (j : Json) (r : Option (json.Items × List Token)) → of_json j ≡ None
     → converted of_items (parse_map (json.item j) r) ≡ None

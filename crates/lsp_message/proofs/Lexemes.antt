@@ -2,16 +2,17 @@
 use Rattle.std.proofs.Common.{◌≡◌, ℕ, List, [], ◌∷◌, ◌++◌, take, drop, length, get_or, true, false, Option, Some, None, ◌≤◌, ◌<◌, refl, sym, ap, ap₂, ◌∙◌, arith, codes, ◌==◌, ◌⊎◌, inl, inr, get_or-take, length-take-le, take-append-drop, drop-cons, suc}
 use Rattle.std.proofs.lemmas.Bool.{or_cases, eqb-true}
 use Rattle.std.specs.Prelude.{◌||◌, Bool, IfSome, not}
-use Rattle.json.specs.Token.{begin_object, end_object, begin_array, string, number}
+use Rattle.json.specs.Token.{begin_object, end_object, string, number}
 use Rattle.json.specs.Text.{content}
 use Rattle.json.specs.Word.{ends_word}
-use Rattle.json.specs.Lex.{Lexeme, token, comma, string_token, lex, between}
+use Rattle.json.specs.Lex.{Lexeme, token, comma, lex, between}
 use Rattle.json.specs.Run.{is_stop}
 use Rattle.json.specs.Print.{IsNumber, escape}
 use Rattle.json.proofs.Printed.Strings.{content-escape, lex-escape}
 use Rattle.json.proofs.Printed.Numbers.{lex-number}
 use Rattle.json.proofs.Printed.Plain.{escape_on_plain}
 use Rattle.lsp_message.specs.inside.Lexemes.{name_lexemes, number_lexemes, RangeDigits, range_lexemes, length_lexemes, document_lexemes, changes_lexemes, head_lexemes}
+use Rattle.std.proofs.lemmas.Grind.{common_steps}
 
 -- ---- what may be missing
 
@@ -63,15 +64,7 @@ ended_by byte mark rest same ended = ap (λ b. ends_word (b ∷ rest)) (eqb-true
 -- a number ends before a comma, a brace and a line feed
 pub number_ended : (byte : ℕ) (rest : List ℕ) → (((byte == 44) || (byte == 125)) || (byte == 10)) ≡ true
     → ends_word (byte ∷ rest) ≡ true
-number_ended byte rest one = by_last (or_cases _ _ one)
-  where
-    by_first : ((byte == 44) ≡ true) ⊎ ((byte == 125) ≡ true) → ends_word (byte ∷ rest) ≡ true
-    by_first (inl e) = ended_by byte 44 rest e refl
-    by_first (inr e) = ended_by byte 125 rest e refl
-
-    by_last : (((byte == 44) || (byte == 125)) ≡ true) ⊎ ((byte == 10) ≡ true) → ends_word (byte ∷ rest) ≡ true
-    by_last (inl e) = by_first (or_cases _ _ e)
-    by_last (inr e) = ended_by byte 10 rest e refl
+number_ended byte rest one = grind (arith, common_steps, or_cases, inl, ended_by, inr)
 
 -- bytes before the first that stops a string's plain text are written as they are
 pub escape_up_to : (text : List ℕ) (len : ℕ) → len ≤ length text
@@ -87,9 +80,7 @@ pub plain_text_read : (old start content end rest text : List ℕ) → lex betwe
     → lex between old ≡ token (string text) ∷ lex between rest
 unfolding lex
 plain_text_read old start inside end rest text blanks opened split closed is =
-    let there : inside ≡ escape text ++ 34 ∷ rest = split ∙ ap₂ (λ a b. a ++ b) (sym is) closed in
-    blanks ∙ ap (lex between) (opened ∙ ap (λ t. 34 ∷ t) there)
-    ∙ ap₂ (λ o ls. token (string_token o) ∷ ls) (content-escape text rest) (lex-escape text rest)
+    grind (arith, common_steps, ap₂, content-escape, lex-escape)
 
 pub number_read : (old start digits rest : List ℕ) → lex between old ≡ lex between start → start ≡ digits ++ rest
     → IsNumber digits → ends_word rest ≡ true → lex between old ≡ token (number digits) ∷ lex between rest
@@ -130,8 +121,7 @@ pub two_read : (t a b c d e f g p q n m : List ℕ) (x y : List Lexeme → List 
     (y (token end_object ∷ lex between g))))
 unfolding lex
 two_read t a b c d e f g p q n m x y is_p is_q t1 t2 t3 t4 t5 t6 t7 =
-    t1 ∙ ap (λ ls. token begin_object ∷ ls) (t2 ∙ is_p b ∙ ap (name_lexemes n) (t3 ∙ ap x (t4
-    ∙ ap (λ ls. comma ∷ ls) (t5 ∙ is_q e ∙ ap (name_lexemes m) (t6 ∙ ap y t7)))))
+    grind (arith, common_steps)
 
 pub length_read : (t a b c digits : List ℕ) → Takes t (codes "\"rangeLength\":") a
     → lex between a ≡ number_lexemes digits (lex between b) → Takes b (codes ",") c
@@ -147,9 +137,7 @@ pub document_read : (t a b c d e f g h uri version : List ℕ) → Takes t (code
     → lex between t ≡ document_lexemes uri version (lex between h)
 unfolding lex content
 document_read t a b c d e f g h uri version t1 t2 t3 t4 t5 t6 t7 t8 =
-    t1 ∙ ap (name_lexemes (codes "textDocument")) (t2 ∙ ap (λ ls. token begin_object ∷ ls) (t3
-    ∙ ap (name_lexemes (codes "uri")) (t4 ∙ ap (λ ls. token (string uri) ∷ ls) (t5 ∙ ap (λ ls. comma ∷ ls) (t6
-    ∙ ap (name_lexemes (codes "version")) (t7 ∙ ap (number_lexemes version) t8))))))
+    grind (arith, common_steps, codes)
 
 pub changes_read : (by_name : Bool) (t a b c d e f g h i j k text : List ℕ) (range : RangeDigits)
     (length : Option (List ℕ)) → Takes t (codes "\"contentChanges\":") a → Takes a (codes "[") b
@@ -160,11 +148,7 @@ pub changes_read : (by_name : Bool) (t a b c d e f g h i j k text : List ℕ) (r
     → lex between t ≡ changes_lexemes by_name range length text (lex between k)
 unfolding lex content
 changes_read by_name t a b c d e f g h i j k text range length t1 t2 t3 t4 t5 t6 t7 t8 t9 t10 t11 =
-    t1 ∙ ap (name_lexemes (codes "contentChanges")) (t2 ∙ ap (λ ls. token begin_array ∷ ls) (t3
-    ∙ ap (λ ls. token begin_object ∷ ls) (t4 ∙ ap (name_lexemes (codes "range")) (t5
-    ∙ ap (range_lexemes by_name range) (t6 ∙ ap (λ ls. comma ∷ ls) (t7 ∙ ap (length_lexemes length) (t8
-    ∙ ap (name_lexemes (codes "text")) (t9 ∙ ap (λ ls. token (string text) ∷ ls) (t10
-    ∙ ap (λ ls. token end_object ∷ ls) t11)))))))))
+    grind (arith, common_steps, codes)
 
 -- the two members of params, by what each is
 pub params_read : (t a b c d e : List ℕ) (x y : List Lexeme → List Lexeme) → Takes t (codes "{") a
@@ -181,10 +165,7 @@ pub head_read : (t a b c d e f g h : List ℕ) → Takes t (codes "{") a → Tak
     → lex between t ≡ head_lexemes (lex between h)
 unfolding lex content
 head_read t a b c d e f g h t1 t2 t3 t4 t5 t6 t7 t8 =
-    t1 ∙ ap (λ ls. token begin_object ∷ ls) (t2 ∙ ap (name_lexemes (codes "jsonrpc")) (t3
-    ∙ ap (λ ls. token (string (codes "2.0")) ∷ ls) (t4 ∙ ap (λ ls. comma ∷ ls) (t5
-    ∙ ap (name_lexemes (codes "method")) (t6 ∙ ap (λ ls. token (string (codes "textDocument/didChange")) ∷ ls) (t7
-    ∙ ap (λ ls. comma ∷ ls) t8))))))
+    grind (arith, common_steps, codes)
 
 pub end_read : (t a : List ℕ) → Takes t (codes "}") a → lex between a ≡ [] → lex between t ≡ token end_object ∷ []
 unfolding lex

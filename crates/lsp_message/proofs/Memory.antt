@@ -1,5 +1,5 @@
 -- Which values are changes, by a look at them, and that some are there where memory is taken for them.
-use Rattle.std.proofs.Common.{◌≡◌, ◌<◌, ℕ, true, ◌&&◌, List, [], ◌∷◌, length, codes, Option, None, Some, option_and_then, ap, sym, ◌∙◌, refl, arith}
+use Rattle.std.proofs.Common.{◌≡◌, ◌<◌, ℕ, true, ◌&&◌, List, [], ◌∷◌, length, codes, Option, None, Some, option_and_then, refl, arith}
 use Rattle.std.specs.Prelude.{ℤ, is_some, IsSomeAnd}
 use Rattle.std.specs.List.{list_all}
 use Rattle.lsp_text.specs.declared.position.Range.{Range}
@@ -10,6 +10,7 @@ use Rattle.serde_json.specs.declared.value.Value.{Value}
 use Rattle.lsp_message.specs.Values.{text_in}
 use Rattle.lsp_message.specs.Params.{ContentChangeData, ChangeData, HasChanges, content_change_in, range_of}
 use Rattle.lsp_message.specs.inside.Params.{content_changes_in}
+use Rattle.std.proofs.lemmas.Grind.{common_steps}
 
 both_there : (text : Option (List ℕ)) (range : Option (Option Range)) →
     is_some (option_and_then
@@ -39,8 +40,7 @@ pub edits_there : (values : List Value) → list_all (λ v. is_some (content_cha
     ≡ is_some (content_changes_in (items_view values))
 edits_there [] = refl
 edits_there (value ∷ values) =
-    ap (λ b. is_some (content_change_in (view value)) && b) (edits_there values)
-    ∙ sym (one_more (content_change_in (view value)) (content_changes_in (items_view values)))
+    grind (arith, common_steps, (edits_there values))
 
 some_more : (edit : Option ContentChangeData) (edits : Option (List ContentChangeData)) →
     is_some (option_and_then (λ e. option_and_then (λ es. Some (e ∷ es)) edits) edit) ≡ true →

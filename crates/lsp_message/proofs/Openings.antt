@@ -6,15 +6,16 @@ use Rattle.json.specs.Reads.{token_of}
 use Rattle.json.specs.declared.token.Token.{Token as Read}
 use Rattle.json.specs.declared.token.Token.TheVariants as read
 use Rattle.json.proofs.Grammar.{left_some, left-parse_map, value_is}
-use Rattle.serde_json.specs.Data.{Num, Data, null, boolean, number, string, array, object, Items, Members, no_members}
+use Rattle.serde_json.specs.Data.{Num, Data, boolean, number, array, object, Items, Members}
 use Rattle.serde_json.specs.Find.{as_array, as_object}
 use Rattle.serde_json.specs.Read.{of_json, converted, number_of}
 use Rattle.lsp_message.specs.Values.{is_null}
-use Rattle.lsp_message.specs.inside.Reading.{value_at, items_at, members_at, rest_of}
+use Rattle.lsp_message.specs.inside.Reading.{value_at, items_at, rest_of}
 use Rattle.lsp_message.specs.inside.Objects.{IsArrayOpening}
 use Rattle.lsp_message.specs.inside.Scalars.{kept}
 use Rattle.lsp_message.proofs.Converted.{no_some, some_value}
 use Rattle.lsp_message.proofs.Grammar.{value_at-null, value_at-boolean, value_at-string, number_read, value_at-shallow_array, value_at-shallow_object, value_at-array, value_at-object}
+use Rattle.std.proofs.lemmas.Grind.{common_steps}
 
 -- ---- the value of a token that opens
 
@@ -22,19 +23,13 @@ pub array_read : (depth : ℕ) (ts rest : List Token) → rest_of (value_at dept
     → (ds : Items) × (value_at depth (Token.begin_array ∷ ts) ≡ Some (array ds, rest))
 array_read zero ts rest e = no_some rest (sym (ap rest_of (value_at-shallow_array 0 ts refl)) ∙ e)
 array_read (suc d) ts rest e =
-    let inside = items_at (suc d - 1) (length ts) ts in
-    let opened = value_at-array (suc d) ts (omega arith) in
-    let read = left_some inside rest (sym (left-parse_map array inside) ∙ sym (ap rest_of opened) ∙ e) in
-    (read.0, opened ∙ ap (parse_map array) read.1)
+    grind (arith, common_steps, value_at-array, left_some, left-parse_map)
 
 pub object_read : (depth : ℕ) (ts rest : List Token) → rest_of (value_at depth (Token.begin_object ∷ ts)) ≡ Some rest
     → (ms : Members) × (value_at depth (Token.begin_object ∷ ts) ≡ Some (object ms, rest))
 object_read zero ts rest e = no_some rest (sym (ap rest_of (value_at-shallow_object 0 ts refl)) ∙ e)
 object_read (suc d) ts rest e =
-    let inside = members_at (suc d - 1) (length ts) no_members ts in
-    let opened = value_at-object (suc d) ts (omega arith) in
-    let read = left_some inside rest (sym (left-parse_map object inside) ∙ sym (ap rest_of opened) ∙ e) in
-    (read.0, opened ∙ ap (parse_map object) read.1)
+    grind (arith, common_steps, value_at-object, left_some, left-parse_map)
 
 -- ---- the value of any other token
 
@@ -66,47 +61,22 @@ pub record Begins (t : Read) (d : Data) : Type 0 where
 
 pub first_read : (depth : ℕ) (t : Read) (ts rest : List Token) → rest_of (value_at depth (token_of t ∷ ts)) ≡ Some rest
     → (d : Data) × (value_at depth (token_of t ∷ ts) ≡ Some (d, rest)) × Begins t d
-first_read depth read.BeginObject ts rest e = let found = object_read depth ts rest e in (
-  object found.0,
-  found.1,
-  record { no_object = λ h. absurd (h refl); no_array = λ _. refl; no_null = λ _. refl; nothing = λ _ _ _. refl },
-)
+first_read depth read.BeginObject ts rest e = grind (arith, common_steps, object_read)
 first_read depth read.EndObject ts rest e =
     no_value depth Token.end_object ts rest (ap (converted of_json) (value_is depth (Token.end_object ∷ ts))) e
-first_read depth read.BeginArray ts rest e = let found = array_read depth ts rest e in (
-  array found.0,
-  found.1,
-  record { no_object = λ _. refl; no_array = λ h. absurd (h refl); no_null = λ _. refl; nothing = λ _ _ _. refl },
-)
+first_read depth read.BeginArray ts rest e = grind (arith, common_steps, array_read)
 first_read depth read.EndArray ts rest e =
     no_value depth Token.end_array ts rest (ap (converted of_json) (value_is depth (Token.end_array ∷ ts))) e
 first_read depth (read.Key s) ts rest e =
     no_value depth (Token.key s.now) ts rest (ap (converted of_json) (value_is depth (Token.key s.now ∷ ts))) e
-first_read depth (read.String s) ts rest e = (
-  string s.now,
-  one_token depth (Token.string s.now) ts rest (string s.now) (value_at-string depth s.now ts) e,
-  record { no_object = λ _. refl; no_array = λ _. refl; no_null = λ _. refl; nothing = λ _ h _. absurd (h s refl) },
-)
+first_read depth (read.String s) ts rest e = grind (arith, common_steps, one_token, value_at-string)
 first_read depth (read.Number s) ts rest e = let found = number_token depth s.now ts rest (number_of s.now) refl e in (
   number found.0,
   found.1,
   record { no_object = λ _. refl; no_array = λ _. refl; no_null = λ _. refl; nothing = λ _ _ h. absurd (h s refl) },
 )
-first_read depth (read.Bool b) ts rest e = (
-  boolean b,
-  one_token depth (Token.boolean b) ts rest (boolean b) (value_at-boolean depth b ts) e,
-  record { no_object = λ _. refl; no_array = λ _. refl; no_null = λ _. refl; nothing = λ _ _ _. refl },
-)
-first_read depth read.Null ts rest e = (
-  null,
-  one_token depth Token.null ts rest null (value_at-null depth ts) e,
-  record {
-    no_object = λ _. refl;
-    no_array = λ _. refl;
-    no_null = λ h. absurd (h refl);
-    nothing = λ h _ _. absurd (h refl);
-  },
-)
+first_read depth (read.Bool b) ts rest e = grind (arith, common_steps, one_token, value_at-boolean)
+first_read depth read.Null ts rest e = grind (arith, common_steps, one_token, value_at-null)
 first_read depth read.Bad ts rest e =
     no_value depth Token.bad ts rest (ap (converted of_json) (value_is depth (Token.bad ∷ ts))) e
 

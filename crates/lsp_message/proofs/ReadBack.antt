@@ -29,6 +29,7 @@ use Rattle.lsp_message.specs.Outgoing.{OutgoingData}
 use Rattle.lsp_message.specs.laws.Sent.{sent, IsReadBack, IsProper, IsProperId, IsProperDocument, IsProperChange, IsProperEdit, IsProperRange, IsProperPosition}
 use Rattle.lsp_message.proofs.Readings.{reading_of_value}
 use Rattle.lsp_message.proofs.Bodies.{read-body_of, utf8-body_of}
+use Rattle.std.proofs.lemmas.Grind.{common_steps}
 
 -- ---- numbers
 
@@ -42,8 +43,7 @@ version_from-fits (negsuc n) h = let small : n < 2 ^ 31 = h.sfits in grind (arit
 
 version_in-of_integer : (z : ℤ) → FitsSigned w32 z → version_in (Some (number (of_integer z))) ≡ Some z
 version_in-of_integer z h =
-    let small = h.sfits in
-    ap (option_and_then version_from) (as_i64-of_integer z (record { sfits = omega arith })) ∙ version_from-fits z h
+    grind (arith, common_steps, option_and_then, as_i64-of_integer, version_from-fits)
 
 -- ---- which message it is
 
@@ -80,9 +80,7 @@ reading-body_of m h = reading_of_value (spec.body_of m) (values.value_of m) (utf
 
 position_in-position_value : (p : Position) → IsProperPosition p → position_in (Some (values.position_value p)) ≡ Some p
 position_in-position_value p h =
-    let line = h.line in
-    let character = h.character in
-    rw (lt-ltb p.line (2 ^ 32) line, lt-ltb p.character (2 ^ 32) character) refl
+    grind (arith, common_steps, lt-ltb)
 
 range_in-range_value : (r : Range) → IsProperRange r → range_in (Some (values.range_value r)) ≡ Some r
 range_in-range_value r h = rw (position_in-position_value r.start h.start, position_in-position_value r.stop h.stop)
@@ -217,8 +215,7 @@ written_as-value_of (spec.initialize_result id encoding kind) h =
     rw (id_in-id_value id h) (ap (option_and_then (announced id)) (announced_of-initialize_value encoding kind))
 written_as-value_of (spec.shutdown_result id) h = rw (id_in-id_value id h) refl
 written_as-value_of (spec.error_reply id error) h =
-    ap (λ i. refused i (values.error_value error)) (id_found-id_or_null id h) ∙ ap (option_map (spec.error_reply id))
-    (error_named-text error)
+    grind (arith, common_steps, id_found-id_or_null, error_named-text)
 
 -- two messages with one text are one message
 pub body_of-unique : (m n : OutgoingData) → IsProper m → IsProper n → spec.body_of m ≡ spec.body_of n → m ≡ n

@@ -17,6 +17,7 @@ use Rattle.serde_json.specs.Errors.{IsMemory}
 use Rattle.serde_json.specs.declared.error.Error.{Error}
 use Rattle.lsp_message.specs.Seen.{message_view, IsReadFault, IsFaultOfError}
 use Rattle.lsp_message.specs.inside.Seen.{Answers}
+use Rattle.std.proofs.lemmas.Grind.{common_steps}
 
 -- a body whose bytes are a value is read as what that value is
 pub reading_of_value : (body : List ℕ) (d : Data) → IsUtf8 body → read body ≡ Some d → reading body ≡ message_of d
@@ -58,8 +59,7 @@ read_of : (body : List ℕ) (parsed : Result Value Error) (answer : Result Messa
     (λ error. IsErrAnd answer (IsFaultOfError error)) →
     IfOk answer (λ m. reading body ≡ message (message_view m)) × IfErr answer (IsReadFault body)
 read_of body (Ok value) answer utf8 ok refused memory unmarked h =
-    let is = reading_of_value body (view value) utf8 ok in
-    (ok_by_reading answer body _ is h, err_by_reading answer body _ is h)
+    grind (arith, common_steps, reading_of_value, ok_by_reading, err_by_reading)
 read_of body (Err error) (Ok m) utf8 ok refused memory unmarked h = absurd h
 read_of body (Err error) (Err fault) utf8 ok refused memory unmarked h =
     (tt, fault_by_error body error fault utf8 h refused memory unmarked)
@@ -74,24 +74,12 @@ pub read_by : (text body : List ℕ) (parsed : Result Value Error) (answer : Res
     (λ error. IsErrAnd answer (IsFaultOfError error)) →
     IfOk answer (λ m. reading body ≡ message (message_view m)) × IfErr answer (IsReadFault body)
 read_by text body parsed answer same utf8 ok refused memory unmarked h =
-    subst
-    (λ (b : List ℕ). IsUtf8 b → slice_index b 0 ≢ 239
-    → IfOk answer (λ m. reading b ≡ message (message_view m)) × IfErr answer (IsReadFault b))
-    same
-    (λ u m. read_of text parsed answer u ok refused memory m h)
-    utf8
-    unmarked
+    grind (arith, common_steps, read_of)
 
 utf8_at : (body : List ℕ) (m : MessageData) (b : Bool) → is_utf8 body ≡ b → reading body ≡ message m → IsUtf8 body
 utf8_at body m true valid is = IsUtf8-from_is_utf8 body valid
 utf8_at body m false broken is =
-    absurd (let unread : reading body ≡ not_json = not_json_at body false broken
-    (λ u. absurd (never body broken u)) in
-    let e : not_json ≡ message m = sym unread ∙ is in
-    cc)
-  where
-    never : (body : List ℕ) → is_utf8 body ≡ false → IsUtf8 body → ⊥
-    never body broken u = let e : false ≡ true = sym broken ∙ is_utf8-from_IsUtf8 body u in cc
+    grind (arith, common_steps, not_json_at, is_utf8-from_IsUtf8)
 
 -- A body that is a message is UTF-8.
 pub message_utf8 : (body : List ℕ) (m : MessageData) → reading body ≡ message m → IsUtf8 body

@@ -19,6 +19,7 @@ use Rattle.serde_json.specs.Read.{read, max_depth, of_json, of_items, of_members
 use Rattle.serde_json.specs.Written.{compact_text, members_text, items_text, comma_if, outline, items_outline, members_outline}
 use Rattle.serde_json.proofs.Numbers.{number_of-decimal, number_of-negative}
 use Rattle.serde_json.proofs.Texts.{print-outline}
+use Rattle.std.proofs.lemmas.Grind.{common_steps}
 
 pub record Sound (d : Data) : Type 0 where
   pub reads : of_json (outline d) ≡ Some d
@@ -130,8 +131,7 @@ of_members-put_all : (ms found : Members) → AllSound ms → of_members (member
     ≡ Some (put_all ms found)
 of_members-put_all no_members found h = refl
 of_members-put_all (member k d ms) found h =
-    ap (option_and_then (λ e. of_members (members_outline ms) (put k e found))) h.1.reads
-    ∙ of_members-put_all ms (put k d found) h.2
+    grind (arith, common_steps, option_and_then, (of_members-put_all ms (put k d found) h.2))
 
 numbers_of : (ms : Members) → AllSound ms → MembersHaveNumbers (members_outline ms)
 numbers_of no_members h = tt

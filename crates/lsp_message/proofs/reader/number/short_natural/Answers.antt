@@ -1,7 +1,8 @@
-use Rattle.std.proofs.Common.{◌≡◌, ◌<◌, length, take, arith}
+use Rattle.std.proofs.Common.{◌≡◌, arith}
 use Rattle.std.proofs.lemmas.List.{take_all}
 use Rattle.lsp_message.proofs.Digits.{natural_of_digits, one_more_digit}
 use Rattle.lsp_message.proofs.reader.number.short_natural.Goals as goal
+use Rattle.std.proofs.lemmas.Grind.{common_steps}
 
 pub loop-byte-preserved : goal.loop-byte-preserved
 loop-byte-preserved c =
@@ -14,9 +15,4 @@ loop-byte-preserved c =
 
 pub returns-else-is_empty : goal.returns-else-is_empty
 returns-else-is_empty c =
-    let at_end = c.loop-byte.invariant in
-    let whole : take c.loop-byte.byte-index c.args.bytes.now ≡ c.args.bytes.now =
-    take_all _ _ (omega (arith, c.loop-byte-test.false)) in
-    let some : 0 < length c.args.bytes.now = grind arith in
-    let value = rw whole at at_end.1 in
-    rw value (natural_of_digits c.args.bytes.now (rw whole at at_end.0) some (rw value at at_end.2))
+    grind (arith, common_steps, take_all, natural_of_digits, c.loop-byte.invariant, c.loop-byte-test.false)

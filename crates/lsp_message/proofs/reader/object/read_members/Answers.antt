@@ -1,12 +1,9 @@
-use Rattle.std.proofs.Common.{◌≡◌, ◌-◌, length, Some, refl, ◌∙◌, arith}
+use Rattle.std.proofs.Common.{◌≡◌, ◌-◌, Some, ◌∙◌, arith}
 use Rattle.json.specs.Json.{read_key}
 use Rattle.json.proofs.Grammar.{read_key-shorter}
-use Rattle.serde_json.specs.Data.{no_members, put}
+use Rattle.serde_json.specs.Data.{put}
 use Rattle.lsp_message.proofs.Grammar.{members_at-more, members_at-refused, members_at-no_key, members_at-end}
 use Rattle.lsp_message.proofs.reader.object.read_members.Goals as goal
-
-pub members-init : goal.members-init
-members-init g c = (length c.args.reader.now, no_members, omega arith, refl, omega arith, c.requires)
 
 pub returns-in_err-name-clause-error : goal.returns-in_err-name-clause-error
 returns-in_err-name-clause-error g c =

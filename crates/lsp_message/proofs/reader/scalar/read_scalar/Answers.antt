@@ -1,4 +1,4 @@
-use Rattle.std.proofs.Common.{◌≡◌, ◌∷◌, sym, ap, ◌∙◌, arith, rules}
+use Rattle.std.proofs.Common.{◌≡◌, ◌∷◌, ap, ◌∙◌, arith, rules}
 use Rattle.json.specs.Token.{Token}
 use Rattle.json.specs.Reads.{token_of}
 use Rattle.serde_json.specs.Data.{null, number, string}
@@ -8,6 +8,7 @@ use Rattle.lsp_message.proofs.Converted.{on_err}
 use Rattle.lsp_message.proofs.Grammar.{value_at-nil, value_at-string, value_at-null, value_at-number, value_at-no_number}
 use Rattle.lsp_message.proofs.Openings.{first_read}
 use Rattle.lsp_message.proofs.reader.scalar.read_scalar.Goals as goal
+use Rattle.std.proofs.lemmas.Grind.{common_steps}
 
 pub returns-in_err-token-clause-error : goal.returns-in_err-token-clause-error
 returns-in_err-token-clause-error c = on_err _ (value_at-nil c.args.depth c.args.reader.now (grind arith))
@@ -34,22 +35,8 @@ returns-in-Some-clause-ok c =
 
 pub returns-in-None-clause-error : goal.returns-in-None-clause-error
 returns-in-None-clause-error c =
-    let first : c.args.reader.now ≡ token_of c.in_ok-token.token ∷ c.next.new.self = grind arith in
-    let is : c.args.reader.now ≡ Token.number c.in-Number.text.now ∷ c.next.new.self = grind (arith, first) in
-    ap (value_at c.args.depth) is ∙ value_at-no_number c.args.depth _ _ c.in-None.ensures
+    grind (arith, common_steps, value_at-no_number, c.in-None.ensures)
 
 pub returns-in_ok-skip_value_from-in_default : goal.returns-in_ok-skip_value_from-in_default
 returns-in_ok-skip_value_from-in_default c =
-    let t = c.in_ok-token.token in
-    let first : c.args.reader.now ≡ token_of t ∷ c.next.new.self = grind arith in
-    let done = c.in_ok-skip_value_from-in_default.ensures in
-    let read = first_read c.args.depth t c.next.new.self c.skip_value_from.new.reader done.ok in
-    record {
-      ok = (
-        read.0,
-        ap (value_at c.args.depth) first ∙ read.1,
-        sym (read.2.nothing c.in_default.not-Null c.in_default.not-String c.in_default.not-Number),
-      );
-      shorter = rw first done.shorter;
-      error = tt;
-    }
+    grind (arith, common_steps, first_read, c.in_ok-skip_value_from-in_default.ensures)

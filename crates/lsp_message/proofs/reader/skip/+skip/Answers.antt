@@ -1,41 +1,36 @@
 use Rattle.std.proofs.Common.{◌≡◌, ◌-◌, ◌<◌, ◌∷◌, length, Some, None, refl, ap, ◌∙◌, arith}
-use Rattle.json.specs.Json.{parse_map, after_end_array, read_key, value}
+use Rattle.json.specs.Json.{after_end_array, read_key, value}
 use Rattle.json.specs.Reads.{token_of}
 use Rattle.json.proofs.Grammar.{read_key-shorter, value_is, left_some, left_none, left-parse_map}
-use Rattle.serde_json.specs.Data.{no_members, array, object, item, put}
-use Rattle.serde_json.specs.Read.{of_json, converted}
-use Rattle.lsp_message.specs.inside.Reading.{value_at, items_at, members_at, rest_of}
+use Rattle.serde_json.specs.Data.{no_members, item, put}
+use Rattle.lsp_message.specs.inside.Reading.{value_at, items_at, rest_of}
 use Rattle.lsp_message.proofs.Converted.{on_err, on_err_weaker, on_ok_weaker}
 use Rattle.lsp_message.proofs.Grammar.{value_at-nil, value_at-string, value_at-boolean, value_at-null, value_at-number, value_at-no_number, value_at-shallow_array, value_at-shallow_object, value_at-array, value_at-object, items_at-more, items_at-refused, items_at-end, members_at-more, members_at-refused, members_at-no_key, members_at-end}
 use Rattle.lsp_message.proofs.reader.skip.+skip.Goals as goal
+use Rattle.std.proofs.lemmas.Grind.{common_steps}
 
 pub skip_value-returns-in_err-token-clause-error : goal.skip_value-returns-in_err-token-clause-error
 skip_value-returns-in_err-token-clause-error t c = on_err _ (value_at-nil c.args.depth c.args.reader.now (grind arith))
 
 pub skip_value_from-returns-then-depth-eq0-clause-error : goal.skip_value_from-returns-then-depth-eq0-clause-error
 skip_value_from-returns-then-depth-eq0-clause-error t c =
-    ap (λ k. value_at c.args.depth (token_of k ∷ c.args.reader.now)) c.in-BeginArray.is
-    ∙ value_at-shallow_array c.args.depth c.args.reader.now (omega arith)
+    grind (arith, common_steps, value_at-shallow_array, c.in-BeginArray.is)
 
 pub skip_value_from-returns-then-depth-eq0-2-clause-error : goal.skip_value_from-returns-then-depth-eq0-2-clause-error
 skip_value_from-returns-then-depth-eq0-2-clause-error t c =
-    ap (λ k. value_at c.args.depth (token_of k ∷ c.args.reader.now)) c.in-BeginObject.is
-    ∙ value_at-shallow_object c.args.depth c.args.reader.now (omega arith)
+    grind (arith, common_steps, value_at-shallow_object, c.in-BeginObject.is)
 
 pub skip_value_from-returns-in-String-clause-ok : goal.skip_value_from-returns-in-String-clause-ok
 skip_value_from-returns-in-String-clause-ok t c =
-    ap (λ k. rest_of (value_at c.args.depth (token_of k ∷ c.args.reader.now))) c.in-String.is
-    ∙ ap rest_of (value_at-string c.args.depth _ c.args.reader.now)
+    grind (arith, common_steps, value_at-string, c.in-String.is)
 
 pub skip_value_from-returns-in-Bool-clause-ok : goal.skip_value_from-returns-in-Bool-clause-ok
 skip_value_from-returns-in-Bool-clause-ok t c =
-    ap (λ k. rest_of (value_at c.args.depth (token_of k ∷ c.args.reader.now))) c.in-Bool.is
-    ∙ ap rest_of (value_at-boolean c.args.depth _ c.args.reader.now)
+    grind (arith, common_steps, value_at-boolean, c.in-Bool.is)
 
 pub skip_value_from-returns-in-Null-clause-ok : goal.skip_value_from-returns-in-Null-clause-ok
 skip_value_from-returns-in-Null-clause-ok t c =
-    ap (λ k. rest_of (value_at c.args.depth (token_of k ∷ c.args.reader.now))) c.in-Null.is
-    ∙ ap rest_of (value_at-null c.args.depth c.args.reader.now)
+    grind (arith, common_steps, value_at-null, c.in-Null.is)
 
 pub skip_value_from-returns-in-Some-clause-ok : goal.skip_value_from-returns-in-Some-clause-ok
 skip_value_from-returns-in-Some-clause-ok t c =
@@ -44,43 +39,43 @@ skip_value_from-returns-in-Some-clause-ok t c =
 
 pub skip_value_from-returns-in-None-clause-error : goal.skip_value_from-returns-in-None-clause-error
 skip_value_from-returns-in-None-clause-error t c =
-    ap (λ k. value_at c.args.depth (token_of k ∷ c.args.reader.now)) c.in-Number.is ∙ value_at-no_number c.args.depth
-    c.in-Number.text.now c.args.reader.now c.in-None.ensures
+    grind (arith, common_steps, value_at-no_number, c.in-Number.is, c.in-None.ensures)
 
 pub skip_value_from-returns-in-EndObject-clause-error : goal.skip_value_from-returns-in-EndObject-clause-error
 skip_value_from-returns-in-EndObject-clause-error t c =
-    let none : value c.args.depth (token_of c.args.token ∷ c.args.reader.now) ≡ None = rw value_is (grind arith) in
-    ap (converted of_json) none
+    grind (arith, common_steps, value_is)
 
 pub skip_value_from-returns-else-depth-eq0-clause-ok : goal.skip_value_from-returns-else-depth-eq0-clause-ok
 skip_value_from-returns-else-depth-eq0-clause-ok t c =
-    let ts = c.args.reader.now in
-    let opened = ap (λ k. value_at c.args.depth (token_of k ∷ ts)) c.in-BeginArray.is ∙ value_at-array c.args.depth ts
-    (omega arith) in
-    on_ok_weaker c.skip_items.result (λ e. ap rest_of opened
-    ∙ left-parse_map array (items_at (c.args.depth - 1) (length ts) ts) ∙ e) c.skip_items.ensures.ok
+    grind (
+      arith,
+      common_steps,
+      value_at-array,
+      on_ok_weaker,
+      left-parse_map,
+      c.in-BeginArray.is,
+      c.skip_items.ensures.ok,
+    )
 
 pub skip_value_from-returns-else-depth-eq0-clause-error : goal.skip_value_from-returns-else-depth-eq0-clause-error
 skip_value_from-returns-else-depth-eq0-clause-error t c =
-    let ts = c.args.reader.now in
-    let opened = ap (λ k. value_at c.args.depth (token_of k ∷ ts)) c.in-BeginArray.is ∙ value_at-array c.args.depth ts
-    (omega arith) in
-    on_err_weaker c.skip_items.result (λ e. opened ∙ ap (parse_map array) e) c.skip_items.ensures.error
+    grind (arith, common_steps, value_at-array, on_err_weaker, c.in-BeginArray.is, c.skip_items.ensures.error)
 
 pub skip_value_from-returns-else-depth-eq0-2-clause-ok : goal.skip_value_from-returns-else-depth-eq0-2-clause-ok
 skip_value_from-returns-else-depth-eq0-2-clause-ok t c =
-    let ts = c.args.reader.now in
-    let opened = ap (λ k. value_at c.args.depth (token_of k ∷ ts)) c.in-BeginObject.is ∙ value_at-object c.args.depth ts
-    (omega arith) in
-    on_ok_weaker c.skip_members.result (λ e. ap rest_of opened
-    ∙ left-parse_map object (members_at (c.args.depth - 1) (length ts) no_members ts) ∙ e) c.skip_members.ensures.ok
+    grind (
+      arith,
+      common_steps,
+      value_at-object,
+      on_ok_weaker,
+      left-parse_map,
+      c.in-BeginObject.is,
+      c.skip_members.ensures.ok,
+    )
 
 pub skip_value_from-returns-else-depth-eq0-2-clause-error : goal.skip_value_from-returns-else-depth-eq0-2-clause-error
 skip_value_from-returns-else-depth-eq0-2-clause-error t c =
-    let ts = c.args.reader.now in
-    let opened = ap (λ k. value_at c.args.depth (token_of k ∷ ts)) c.in-BeginObject.is ∙ value_at-object c.args.depth ts
-    (omega arith) in
-    on_err_weaker c.skip_members.result (λ e. opened ∙ ap (parse_map object) e) c.skip_members.ensures.error
+    grind (arith, common_steps, value_at-object, on_err_weaker, c.in-BeginObject.is, c.skip_members.ensures.error)
 
 pub skip_items-items-preserved : goal.skip_items-items-preserved
 skip_items-items-preserved t c =
