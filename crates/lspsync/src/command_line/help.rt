@@ -267,11 +267,11 @@ start a script with this line, and it is recorded:
 The commands on logs read a file, or standard input, and write standard output.
 `serve` reads standard input.
 
-Exit status: 0 all is well, 1 a record counts as refused (`lspsync check -h`),
-2 the command line is wrong, 3 reading or writing failed, 4 out of memory,
-5 the log is faulty. From 3 on a line on standard error says what, and for 5
-where: `lspsync: truncated at 505` is byte 505 of the input. Of a file it has
-the name and the cause too.
+Exit status: 0 all is well, 1 a record counts as refused (`lspsync check -h`)
+or `compare` found other texts, 2 the command line is wrong,
+3 reading or writing failed, 4 out of memory, 5 the log is faulty. From 3 on a
+line on standard error says what, and for 5 where: `lspsync: truncated at 505`
+is byte 505 of the input. Of a file it has the name and the cause too.
 
 `lspsync COMMAND --help` has the options of a command and an example to paste.
 The logs to try are in examples/, or in /usr/share/doc/laspidru/examples.
