@@ -145,6 +145,7 @@ export type Encoding = 'utf-8' | 'utf-16' | 'utf-32';
 
 /** What an end did with a message: its body, and the document that it opens, changes or closes. `why` says what `reason` means. */
 export interface MessageEvent {
+  /** A Buffer; of `handle` and `deliver` the bytes that they were passed. */
   body: Uint8Array;
   readonly uri: string | undefined;
 }
@@ -172,13 +173,13 @@ export interface End<Event> {
    * are those that a request speaks of. A faulty frame throws FrameFault at its step, with no `events`. A loop that ends early leaves the
    * rest to the next call.
    */
-  messages(bytes: Uint8Array): IterableIterator<Event>;
+  messages(bytes: Uint8Array): IterableIterator<Event & { body: Buffer }>;
 
   /**
    * The same as an array, once all of these messages are handled: a server's documents are then those after the last one. So answer
    * requests by `messages`. A faulty frame throws FrameFault.
    */
-  receive(bytes: Uint8Array): Event[];
+  receive(bytes: Uint8Array): (Event & { body: Buffer })[];
 
   /** What the end does with the body of a message. */
   handle(body: Uint8Array): Event;

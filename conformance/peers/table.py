@@ -71,8 +71,8 @@ def share(words):
 
 
 HEAD = """\
-What peers answer, written by peers/table.py --named > RESULTS.txt on {day}. README.md says how each is asked. The named cases are nasty
-on purpose: no share here is a rate of daily life.
+What peers answer, written by peers/table.py --named > RESULTS.txt on {day}. The files in peers/ say how each is asked. The named cases
+are nasty on purpose: no share here is a rate of daily life.
 
 Cases that LSP 3.17 decides, and how many of each group are right:
 """

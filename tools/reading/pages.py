@@ -148,13 +148,10 @@ class Pages:
 
     def faults_of_counts(self, proved):
         """Yields numbers in docs/PROVED.md that aren't those of the sources."""
-        calls, edits = self.user_calls(), self.edits_in("must-fail")
+        edits = self.edits_in("must-fail")
         counts = {
-            r"The (\S+) calls for users": len(calls),
-            r"speak of some (\S+) lines of `specs/`": round(self.closure_of_calls(calls).size, -2),
             r"each of (\S+) mistakes in the code": len(edits),
             r"in each of (\S+) crates": len({it.partition("/")[0] for it in edits}),
-            r"Of some (\S+) more, in `more-must-fail/`": round(len(self.edits_in("more-must-fail")), -2),
         }
         if self.repository.kit:
             kit_lines = lambda name: sum(it.size for it in self.closure_of(self.page_of(name)).kit_definitions)
