@@ -11,12 +11,13 @@ use Rattle.lsp_edit.specs.Canonical.{canonical}
 use Rattle.lsp_edit.specs.laws.Batches.{IsCanonical}
 use Rattle.lsp_edit.proofs.Batches.LawLemmas.{canonical_law, units_some}
 use Rattle.lsp_message.specs.Params.{DocumentItem}
-use Rattle.lsp_store.specs.Table.{opens, changes, closes, already_open, too_many_documents, text_too_long, not_open, entry_at, is_taken, open_refusal, refusal_on, entry_refusal, change_refusal, after_change, after_close}
+use Rattle.lsp_store.specs.Table.{opens, changes, closes, already_open, too_many_documents, text_too_long, entry_at, is_taken, open_refusal, refusal_on, entry_refusal, change_refusal, after_change, after_close}
 use Rattle.lsp_store.specs.Message.{canonical_batch}
 use Rattle.lsp_store.specs.laws.Tables.{GreaterLimitsLaw, CanonicalBatchLaw}
 use Rattle.lsp_store.specs.Limits.{AreWithin}
 use Rattle.lsp_store.proofs.Tables.LenientLemmas.{still_new, still_free}
 use Rattle.lsp_store.proofs.Messages.MessageLemmas.{Accepts, accepted_parts, accepted_from, batch_at, settled_accepted, settled_leaves, accepts}
+use Rattle.std.proofs.lemmas.Grind.{common_steps}
 
 -- a document may be opened
 pub record MayOpen (limits : LimitsData) (table : List DocumentItem) (entry : DocumentItem) : Type 0 where
@@ -35,14 +36,7 @@ open_cases false false false e = (refl, refl, refl)
 pub open_parts : (limits : LimitsData) (table : List DocumentItem) (entry : DocumentItem)
     → open_refusal limits table entry ≡ None → MayOpen limits table entry
 open_parts limits table entry e =
-    let others : ℕ = length (after_close table entry.uri) in
-    let parts = open_cases (is_taken limits table entry.uri) (nat_le limits.max_docs others)
-    (nat_lt limits.max_text (length entry.text)) e in
-    record {
-      new = parts.0;
-      few = leb-false limits.max_docs others parts.1;
-      short = ltb-false limits.max_text (length entry.text) parts.2;
-    }
+    grind (arith, common_steps, open_cases, nat_le, nat_lt, leb-false, ltb-false)
 
 pub open_from : (limits : LimitsData) (table : List DocumentItem) (entry : DocumentItem) → MayOpen limits table entry
     → open_refusal limits table entry ≡ None
@@ -62,12 +56,7 @@ pub record MayChange (limits : LimitsData) (units : ℕ → ℕ) (table : List D
 pub change_parts : (limits : LimitsData) (units : ℕ → ℕ) (table : List DocumentItem) (uri : List ℕ) (version : ℤ)
     (batch : List ContentChange) → change_refusal limits units table uri version batch ≡ None
     → MayChange limits units table uri version batch
-change_parts limits units table uri version batch e = by (entry_at table uri) refl e
-  where
-    by : (found : Option DocumentItem) → entry_at table uri ≡ found → refusal_on limits units found version batch ≡ None
-        → MayChange limits units table uri version batch
-    by None is f = absurd (let bad : Some not_open ≡ None = f in cc)
-    by (Some entry) is f = record { entry = entry; is_open = is; may = f }
+change_parts limits units table uri version batch e = grind (arith, common_steps)
 
 pub change_from : (limits : LimitsData) (units : ℕ → ℕ) (table : List DocumentItem) (uri : List ℕ) (version : ℤ)
     (batch : List ContentChange) (entry : DocumentItem) → entry_at table uri ≡ Some entry
@@ -81,46 +70,25 @@ pub greater_accepts : (small great : LimitsData) (units : ℕ → ℕ) (entry : 
     (batch : List ContentChange) → AreWithin small great → Accepts small units entry version batch
     → Accepts great units entry version batch
 greater_accepts small great units entry version batch within a =
-    let few = within.changes in
-    let short = within.text in
-    let newer = still_new small great within.lenient version entry.version a.newer in
-    record {
-      newer = newer;
-      few = omega (arith, a.few, few);
-      fits = a.fits;
-      items = a.items;
-      means = a.means;
-      short = omega (arith, a.short, short);
-    }
+    grind (arith, common_steps, still_new)
 
 pub greater_entry : (small great : LimitsData) (units : ℕ → ℕ) (entry : DocumentItem) (version : ℤ)
     (batch : List ContentChange)
     → AreWithin small great
     → entry_refusal small units entry version batch ≡ None → entry_refusal great units entry version batch ≡ None
 greater_entry small great units entry version batch within e =
-    accepted_from great units entry version batch (greater_accepts small great units entry version batch within
-    (accepted_parts small units entry version batch e))
+    grind (arith, common_steps, accepted_from, greater_accepts, accepted_parts)
 
 pub greater_change : (small great : LimitsData) (units : ℕ → ℕ) (table : List DocumentItem) (uri : List ℕ) (version : ℤ)
     (batch : List ContentChange) → AreWithin small great
     → change_refusal small units table uri version batch ≡ None → change_refusal great units table uri version batch
     ≡ None
 greater_change small great units table uri version batch within e =
-    let m = change_parts small units table uri version batch e in
-    change_from great units table uri version batch m.entry m.is_open (greater_entry small great units m.entry version
-    batch within m.may)
+    grind (arith, common_steps, change_parts, change_from, greater_entry)
 
 pub greater_limits_law : GreaterLimitsLaw
 greater_limits_law small great table (opens entry) within e =
-    let m = open_parts small table entry e in
-    let docs = within.docs in
-    let text = within.text in
-    let new = still_free small great within.lenient table entry.uri m.new in
-    open_from great table entry (record {
-      new = new;
-      few = omega (arith, m.few, docs);
-      short = omega (arith, m.short, text);
-    })
+    grind (arith, common_steps, open_parts, still_free, open_from)
 greater_limits_law small great table (changes uri version encoding batch) within e =
     greater_change small great (units_in encoding) table uri version batch within e
 greater_limits_law small great table (closes uri) within e = e

@@ -1,6 +1,6 @@
 -- What is true of the table of documents.
 -- ---- what an accepted command says of the table
-use Rattle.std.proofs.Common.{ℕ, ℤ, ◌≡◌, true, false, List, [], ◌∷◌, ◌++◌, length, map, IsUtf8, bytes_eq, encode_utf8_all, Some, None, Ok, refl, sym, ap, ◌∙◌, subst, arith, ⊎_elim}
+use Rattle.std.proofs.Common.{ℕ, ℤ, ◌≡◌, true, false, List, [], ◌∷◌, ◌++◌, length, map, IsUtf8, bytes_eq, encode_utf8_all, Some, None, Ok, refl, ap, ◌∙◌, arith, ⊎_elim}
 use Rattle.std.specs.Str.{chars}
 use Rattle.std.proofs.lemmas.Bool.{cases_Bool}
 use Rattle.std.proofs.lemmas.List.Sums.{sum_by-cons}
@@ -20,6 +20,7 @@ use Rattle.lsp_store.proofs.Tables.LenientLemmas.{still_new}
 use Rattle.lsp_store.proofs.Messages.MessageLemmas.{Accepts, accepted_parts, accepted_from, leaves_same}
 use Rattle.lsp_store.proofs.GreaterLemmas.{change_parts, change_from}
 use Rattle.lsp_store.proofs.WithinLemmas.{within_at, within_changed, within_law}
+use Rattle.std.proofs.lemmas.Grind.{common_steps}
 
 -- a changed document is found where it was
 pub found_changed : (units : ℕ → ℕ) (table : List DocumentItem) (uri : List ℕ) (version : ℤ)
@@ -55,12 +56,7 @@ one_bytes old bytes utf8 = ap encode_utf8_all (read_off (chars old) (chars bytes
 
 one_weighs : (bytes : List ℕ) → IsUtf8 bytes → batch_bytes (one_text bytes) ≡ length bytes
 one_weighs bytes utf8 =
-    omega (
-      arith,
-      sum_by-cons (λ (e : ContentChange). length (encode_utf8_all e.text))
-          (record { range = None; text = chars bytes }) [],
-      ap length (encodes-chars bytes utf8),
-    )
+    grind (arith, common_steps, sum_by-cons, encode_utf8_all, encodes-chars)
 
 -- The whole text is accepted, and leaves it.
 whole_accepts : (small great : LimitsData) (units : ℕ → ℕ) (entry : DocumentItem) (version : ℤ)
@@ -124,22 +120,13 @@ last_law commands command = from_last [] commands command
 -- two URIs that differ one way differ the other way
 not_equal : (uri other : List ℕ) → bytes_eq uri other ≡ false → bytes_eq other uri ≡ false
 not_equal uri other not =
-    ⊎_elim
-    (λ (is : bytes_eq other uri ≡ true).
-    let same : other ≡ uri = (bytes_eq-Decides other uri).0 is in
-    let back : bytes_eq uri other ≡ true = (bytes_eq-Decides uri other).1 (sym same) in
-    absurd (let bad : true ≡ false = sym back ∙ not in cc))
-    (λ (differs : bytes_eq other uri ≡ false). differs)
-    (cases_Bool (bytes_eq other uri))
+    grind (arith, common_steps, bytes_eq, bytes_eq-Decides, cases_Bool)
 
 -- a URI that is not open first is open neither first nor later
 first_differs : (first : DocumentItem) (table : List DocumentItem) (uri : List ℕ) → entry_at (first ∷ table) uri ≡ None
     → (bytes_eq uri first.uri ≡ false) × (entry_at table uri ≡ None)
 first_differs first table uri none =
-    ⊎_elim
-    (λ (is : bytes_eq uri first.uri ≡ true). let bad : Some first ≡ None = rw is at none in absurd (cc))
-    (λ (not : bytes_eq uri first.uri ≡ false). (not, rw not at none))
-    (cases_Bool (bytes_eq uri first.uri))
+    grind (arith, common_steps, bytes_eq, cases_Bool)
 
 none_last : (table : List DocumentItem) (entry : DocumentItem) (uri : List ℕ) → entry_at table uri ≡ None
     → bytes_eq uri entry.uri ≡ false → entry_at (table ++ entry ∷ []) uri ≡ None
@@ -174,13 +161,14 @@ unique_changed : (units : ℕ → ℕ) (table : List DocumentItem) (uri : List �
     → AreUnique table → AreUnique (after_change units table uri version batch)
 unique_changed units [] uri version batch unique = tt
 unique_changed units (first ∷ table) uri version batch unique =
-    ⊎_elim
-    (λ (is : bytes_eq uri first.uri ≡ true). rw is unique)
-    (λ (not : bytes_eq uri first.uri ≡ false). rw not (
-      none_changed units table uri version batch first.uri unique.0,
-      unique_changed units table uri version batch unique.1,
-    ))
-    (cases_Bool (bytes_eq uri first.uri))
+    grind (
+      arith,
+      common_steps,
+      bytes_eq,
+      none_changed,
+      cases_Bool,
+      (unique_changed units table uri version batch unique.1),
+    )
 
 none_closed : (table : List DocumentItem) (uri other : List ℕ) → entry_at table other ≡ None
     → entry_at (after_close table uri) other ≡ None
@@ -195,24 +183,13 @@ none_closed (first ∷ table) uri other none =
 unique_closed : (table : List DocumentItem) (uri : List ℕ) → AreUnique table → AreUnique (after_close table uri)
 unique_closed [] uri unique = tt
 unique_closed (first ∷ table) uri unique =
-    ⊎_elim
-    (λ (is : bytes_eq uri first.uri ≡ true). rw is unique.1)
-    (λ (not : bytes_eq uri first.uri ≡ false). rw not (
-      none_closed table uri first.uri unique.0,
-      unique_closed table uri unique.1,
-    ))
-    (cases_Bool (bytes_eq uri first.uri))
+    grind (arith, common_steps, bytes_eq, none_closed, cases_Bool, (unique_closed table uri unique.1))
 
 -- a closed document is not open
 none_left : (table : List DocumentItem) (uri : List ℕ) → AreUnique table → entry_at (after_close table uri) uri ≡ None
 none_left [] uri unique = refl
 none_left (first ∷ table) uri unique =
-    ⊎_elim
-    (λ (is : bytes_eq uri first.uri ≡ true).
-    let same : first.uri ≡ uri = sym ((bytes_eq-Decides uri first.uri).0 is) in
-    rw is (subst (λ (key : List ℕ). entry_at table key ≡ None) same unique.0))
-    (λ (not : bytes_eq uri first.uri ≡ false). rw (not, not) (none_left table uri unique.1))
-    (cases_Bool (bytes_eq uri first.uri))
+    grind (arith, common_steps, bytes_eq, bytes_eq-Decides, cases_Bool, (none_left table uri unique.1))
 
 pub unique_law : UniqueLaw
 unique_law limits table (opens entry) unique e =

@@ -25,12 +25,13 @@ use Rattle.lsp_store.specs.Message.{body_refusal, change_body}
 use Rattle.lsp_store.specs.declared.store.plan.Plan.{Plan}
 use Rattle.lsp_store.specs.Opened.{StoreData, entry_under}
 use Rattle.lsp_store.specs.Plan.{IsPlanOf, IsPlanOn}
-use Rattle.lsp_store.specs.Squash.{HasReached, IsSquashAfter, SquashData, add_refusal, reached_entry, squash_after, items_meant, squash_batch, squash_refusal, squash_under}
+use Rattle.lsp_store.specs.Squash.{HasReached, IsSquashAfter, SquashData, add_refusal, reached_entry, squash_after, squash_batch, squash_refusal, squash_under}
 use Rattle.lsp_message.specs.Params.{DocumentItem}
 use Rattle.lsp_store.specs.Table.{IsLeftToMeaning, Refusal, batch_bytes, changed, greatest_batch, entry_refusal, is_stale, meant_text, too_many_changes}
 use Rattle.lsp_store.proofs.Messages.ProperLemmas.{bytes_sum}
 use Rattle.lsp_store.proofs.Tables.PlanLemmas.{on_utf8}
 use Rattle.lsp_store.proofs.Tables.RefusalLemmas.{meaning_accepted}
+use Rattle.std.proofs.lemmas.Grind.{common_steps}
 
 -- what callers see of the fields
 abbrev pub seen : List ℕ → LimitsData → Encoding → JoinedData → ℤ → SquashData
@@ -44,9 +45,7 @@ seen uri limits encoding joined version = record {
 }
 
 weights : (edits : List ContentChange) → batch_bytes edits ≤ sum_by (λ change. sum_by len_utf8 change.text) edits
-weights edits = sum_by-le-sum_by (λ (e : ContentChange). length (encode_utf8_all e.text)) (λ
-    (e : ContentChange). sum_by len_utf8 e.text)
-    edits (λ e. omega (arith, bytes_sum e.text))
+weights edits = grind (arith, common_steps, sum_by-le-sum_by, encode_utf8_all, sum_by, bytes_sum)
 
 -- ---- the message
 
@@ -59,11 +58,7 @@ module _ (uri : List ℕ) (limits : LimitsData) (encoding : Encoding) (joined : 
   pub written_refusal : (if nat_lt limits.max_changes (length made) then Some too_many_changes else body_refusal limits
       (change_body uri version made)) ≡ squash_refusal kept
   written_refusal =
-      ap (λ (b : List ContentChange). if nat_lt limits.max_changes (length b) then Some too_many_changes else
-      body_refusal limits
-      (change_body uri version b)) batch_is
-      ∙ ap (λ (k : SquashData). if nat_lt k.limits.max_changes (length (squash_batch kept)) then Some too_many_changes
-      else body_refusal k.limits (change_body k.uri k.version (squash_batch kept))) view
+      grind (arith, common_steps, nat_lt, batch_is)
 
 -- ---- the message of all batches is accepted on the document as it was, and leaves the one that was reached
 
@@ -102,8 +97,7 @@ module _ (limits : LimitsData) (encoding : Encoding) (entry : DocumentItem) (ver
 pub after_is : (old : SquashData) (version : ℤ) (batch : List ContentChange) (new : SquashData)
     → IsSquashAfter old version batch new → new ≡ squash_after old version batch
 after_is old version batch new adds =
-    adds.is ∙ ap (λ (o : List Item). record old { items = then_items old.items o; version = version })
-    (sym (ap items_meant adds.means))
+    grind (arith, common_steps)
 
 -- ---- batches on a document that is kept elsewhere
 
@@ -170,8 +164,7 @@ joins_after uri limits encoding joined next before version next_version kept mor
       version = version;
     }
     next_is =
-        ap₂ (λ (j : JoinedData) (v : ℤ). seen uri limits encoding j v) is.is version_is
-        ∙ ap (λ (k : SquashData). record k { items = then_items k.items is.others; version = version }) view
+        grind (arith, common_steps, ap₂)
 
 -- ---- a batch on a document that is changed with the batches
 
@@ -258,8 +251,7 @@ module _ (uri : List ℕ) (limits : LimitsData) (encoding : Encoding) (joined ne
 
   kept_accepts : entry_refusal kept.limits (units_in kept.encoding) q.on.entry version batch ≡ None
   kept_accepts =
-      ap₂ (λ (l : LimitsData) (e : Encoding). entry_refusal l (units_in e) q.on.entry version batch) limits_are coded_is
-      ∙ entry_accepts
+      grind (arith, common_steps, ap₂, entry_accepts)
 
   added_accepted : add_refusal kept version batch ≡ None
   added_accepted = refusal_is kept q.on.entry version batch (on_utf8 q.on.entry.text plan.delta q.on.on) (at q.on)

@@ -1,11 +1,10 @@
 -- A table stays within its limits.
-use Rattle.std.proofs.Common.{ℕ, ℤ, suc, ◌≡◌, ◌≤◌, true, false, List, [], ◌∷◌, ◌++◌, length, IsUtf8, bytes_eq, Some, None, refl, sym, ap, subst, arith, ⊎_elim}
+use Rattle.std.proofs.Common.{ℕ, ℤ, ◌≡◌, ◌≤◌, true, false, List, [], ◌∷◌, ◌++◌, length, IsUtf8, bytes_eq, Some, None, refl, sym, ap, subst, arith, ⊎_elim}
 use Rattle.std.specs.Str.{all_scalars, chars}
 use Rattle.std.proofs.lemmas.Bool.{cases_Bool}
 use Rattle.std.proofs.lemmas.List.{length-append}
 use Rattle.std.proofs.lemmas.Str.{scalars-chars}
 use Rattle.lsp_frame.specs.Limits.{LimitsData}
-use Rattle.lsp_text.specs.Units.{units_in}
 use Rattle.lsp_edit.specs.Items.{text_of}
 use Rattle.lsp_edit.specs.Batch.{ContentChange, meaning}
 use Rattle.lsp_edit.specs.Indexed.{bytes_left}
@@ -16,6 +15,7 @@ use Rattle.lsp_store.specs.laws.Tables.{WithinLaw, IsWithin, AllWithin}
 use Rattle.lsp_store.proofs.Messages.MessageLemmas.{Accepts, accepted_parts}
 use Rattle.lsp_store.proofs.Messages.ScalarLemmas.{scalar-meaning, scalar-text}
 use Rattle.lsp_store.proofs.GreaterLemmas.{open_parts}
+use Rattle.std.proofs.lemmas.Grind.{common_steps}
 
 pub within_at : (limits : LimitsData) (table : List DocumentItem) (uri : List ℕ) (entry : DocumentItem)
     → AllWithin limits table → entry_at table uri ≡ Some entry → IsWithin limits entry
@@ -36,10 +36,7 @@ pub within_close : (limits : LimitsData) (table : List DocumentItem) (uri : List
     → AllWithin limits (after_close table uri)
 within_close limits [] uri kept = tt
 within_close limits (first ∷ table) uri kept =
-    ⊎_elim (λ (is : bytes_eq uri first.uri ≡ true). rw is kept.1) (λ (not : bytes_eq uri first.uri ≡ false). rw not (
-      kept.0,
-      within_close limits table uri kept.1,
-    )) (cases_Bool (bytes_eq uri first.uri))
+    grind (arith, common_steps, bytes_eq, cases_Bool, (within_close limits table uri kept.1))
 
 pub within_end : (limits : LimitsData) (table : List DocumentItem) (entry : DocumentItem) → AllWithin limits table
     → IsWithin limits entry → AllWithin limits (after_open table entry)
@@ -87,25 +84,21 @@ change_many : (units : ℕ → ℕ) (table : List DocumentItem) (uri : List ℕ)
     → length (after_change units table uri version batch) ≡ length table
 change_many units [] uri version batch = refl
 change_many units (first ∷ table) uri version batch =
-    ⊎_elim (λ (is : bytes_eq uri first.uri ≡ true). rw is refl) (λ (not : bytes_eq uri first.uri ≡ false). rw not
-    (ap suc (change_many units table uri version batch))) (cases_Bool (bytes_eq uri first.uri))
+    grind (arith, common_steps, bytes_eq, cases_Bool, (change_many units table uri version batch))
 
 close_many : (table : List DocumentItem) (uri : List ℕ) → length (after_close table uri) ≤ length table
 close_many [] uri = omega arith
 close_many (first ∷ table) uri =
-    ⊎_elim (λ (is : bytes_eq uri first.uri ≡ true). rw is (omega arith))
-    (λ (not : bytes_eq uri first.uri ≡ false). rw not (omega (arith, close_many table uri)))
-    (cases_Bool (bytes_eq uri first.uri))
+    grind (arith, common_steps, bytes_eq, cases_Bool, (close_many table uri))
 
 pub within_law : WithinLaw
 within_law limits table (opens entry) kept many texts e =
-    let m = open_parts limits table entry e in (
-      within_end limits table entry kept (record { utf8 = texts; short = m.short }),
-      omega (arith, m.few, length-append (after_close table entry.uri) (entry ∷ [])),
-    )
-within_law limits table (changes uri version encoding batch) kept many texts e = (
-  within_change limits (units_in encoding) table uri version batch texts kept e,
-  omega (arith, many, change_many (units_in encoding) table uri version batch),
+    grind (arith, common_steps, open_parts, within_end, length-append)
+within_law limits table (changes uri version encoding batch) kept many texts e = grind (
+  arith,
+  common_steps,
+  within_change,
+  change_many,
 )
 within_law limits table (closes uri) kept many texts e =
     (within_close limits table uri kept, omega (arith, many, close_many table uri))

@@ -1,11 +1,12 @@
 -- A written frame has one body.
-use Rattle.std.proofs.Common.{ℕ, ◌≡◌, ◌<◌, ◌^◌, List, [], ◌∷◌, ◌++◌, length, codes, decimal, sym, ap, ◌∙◌, subst, arith}
+use Rattle.std.proofs.Common.{ℕ, ◌≡◌, ◌<◌, ◌^◌, List, [], ◌∷◌, ◌++◌, length, codes, decimal, ap, subst, arith}
 use Rattle.std.proofs.lemmas.Fmt.{decimal_is_IsNumeral}
 use Rattle.std.proofs.lemmas.List.{append_assoc, append_cancel_left}
 use Rattle.std.specs.Char.{digit_value}
 use Rattle.std.specs.Str.Parse.{AllDigits}
 use Rattle.lsp_frame.specs.Frame.{frame}
 use Rattle.lsp_frame.proofs.WrittenLemmas.{frame_len}
+use Rattle.std.proofs.lemmas.Grind.{common_steps}
 
 -- what stands behind the first carriage return, where digits stand before it
 after_return : (xs ys a b : List ℕ) → AllDigits 10 xs → AllDigits 10 ys → xs ++ 13 ∷ a ≡ ys ++ 13 ∷ b → a ≡ b
@@ -28,9 +29,7 @@ same_behind : (body other : List ℕ) → length body < 2 ^ 64 → length other 
 unfolding frame
 same_behind body other small few e =
     let cut : decimal (length body) ++ (13 ∷ end_and body) ≡ decimal (length other) ++ (13 ∷ end_and other) =
-    append_cancel_left (codes "Content-Length: ") _ _
-    (sym (four (codes "Content-Length: ") (decimal (length body)) (codes "\r\n\r\n") body)
-    ∙ (e ∙ four (codes "Content-Length: ") (decimal (length other)) (codes "\r\n\r\n") other)) in
+    grind (arith, common_steps, append_cancel_left, codes, four, decimal) in
     append_cancel_left (10 ∷ 13 ∷ 10 ∷ []) body other
     (after_return (decimal (length body)) (decimal (length other)) (end_and body) (end_and other)
     (decimal_is_IsNumeral (length body) small).0.1 (decimal_is_IsNumeral (length other) few).0.1 cut)

@@ -1,5 +1,5 @@
 -- The canonical message of a batch that is accepted on an open document.
-use Rattle.std.proofs.Common.{ℕ, ℤ, ◌≡◌, ◌<◌, ◌≤◌, ◌^◌, ◌↔◌, true, false, ◌||◌, nat_lt, List, [], ◌∷◌, ◌++◌, length, map, sum_by, FitsSigned, IsUtf8, bytes_eq, string_bytes, encode_utf8_all, Option, Some, None, Result, Ok, Err, refl, sym, ap, ◌∙◌, subst, arith, ⊎_elim, inl, inr}
+use Rattle.std.proofs.Common.{ℕ, ℤ, ◌≡◌, ◌<◌, ◌≤◌, ◌^◌, ◌↔◌, true, false, nat_lt, List, [], ◌∷◌, ◌++◌, length, map, sum_by, FitsSigned, IsUtf8, bytes_eq, string_bytes, encode_utf8_all, Option, Some, None, Result, Ok, Err, refl, sym, ap, ◌∙◌, subst, arith, ⊎_elim, inl, inr}
 use Rattle.std.proofs.lemmas.Bool.{cases_Bool, lt-ltb, le-ltb, ltb-false, or_parts, or_from}
 use Rattle.std.proofs.lemmas.List.Sums.{sum_by-le-sum_by}
 use Rattle.std.proofs.lemmas.Str.{IsUtf8-string_bytes, encodes-chars, encodes_same, scalars-chars}
@@ -31,12 +31,13 @@ use Rattle.lsp_message.specs.Written.{change_params}
 use Rattle.lsp_store.specs.declared.fault.StoreFault.{StoreFault}
 use Rattle.lsp_store.specs.declared.fault.StoreFault.TheVariants.{NoMemory}
 use Rattle.lsp_store.specs.Faults.{store_fault_of_encode, IsRefusal}
-use Rattle.lsp_store.specs.Table.{IsLeftToMeaning, Refusal, stale_version, too_many_changes, text_too_long, edit, batch_bytes, greatest_batch, entry_at, entry_refusal, change_refusal, after_change, changed, is_stale, meaning_refusal}
+use Rattle.lsp_store.specs.Table.{IsLeftToMeaning, Refusal, edit, batch_bytes, greatest_batch, entry_at, entry_refusal, change_refusal, after_change, changed, is_stale, meaning_refusal}
 use Rattle.lsp_store.specs.Message.{AreTexts, DoAlike, IsCanonicalOn, IsReadAgain, IsCanonicalOf, body_refusal, canonical_batch, canonical_body, canonical_frame, change_body, change_message, else_refused, written_content_change}
 use Rattle.lsp_store.proofs.Messages.FrameLemmas.{frame_one}
 use Rattle.lsp_store.proofs.Messages.ProperLemmas.{bytes_sum, canonical_proper}
 use Rattle.lsp_store.proofs.Tables.RefusalLemmas.{refused_meaning}
 use Rattle.lsp_store.proofs.Messages.ScalarLemmas.{canonical_texts}
+use Rattle.std.proofs.lemmas.Grind.{common_steps}
 
 -- ---- what is written
 
@@ -138,57 +139,32 @@ meaning_parts : (limits : LimitsData) (text : List ℕ) (meant : Result (List It
     × (length (bytes_left text items) ≤ limits.max_text)
 meaning_parts limits text (Err fault) e = let bad : Some (edit fault.0 fault.1) ≡ None = e in absurd (cc)
 meaning_parts limits text (Ok items) e =
-    ⊎_elim (λ (above : nat_lt limits.max_text (length (bytes_left text items)) ≡ true). let bad : Some text_too_long
-    ≡ None = rw above at e in absurd (cc))
-    (λ (within : nat_lt limits.max_text (length (bytes_left text items)) ≡ false). (
-      items,
-      refl,
-      ltb-false limits.max_text (length (bytes_left text items)) within,
-    ))
-    (cases_Bool (nat_lt limits.max_text (length (bytes_left text items))))
+    grind (arith, common_steps, nat_lt, ltb-false, cases_Bool)
 
 pub accepted_parts : (limits : LimitsData) (units : ℕ → ℕ) (entry : DocumentItem) (version : ℤ)
     (batch : List ContentChange)
     → entry_refusal limits units entry version batch ≡ None → Accepts limits units entry version batch
 accepted_parts limits units entry version batch e =
-    ⊎_elim (λ (stale : is_stale limits version entry.version ≡ true). let bad : Some (stale_version entry.version)
-    ≡ None = rw stale at e in absurd (cc)) by (cases_Bool (is_stale limits version entry.version))
-  where
-    by : is_stale limits version entry.version ≡ false → Accepts limits units entry version batch
-    by newer =
-        ⊎_elim
-        (λ (many : (nat_lt limits.max_changes (length batch) || nat_lt greatest_batch (batch_bytes batch)) ≡ true).
-        let bad : Some too_many_changes ≡ None = rw (newer, many) at e in absurd (cc))
-        (λ (few : (nat_lt limits.max_changes (length batch) || nat_lt greatest_batch (batch_bytes batch)) ≡ false).
-        let parts = or_parts (nat_lt limits.max_changes (length batch)) (nat_lt greatest_batch (batch_bytes batch))
-        few in
-        let meant = meaning_parts limits entry.text (meaning units (chars entry.text) batch) (rw (newer, few) at e) in
-        record {
-          newer = newer;
-          few = ltb-false limits.max_changes (length batch) parts.0;
-          fits = ltb-false greatest_batch (batch_bytes batch) parts.1;
-          items = meant.0;
-          means = meant.1;
-          short = meant.2;
-        })
-        (cases_Bool (nat_lt limits.max_changes (length batch) || nat_lt greatest_batch (batch_bytes batch)))
+    grind (arith, common_steps, cases_Bool, nat_lt, or_parts, meaning_parts, ltb-false)
 
 -- Of an accepted batch only its meaning could be refused.
 pub accepted_left : (limits : LimitsData) (units : ℕ → ℕ) (entry : DocumentItem) (version : ℤ)
     (batch : List ContentChange)
     → entry_refusal limits units entry version batch ≡ None → IsLeftToMeaning limits entry version batch
-accepted_left limits units entry version batch is = λ u.
-    let a = accepted_parts limits units entry version batch is in
-    refused_meaning limits u entry version batch a.newer (or_from _ _ (le-ltb limits.max_changes (length batch) a.few)
-    (le-ltb greatest_batch (batch_bytes batch) a.fits))
+accepted_left limits units entry version batch is = grind (
+  arith,
+  common_steps,
+  accepted_parts,
+  refused_meaning,
+  or_from,
+  le-ltb,
+)
 
 pub accepted_from : (limits : LimitsData) (units : ℕ → ℕ) (entry : DocumentItem) (version : ℤ)
     (batch : List ContentChange)
     → Accepts limits units entry version batch → entry_refusal limits units entry version batch ≡ None
 accepted_from limits units entry version batch a =
-    let few : (nat_lt limits.max_changes (length batch) || nat_lt greatest_batch (batch_bytes batch)) ≡ false =
-    or_from _ _ (le-ltb limits.max_changes (length batch) a.few) (le-ltb greatest_batch (batch_bytes batch) a.fits) in
-    rw (a.newer, few, a.means, le-ltb limits.max_text (length (bytes_left entry.text a.items)) a.short) refl
+    grind (arith, common_steps, nat_lt, or_from, le-ltb)
 
 -- what a batch leaves is told by what it makes of the document
 pub leaves_same : (units : ℕ → ℕ) (table : List DocumentItem) (uri : List ℕ) (version : ℤ)

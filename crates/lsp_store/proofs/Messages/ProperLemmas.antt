@@ -7,7 +7,7 @@ use Rattle.std.proofs.lemmas.List.Elements.{All-nil, All-cons}
 use Rattle.std.proofs.lemmas.List.Sums.{sum_by-cons, sum_by-take-le, sum_by-take-drop, sum_by-le-sum_by}
 use Rattle.std.proofs.lemmas.Str.{length-encode, len_utf8_bounds}
 use Rattle.std.specs.Char.{len_utf8}
-use Rattle.lsp_text.specs.TextLines.{starts_line, line_at, line_start}
+use Rattle.lsp_text.specs.TextLines.{line_at, line_start}
 use Rattle.lsp_text.specs.Units.{units_between}
 use Rattle.lsp_text.specs.Positions.{exact_position}
 use Rattle.lsp_edit.specs.Items.{Item}
@@ -16,15 +16,20 @@ use Rattle.lsp_edit.specs.Canonical.{Gap, gaps, is_changed, change_of_gap, canon
 use Rattle.lsp_edit.specs.laws.Batches.{AllHaveExactEnds, HasExactEnds}
 use Rattle.lsp_message.specs.laws.Sent.{IsProperPosition, IsProperRange, IsProperEdit}
 use Rattle.lsp_store.specs.Message.{AreTexts, written_content_change}
+use Rattle.std.proofs.lemmas.Grind.{common_steps}
 
 -- a text has as many bytes as its characters weigh, and at least as many bytes as characters
 pub bytes_sum : (text : List ℕ) → length (encode_utf8_all text) ≡ sum_by len_utf8 text
 bytes_sum [] = refl
-bytes_sum (c ∷ text) = omega (arith, length_bytes c text, bytes_sum text, sum_by-cons len_utf8 c text)
-  where
-    length_bytes : (c : ℕ) (text : List ℕ) → length (encode_utf8_all (c ∷ text))
-        ≡ len_utf8 c + length (encode_utf8_all text)
-    length_bytes c text = simp length-append (omega (arith, length-encode c))
+bytes_sum (c ∷ text) = grind (
+  arith,
+  common_steps,
+  sum_by-cons,
+  encode_utf8_all,
+  length-append,
+  length-encode,
+  (bytes_sum text),
+)
 
 chars_few : (text : List ℕ) → length text ≤ sum_by len_utf8 text
 chars_few [] = omega arith
@@ -33,9 +38,7 @@ chars_few (c ∷ text) = omega (arith, chars_few text, sum_by-cons len_utf8 c te
 line_few : (text : List ℕ) (k : ℕ) → line_at text k ≤ k
 line_few text zero = omega arith
 line_few text (suc k) =
-    ⊎_elim (λ (is : starts_line text (suc k) ≡ true). rw is (omega (arith, line_few text k)))
-    (λ (not : starts_line text (suc k) ≡ false). rw not (omega (arith, line_few text k)))
-    (cases_Bool (starts_line text (suc k)))
+    grind (arith, common_steps, cases_Bool, (line_few text k))
 
 units_few : (units : ℕ → ℕ) → ((c : ℕ) → units c ≤ len_utf8 c) → (text : List ℕ) (from to : ℕ)
     → units_between units text from to ≤ sum_by len_utf8 text
@@ -90,10 +93,10 @@ module _ (units : ℕ → ℕ) (few : (c : ℕ) → units c ≤ len_utf8 c) (old
       → All IsProperEdit (map written_content_change batch)
   all_proper [] fit texts = All-nil IsProperEdit
   all_proper (change ∷ batch) fit texts =
-      All-cons IsProperEdit (written_content_change change) (map written_content_change batch) (record {
-        range = fit.0;
-        text = (change.text, (texts.0, refl));
-      }) (all_proper batch fit.1 texts.1)
+      All-cons IsProperEdit (written_content_change change) (map written_content_change batch) (grind (
+        arith,
+        common_steps,
+      )) (all_proper batch fit.1 texts.1)
 
   pub canonical_proper : (items : List Item) → AllHaveExactEnds old (gaps old items)
       → AreTexts (canonical units old items) → All IsProperEdit (map written_content_change (canonical units old items))

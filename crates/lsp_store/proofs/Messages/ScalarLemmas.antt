@@ -1,5 +1,5 @@
 -- The texts of a canonical batch hold scalar values, where the old text and the batch's texts do.
-use Rattle.std.proofs.Common.{ℕ, zero, suc, ◌≡◌, ◌≤◌, true, false, cond, List, [], ◌∷◌, ◌++◌, length, map, take, drop, slice_index, sum_by, Option, Some, None, Result, Ok, Err, nat_le, refl, arith, ⊎_elim}
+use Rattle.std.proofs.Common.{ℕ, zero, suc, ◌≡◌, ◌≤◌, true, cond, List, [], ◌∷◌, ◌++◌, length, map, take, drop, slice_index, sum_by, Option, Some, None, Result, Ok, Err, nat_le, refl, arith}
 use Rattle.std.specs.Prelude.{⊤}
 use Rattle.std.proofs.lemmas.Bool.{and_parts, and_from, cases_Bool}
 use Rattle.std.proofs.lemmas.List.Sums.{sum_by-cons}
@@ -7,13 +7,13 @@ use Rattle.std.proofs.Math.Utf8.{scalar}
 use Rattle.std.specs.Str.{all_scalars}
 use Rattle.lsp_text.specs.TextLines.{numbers_from}
 use Rattle.lsp_text.specs.declared.position.Range.{Range}
-use Rattle.lsp_text.specs.Positions.{denoted}
 use Rattle.lsp_edit.specs.Items.{Item, Old, New, plain, text_of}
-use Rattle.lsp_edit.specs.Batch.{ContentChange, Fault, InsideStart, InsideStop, Reversed, changed_in, items_after, after_changes, continue_with, meaning}
+use Rattle.lsp_edit.specs.Batch.{ContentChange, Fault, InsideStart, InsideStop, changed_in, items_after, after_changes, continue_with, meaning}
 use Rattle.lsp_edit.specs.inside.Batch.{replaced}
 use Rattle.lsp_edit.specs.Canonical.{canonical}
 use Rattle.lsp_edit.specs.laws.Batches.{IsCanonical}
 use Rattle.lsp_store.specs.Message.{AreTexts}
+use Rattle.std.proofs.lemmas.Grind.{common_steps}
 
 -- the new characters among items are scalar values
 abbrev pub NewAreScalar : List Item → Type 0
@@ -55,35 +55,21 @@ scalar-replaced items characters None stop next p all e =
 scalar-replaced items characters (Some start) None next p all e =
     let bad : ◌≡◌ {A = Result (List Item) Fault} (Err InsideStop) (Ok next) = e in absurd (cc)
 scalar-replaced items characters (Some start) (Some stop) next p all e =
-    ⊎_elim
-    (λ (o : nat_le start stop ≡ true).
-    let same : ◌≡◌ {A = Result (List Item) Fault} (Ok (take start items ++ (map New characters ++ drop stop items)))
-    (Ok next) = rw o at e in
-    let is : take start items ++ (map New characters ++ drop stop items) ≡ next = cc in
-    rw (← is) (scalar-append (take start items) (map New characters ++ drop stop items) (scalar-take start items p)
-    (scalar-append (map New characters) (drop stop items) (scalar-new characters all) (scalar-drop stop items p))))
-    (λ (o : nat_le start stop ≡ false). let bad : ◌≡◌ {A = Result (List Item) Fault} (Err Reversed) (Ok next) = rw o at
-    e in absurd (cc))
-    (cases_Bool (nat_le start stop))
+    grind (arith, common_steps, nat_le, scalar-append, scalar-take, scalar-new, scalar-drop, cases_Bool)
 
 scalar-changed : (units : ℕ → ℕ) (old : List ℕ) (items : List Item) (characters : List ℕ) (range : Option Range)
     (next : List Item) → NewAreScalar items → all_scalars characters ≡ true → changed_in units old items characters
     range ≡ Ok next → NewAreScalar next
 scalar-changed units old items characters None next p all e =
-    let same : ◌≡◌ {A = Result (List Item) Fault} (Ok (map New characters)) (Ok next) = e in
-    let is : map New characters ≡ next = cc in
-    rw (← is) (scalar-new characters all)
+    grind (arith, common_steps, scalar-new)
 scalar-changed units old items characters (Some range) next p all e =
-    scalar-replaced items characters (denoted units (text_of old items) range.start)
-    (denoted units (text_of old items) range.stop) next p all e
+    grind (arith, common_steps, scalar-replaced)
 
 scalar-changes : (units : ℕ → ℕ) (old : List ℕ) (number : ℕ) (items : List Item) (batch : List ContentChange)
     (next : List Item)
     → NewAreScalar items → AreTexts batch → after_changes units old number items batch ≡ Ok next → NewAreScalar next
 scalar-changes units old number items [] next p texts e =
-    let same : ◌≡◌ {A = Result (List Item) (ℕ × Fault)} (Ok items) (Ok next) = e in
-    let is : items ≡ next = cc in
-    rw (← is) p
+    grind (arith, common_steps)
 scalar-changes units old number items (change ∷ batch) next p texts e =
     by (λ (made : List Item) (q : NewAreScalar made) (f : after_changes units old (suc number) made batch ≡ Ok next).
     scalar-changes units old (suc number) made batch next q texts.1 f) (items_after units old items change) refl e
@@ -128,11 +114,15 @@ none_stray (c ∷ text) all =
 all_from_none : (text : List ℕ) → sum_by stray text ≤ 0 → all_scalars text ≡ true
 all_from_none [] none = refl
 all_from_none (c ∷ text) none =
-    ⊎_elim (λ (is : scalar c ≡ true). and_from (scalar c) (all_scalars text) is
-    (all_from_none text (omega (arith, none, sum_by-cons stray c text))))
-    (λ (not : scalar c ≡ false). let one : stray c ≡ 1 = rw not refl in
-    absurd (omega (arith, none, sum_by-cons stray c text, one)))
-    (cases_Bool (scalar c))
+    grind (
+      arith,
+      common_steps,
+      scalar,
+      and_from,
+      sum_by-cons,
+      cases_Bool,
+      (all_from_none text (omega (arith, none, sum_by-cons stray c text))),
+    )
 
 texts_from_none : (batch : List ContentChange) → sum_by (λ change. sum_by stray change.text) batch ≤ 0 → AreTexts batch
 texts_from_none [] none = tt

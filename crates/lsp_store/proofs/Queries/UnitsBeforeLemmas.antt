@@ -17,6 +17,7 @@ use Rattle.lsp_text.proofs.Positions.PlaceLemmas.{index_at, place_boundary, plac
 use Rattle.lsp_text.proofs.Counting.UnitLemmas.{units_more, units_rise, units_same}
 use Rattle.lsp_store.specs.UnitsBefore.{HasUnitsBefore}
 use Rattle.lsp_store.specs.inside.UnitsPassed.{HasPassed, IsPassed, IsTooFew}
+use Rattle.std.proofs.lemmas.Grind.{common_steps}
 
 -- A character has at least one unit.
 pub some_units : (encoding : Encoding) (c : ℕ) → 1 ≤ units_in encoding c
@@ -58,8 +59,7 @@ chars_none (b ∷ bytes) none = absurd (omega (arith, none))
 pub one_count : (units : ℕ → ℕ) (text : List ℕ) (offset a b : ℕ) → HasUnitsBefore units text offset a
     → HasUnitsBefore units text offset b → a ≡ b
 one_count units text offset a b p q =
-    let same : p.index ≡ q.index = place_one text p.index q.index p.within q.within (p.offset_is ∙ sym q.offset_is) in
-    sym p.count_is ∙ (ap (units_between units text 0) same ∙ q.count_is)
+    grind (arith, common_steps, place_one)
 
 -- A count of units is before one byte offset, if each character has a unit.
 pub one_offset : (units : ℕ → ℕ) → ((c : ℕ) → 1 ≤ units c) → (text : List ℕ) (a b count : ℕ)
@@ -157,12 +157,7 @@ front_is units text rest offset left count h =
 passed_units : (units : ℕ → ℕ) (text rest : List ℕ) (offset left count : ℕ)
     (h : HasPassed units text rest offset left count) → units_between units text 0 (length h.passed) + left ≡ count
 passed_units units text rest offset left count h =
-    omega (
-      arith,
-      units_from_start units text (length h.passed),
-      ap (sum_by units) (front_is units text rest offset left count h),
-      h.count_is,
-    )
+    grind (arith, common_steps, units_from_start, sum_by)
 
 passed_within : (units : ℕ → ℕ) (text rest : List ℕ) (offset left count : ℕ)
     (h : HasPassed units text rest offset left count) → length h.passed + length rest ≡ length text
@@ -202,9 +197,7 @@ module _ (units : ℕ → ℕ) (some : (c : ℕ) → 1 ≤ units c) (text : List
   pub none_fewer : (offset left count : ℕ) → 1 ≤ left → HasPassed units text [] offset left count → (other : ℕ)
       → HasUnitsBefore units text other count → ⊥
   none_fewer offset left count more h other has =
-      let all : length h.passed ≡ length text = omega (arith, passed_within units text [] offset left count h) in
-      let most = rises has.index (length h.passed) (omega (arith, all, has.within)) (omega (arith, all)) in
-      absurd (omega (arith, most, has.count_is, passed_units units text [] offset left count h, more))
+      grind (arith, common_steps, passed_within, passed_units)
 
   -- Within a character there is no offset.
   pub none_inside : (rest : List ℕ) (c offset left count : ℕ) → 1 ≤ left → left < units c

@@ -8,6 +8,7 @@ use Rattle.std.proofs.lemmas.Str.{IsUtf8-between, IsUtf8-take, chars-append, cha
 use Rattle.lsp_text.specs.laws.Units.{utf8_bounds}
 use Rattle.lsp_store.specs.inside.UnitsPassed.{HasPassed, IsPassed, IsTooFew}
 use Rattle.lsp_store.proofs.Queries.UnitsBeforeLemmas.{passed_few}
+use Rattle.std.proofs.lemmas.Grind.{common_steps}
 
 -- The units before the end of a chunk are those before it and its own.
 pub chunk_counted : (units : ℕ → ℕ) (text chunk : List ℕ) (offset : ℕ) → IsUtf8 text → IsCharBoundary text offset
@@ -34,9 +35,7 @@ pub passed_end : (units : ℕ → ℕ) (text : List ℕ) (offset left count : �
     → HasPassed units (chars text) (chars (drop offset text)) offset left count
     → IsPassed units (chars text) count offset left
 passed_end units text offset left count end h =
-    let none : chars (drop offset text) ≡ [] = ap chars (drop_all offset text end) ∙ chars-nil in
-    passed_whole units (chars text) offset left count
-    (subst (λ (rest : List ℕ). HasPassed units (chars text) rest offset left count) none h)
+    grind (arith, common_steps, drop_all, chars-nil, passed_whole)
 
 -- What is passed in a part is passed in the whole.
 passed_then : (units : ℕ → ℕ) (text part back rest : List ℕ) (offset left x y count : ℕ)
@@ -82,8 +81,7 @@ rest_none units bytes (c ∷ rest) x y left utf8 h all =
 all_bytes : (units : ℕ → ℕ) (bytes rest : List ℕ) (x y left : ℕ) → IsUtf8 bytes → HasPassed units (chars bytes) rest x y
     left → rest ≡ [] → length bytes ≡ x
 all_bytes units bytes rest x y left utf8 h none =
-    ap length (sym (encodes-chars bytes utf8)
-    ∙ ap encode_utf8_all (h.text_is ∙ (ap (λ (r : List ℕ). h.passed ++ r) none ∙ append-nil h.passed))) ∙ h.offset_is
+    grind (arith, common_steps, encodes-chars, encode_utf8_all, append-nil)
 
 too_few_more : (units : ℕ → ℕ) (rest back : List ℕ) (left : ℕ) → (rest ≡ [] → ⊥) → IsTooFew units rest left
     → IsTooFew units (rest ++ back) left

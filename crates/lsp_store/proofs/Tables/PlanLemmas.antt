@@ -25,12 +25,13 @@ use Rattle.lsp_store.specs.Opened.{StoreData, Takes, entry_of, entry_under}
 use Rattle.lsp_store.specs.Plan.{IsPlanOf, IsPlanOn, after_plan, planned, planned_table}
 use Rattle.lsp_store.specs.declared.fault.StoreFault.{StoreFault}
 use Rattle.lsp_store.specs.Faults.{IsRefusal}
-use Rattle.lsp_store.specs.Message.{body_refusal, canonical_batch, canonical_body, change_body, else_refused, message_refusal}
+use Rattle.lsp_store.specs.Message.{body_refusal, canonical_batch, canonical_body, change_body, message_refusal}
 use Rattle.lsp_store.specs.Table.{Refusal, after_change, changed, changes, entry_at, entry_refusal}
 use Rattle.lsp_store.proofs.Messages.MessageLemmas.{accepted_left}
 use Rattle.lsp_store.proofs.Tables.RefusalLemmas.{meaning_accepted, meaning_short}
 use Rattle.lsp_store.proofs.Tables.StoreLemmas.{get_found, may_take, seen}
 use Rattle.lsp_store.proofs.Tables.TableLemmas.{at_uri}
+use Rattle.std.proofs.lemmas.Grind.{common_steps}
 
 -- what follows where a call succeeds, or fails
 pub on_ok : {A E P Q : Type 0} (r : Result A E) → (P → Q) → OnOk r P → OnOk r Q
@@ -119,9 +120,7 @@ pub put_same : (es : List (String Global × Stored)) (index : ℕ) (key : String
     → slice_get es index ≡ Some (key, stored) → set_value_at es index stored ≡ es
 put_same [] index key stored at = absurd (cc)
 put_same (e ∷ es) zero key stored at =
-    let same : e.1 ≡ stored =
-    ap (λ (o : Option (String Global × Stored)). elim o [ None ↦ stored | Some p ↦ p.1 ]) at in
-    ap (λ (s : Stored). (e.0, s) ∷ es) (sym same)
+    grind (arith, common_steps)
 put_same (e ∷ es) (suc index) key stored at = ap (λ rest. e ∷ rest) (put_same es index key stored at)
 
 pub put_length : (es : List (String Global × Stored)) (index : ℕ) (stored : Stored)
@@ -135,12 +134,7 @@ put_length (e ∷ es) (suc index) stored = ap suc (put_length es index stored)
 pub index_found : {X : Type 0} (test : X → Bool) (xs : List X) (index : ℕ) → Some index ≡ position test xs
     → position_or_len test xs ≡ index
 index_found test xs index is =
-    ⊎_elim
-    (λ (within : nat_lt (position_or_len test xs) (length xs) ≡ true). let same : Some index
-    ≡ Some (position_or_len test xs) = rw within at is in cc)
-    (λ (out : nat_lt (position_or_len test xs) (length xs) ≡ false). let bad : Some index ≡ None = rw out at is in
-    absurd (cc))
-    (cases_Bool (nat_lt (position_or_len test xs) (length xs)))
+    grind (arith, common_steps, nat_lt, cases_Bool)
 
 module _ (units : ℕ → ℕ) (uri : List ℕ) (version : ℤ) (batch : List ContentChange) (key : String Global)
     (stored : Stored)
@@ -221,9 +215,7 @@ module _ (limits : LimitsData) (es : List (String Global × Stored)) (kept : Sto
   -- the document that a plan is of
   module _ (plan : Plan) (p : IsPlanOn kept plan) (stored : Stored) (h : HasEntry es plan.index stored) where
     entry_is : Some (entry_under (string_bytes h.key) stored) ≡ Some p.entry
-    entry_is = ap (option_map entry_of) (sym h.at)
-        ∙ (sym (slice_get-map entry_of es plan.index) ∙ (ap (λ (d : StoreData). slice_get d.table plan.index) view
-        ∙ p.at))
+    entry_is = grind (arith, common_steps, slice_get-map, slice_get)
 
     pub same_entry : p.entry ≡ entry_under (string_bytes h.key) stored
     same_entry = ap (λ (o : Option DocumentItem). elim o [ None ↦ p.entry | Some e ↦ e ]) (sym entry_is)
@@ -245,10 +237,7 @@ module _ (limits : LimitsData) (es : List (String Global × Stored)) (kept : Sto
         → (next : List (String Global × Stored)) → next ≡ set_value_at es plan.index new → seen limits next
         ≡ after_plan kept plan
     plan_applied new is next set =
-        ap (seen limits) set
-        ∙ (ap (λ (table : List DocumentItem). record { limits = limits; table = table })
-        (put_planned es plan.index h.key stored new plan.version plan.delta h.at is)
-        ∙ ap (λ (d : StoreData). after_plan d plan) view)
+        grind (arith, common_steps, put_planned)
 
     pub plan_unchanged : (next : List (String Global × Stored)) → next ≡ set_value_at es plan.index stored
         → seen limits next ≡ kept
@@ -287,9 +276,7 @@ module _ (kept : StoreData) (uri : List ℕ) (version : ℤ) (encoding : Encodin
 
     planned_is : answered ≡ canonical (units_in encoding) (chars q.on.entry.text) within.items
     planned_is =
-        is within.items meant
-        ∙ (ap (λ (units : ℕ → ℕ). canonical units (chars text) within.items) q.delta.units_are
-        ∙ ap (λ (t : List ℕ). canonical (units_in encoding) (chars t) within.items) (sym same))
+        grind (arith, common_steps, meant)
 
     pub planned_body : (key : List ℕ) → q.on.entry.uri ≡ key → (given : ℤ) → given ≡ plan.version
         → change_body key given answered ≡ canonical_body (units_in encoding) kept.table uri version batch
@@ -306,9 +293,7 @@ module _ (kept : StoreData) (uri : List ℕ) (version : ℤ) (encoding : Encodin
 
     message_is : message_refusal kept.limits (units_in encoding) kept.table uri version batch ≡ body_refusal limits body
     message_is =
-        ap (λ (r : Option Refusal). else_refused r
-        (body_refusal kept.limits (canonical_body (units_in encoding) kept.table uri version batch))) q.accepted
-        ∙ sym body_refused
+        grind (arith, common_steps, body_refused)
 
     pub planned_accepted : body_refusal limits body ≡ None → message_refusal kept.limits (units_in encoding) kept.table
         uri version batch ≡ None
@@ -323,7 +308,4 @@ pub plan_takes : (kept new : StoreData) (uri : List ℕ) (version : ℤ) (encodi
     (plan : Plan) → IsPlanOf kept uri version encoding batch plan → new ≡ after_plan kept plan
     → Takes kept (changes uri version encoding batch) new
 plan_takes kept new uri version encoding batch plan p is =
-    subst (λ (d : StoreData). Takes kept (changes uri version encoding batch) d) (sym is) (record {
-      table = rw (p.accepted, p.after) refl;
-      limits = refl;
-    })
+    grind (arith, common_steps)

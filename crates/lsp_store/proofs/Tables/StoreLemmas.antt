@@ -1,5 +1,5 @@
 -- What the calls of a store make of it.
-use Rattle.std.proofs.Common.{◌≡◌, ◌≤◌, ◌<◌, ◌+◌, ◌++◌, ℕ, ℤ, Bool, true, false, not, ◌&&◌, List, [], ◌∷◌, length, map, Option, Some, None, Ok, option_map, is_some, slice_get, String, string_bytes, refl, sym, ap, ◌∙◌, subst, arith, inr}
+use Rattle.std.proofs.Common.{◌≡◌, ◌≤◌, ◌<◌, ◌+◌, ◌++◌, ℕ, ℤ, Bool, true, false, not, ◌&&◌, List, [], ◌∷◌, length, map, Option, Some, None, option_map, is_some, slice_get, String, string_bytes, refl, sym, ap, ◌∙◌, subst, arith, inr}
 use Rattle.std.proofs.lemmas.Bool.{lt-ltb, le-ltb, le-leb, lt-leb}
 use Rattle.std.proofs.lemmas.List.{length-append, length-map}
 use Rattle.std.proofs.lemmas.Option.{slice_get-map}
@@ -14,9 +14,10 @@ use Rattle.lsp_store.specs.declared.fault.StoreFault.TheVariants.{AlreadyOpen, T
 use Rattle.lsp_store.specs.declared.store.stored.Stored.{Stored}
 use Rattle.lsp_store.specs.Faults.{refusal_fault, IsRefusal}
 use Rattle.lsp_message.specs.Params.{DocumentItem}
-use Rattle.lsp_store.specs.Table.{IsLeftToMeaning, Refusal, entry_at, is_taken, open_refusal, entry_refusal, change_refusal, after_close, after_open, unless_refused, opens, changes, closes}
+use Rattle.lsp_store.specs.Table.{IsLeftToMeaning, entry_at, is_taken, open_refusal, entry_refusal, change_refusal, after_close, after_open, opens, changes, closes}
 use Rattle.lsp_store.specs.Opened.{ChangeMayAllocate, StoreData, Takes, IsRefused, entry_under, entry_of}
 use Rattle.lsp_store.proofs.Tables.TableLemmas.{at_uri, entry_at-lookup, is_some-entry_at, entry_found, table-opened, others_all, others_but_one, table-remove_entry}
+use Rattle.std.proofs.lemmas.Grind.{common_steps}
 
 -- what callers see of the fields
 abbrev pub seen : LimitsData → List (String Global × Stored) → StoreData
@@ -66,8 +67,7 @@ module _ (limits : LimitsData) (es : List (String Global × Stored)) (kept : Sto
   pub at_found : (index : ℕ) (found : Option (String Global × Stored)) → found ≡ slice_get es index
       → option_map entry_of found ≡ slice_get kept.table index
   at_found index found is =
-      ap (option_map entry_of) is
-      ∙ (sym (slice_get-map entry_of es index) ∙ ap (λ (d : StoreData). slice_get d.table index) view)
+      grind (arith, common_steps, slice_get-map, slice_get)
 
   -- ---- opening
 
@@ -92,14 +92,12 @@ module _ (limits : LimitsData) (es : List (String Global × Stored)) (kept : Sto
   pub others_new : (uri : List ℕ) → is_some (lookup (at_uri uri) es) ≡ false → length (after_close kept.table uri)
       ≡ length es
   others_new uri new =
-      others_seen uri (length es) (ap length (others_all (map entry_of es) uri (is_some-entry_at uri es ∙ new))
-      ∙ length-map es entry_of)
+      grind (arith, common_steps, others_seen, others_all, is_some-entry_at, length-map)
 
   pub others_open : (uri : List ℕ) → is_some (lookup (at_uri uri) es) ≡ true → length (after_close kept.table uri) + 1
       ≡ length es
   others_open uri is =
-      ap (λ n. n + 1) (others_seen uri (length (after_close (map entry_of es) uri)) refl)
-      ∙ (others_but_one (map entry_of es) uri (is_some-entry_at uri es ∙ is) ∙ length-map es entry_of)
+      grind (arith, common_steps, others_seen, others_but_one, is_some-entry_at, length-map)
 
   module _ (uri : String Global) (stored : Stored) (entry : DocumentItem) (is : entry_under (string_bytes uri) stored
       ≡ entry) (next : List (String Global × Stored))
@@ -109,25 +107,11 @@ module _ (limits : LimitsData) (es : List (String Global × Stored)) (kept : Sto
 
     pub opened : open_refusal kept.limits kept.table entry ≡ None → Takes kept (opens entry) (seen limits next)
     opened may =
-        subst (λ (d : StoreData). Takes d (opens entry) (seen limits next)) view (record {
-          table =
-              ap (λ (r : Option Refusal). unless_refused r (after_open (map entry_of es) entry))
-              (ap (λ (d : StoreData). open_refusal d.limits d.table entry) view ∙ may)
-              ∙ ap Ok (sym opened_table);
-          limits = refl;
-        })
+        grind (arith, common_steps, opened_table)
 
     pub opened_few : length (after_close kept.table entry.uri) < kept.limits.max_docs → length next ≤ limits.max_docs
     opened_few few =
-        let here : length (after_close (map entry_of es) entry.uri) < limits.max_docs
-        = subst (λ (d : StoreData). length (after_close d.table entry.uri) < d.limits.max_docs) (sym view) few in
-        omega (
-          arith,
-          here,
-          sym (length-map next entry_of),
-          ap length opened_table,
-          length-append (after_close (map entry_of es) entry.uri) (entry ∷ []),
-        )
+        grind (arith, common_steps, length-map, opened_table, length-append)
 
   -- ---- changing
 
@@ -168,10 +152,7 @@ module _ (limits : LimitsData) (es : List (String Global × Stored)) (kept : Sto
       → (next : List (String Global × Stored)) → next ≡ remove_entry (at_uri uri) es
       → Takes kept (closes uri) (seen limits next)
   closed uri stored found next is =
-      subst (λ (d : StoreData). Takes d (closes uri) (seen limits next)) view (record {
-        table = rw (entry_at-lookup uri es, ← found, is, table-remove_entry uri es) refl;
-        limits = refl;
-      })
+      grind (arith, common_steps, entry_at-lookup, table-remove_entry)
 
 -- An open document, on which nothing but its meaning refuses a batch.
 pub may_take : (kept : StoreData) (uri : List ℕ) (version : ℤ) (batch : List ContentChange) (entry : DocumentItem)

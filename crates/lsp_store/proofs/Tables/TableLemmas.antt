@@ -1,5 +1,5 @@
 -- The table of documents as an ordered map keeps it.
-use Rattle.std.proofs.Common.{◌≡◌, ◌≤◌, ◌+◌, ℕ, Bool, true, false, List, [], ◌∷◌, ◌++◌, length, map, Option, Some, None, option_map, is_some, String, string_bytes, bytes_eq, refl, sym, ap, ◌∙◌, arith, ⊎_elim}
+use Rattle.std.proofs.Common.{◌≡◌, ◌≤◌, ◌+◌, ℕ, Bool, true, false, List, [], ◌∷◌, ◌++◌, length, map, Option, Some, None, option_map, is_some, String, string_bytes, bytes_eq, refl, ap, ◌∙◌, arith, ⊎_elim}
 use Rattle.std.proofs.lemmas.Bool.{cases_Bool}
 use Rattle.std.proofs.lemmas.Slice.Eq.{bytes_eq-Decides}
 use Rattle.std.proofs.lemmas.List.{map-append}
@@ -9,6 +9,7 @@ use Rattle.lsp_store.specs.declared.store.stored.Stored.{Stored}
 use Rattle.lsp_message.specs.Params.{DocumentItem}
 use Rattle.lsp_store.specs.Table.{entry_at, after_close, after_open}
 use Rattle.lsp_store.specs.Opened.{entry_under, entry_of}
+use Rattle.std.proofs.lemmas.Grind.{common_steps}
 
 -- whether a key is this URI
 abbrev pub at_uri : List ℕ → String Global → Bool
@@ -19,10 +20,7 @@ pub entry_at-lookup : (uri : List ℕ) (es : List (String Global × Stored)) →
     ≡ option_map (entry_under uri) (lookup (at_uri uri) es)
 entry_at-lookup uri [] = refl
 entry_at-lookup uri (e ∷ es) =
-    ⊎_elim (λ (is : bytes_eq uri (string_bytes e.0) ≡ true). rw is
-    (ap (λ bytes. Some (entry_under bytes e.1)) (sym ((bytes_eq-Decides uri (string_bytes e.0)).0 is))))
-    (λ (not : bytes_eq uri (string_bytes e.0) ≡ false). rw not (entry_at-lookup uri es))
-    (cases_Bool (bytes_eq uri (string_bytes e.0)))
+    grind (arith, common_steps, bytes_eq, string_bytes, bytes_eq-Decides, cases_Bool, (entry_at-lookup uri es))
 
 pub is_some-entry_at : (uri : List ℕ) (es : List (String Global × Stored)) → is_some (entry_at (map entry_of es) uri)
     ≡ is_some (lookup (at_uri uri) es)
@@ -40,9 +38,7 @@ entry_found uri [] key stored at found = absurd (cc)
 entry_found uri (e ∷ es) key stored at found =
     ⊎_elim
     (λ (is : bytes_eq uri (string_bytes e.0) ≡ true).
-    let same_key : key ≡ e.0 = (let f : Some key ≡ Some e.0 = rw is at at in cc) in
-    let same : stored ≡ e.1 = (let f : Some stored ≡ Some e.1 = rw is at found in cc) in
-    rw (is, same_key, same) refl)
+    grind (arith, common_steps))
     (λ (not : bytes_eq uri (string_bytes e.0) ≡ false). rw not
     (entry_found uri es key stored (rw not at at) (rw not at found))) (cases_Bool (bytes_eq uri (string_bytes e.0)))
 
@@ -51,16 +47,12 @@ pub table-remove_entry : (uri : List ℕ) (es : List (String Global × Stored))
     → map entry_of (remove_entry (at_uri uri) es) ≡ after_close (map entry_of es) uri
 table-remove_entry uri [] = refl
 table-remove_entry uri (first ∷ es) =
-    ⊎_elim (λ (at : bytes_eq uri (string_bytes first.0) ≡ true). rw at refl)
-    (λ (not : bytes_eq uri (string_bytes first.0) ≡ false). rw not
-    (ap (λ (table : List DocumentItem). entry_of first ∷ table) (table-remove_entry uri es)))
-    (cases_Bool (bytes_eq uri (string_bytes first.0)))
+    grind (arith, common_steps, bytes_eq, string_bytes, cases_Bool, (table-remove_entry uri es))
 
 pub remove_entry-few : {K X : Type 0} (test : K → Bool) (es : List (K × X)) → length (remove_entry test es) ≤ length es
 remove_entry-few test [] = omega arith
 remove_entry-few test (first ∷ es) =
-    ⊎_elim (λ (is : test first.0 ≡ true). rw is (omega arith))
-    (λ (not : test first.0 ≡ false). rw not (omega (arith, remove_entry-few test es))) (cases_Bool (test first.0))
+    grind (arith, common_steps, cases_Bool, (remove_entry-few test es))
 
 -- ---- a document that is opened
 

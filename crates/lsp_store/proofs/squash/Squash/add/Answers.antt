@@ -1,10 +1,8 @@
-use Rattle.std.proofs.Common.{◌≡◌, Err, map, subst, rules, w32, to_z, of_z}
+use Rattle.std.proofs.Common.{◌≡◌, Err, map, rules, w32, to_z, of_z}
 use Rattle.std.proofs.lemmas.Int.{to_z-of_z}
 use Rattle.std.proofs.lemmas.Result.{err_from_is_err_and}
 use Rattle.lsp_edit.specs.Edited.{content_change}
 use Rattle.lsp_store.specs.declared.fault.StoreFault.TheVariants.{NoMemory}
-use Rattle.lsp_store.specs.Squash.{IsSquashAfter, SquashData, reached_entry}
-use Rattle.lsp_store.specs.Table.{IsLeftToMeaning}
 use Rattle.lsp_store.proofs.SquashLemmas.{add_accepted, add_refused, reached_still}
 use Rattle.lsp_store.proofs.squash.Squash.add.Goals as goal
 
@@ -19,23 +17,6 @@ returns-in_err-change-clause-error c =
     rw (p.1, p.2)
     (add_refused _ _ c.self.view_is c.args.version (map content_change c.args.changes.now) _
     (rw version at c.in_err-change.ensures.error))
-
-pub returns-clause-ok : goal.returns-clause-ok
-returns-clause-ok c =
-    let version : to_z w32 (of_z w32 c.args.version) ≡ c.args.version = to_z-of_z w32 c.args.version (search rules) in
-    subst (λ (kept : SquashData). IsSquashAfter kept c.args.version (map content_change c.args.changes.now)
-    c.change.new.self) c.self.view_is (rw version at c.in_ok-change.ensures.ok)
-
-pub returns-in_err-change-clause-memory : goal.returns-in_err-change-clause-memory
-returns-in_err-change-clause-memory c = λ e.
-    let version : to_z w32 (of_z w32 c.args.version) ≡ c.args.version = to_z-of_z w32 c.args.version (search rules) in
-    let p = err_from_is_err_and c.from_residual.result c.from_residual.ensures.1 in
-    let converted = p.1 in
-    let same = p.2 in
-    let was = c.in_err-change.was in
-    let no_memory : c.change.result ≡ Err NoMemory = cc in
-    subst (λ (kept : SquashData). IsLeftToMeaning kept.limits (reached_entry kept) c.args.version
-    (map content_change c.args.changes.now)) c.self.view_is (rw version at (c.change.ensures.memory no_memory))
 
 pub returns-in_err-change-clause-one : goal.returns-in_err-change-clause-one
 returns-in_err-change-clause-one c = λ e range text is.

@@ -2,7 +2,7 @@ use Rattle.std.proofs.Common.{◌≡◌, ap, arith, refl, rules, w32, to_z, of_z
 use Rattle.std.proofs.lemmas.Int.{to_z-of_z}
 use Rattle.ordered_map.specs.Entries.{set_value_at}
 use Rattle.lsp_store.specs.declared.store.stored.Stored.{Stored}
-use Rattle.lsp_store.proofs.Tables.PlanLemmas.{entry_there, nothing_there, on_err, on_ok, plan_applied, plan_entry, plan_on, plan_short, plan_takes, plan_unchanged, put_length}
+use Rattle.lsp_store.proofs.Tables.PlanLemmas.{entry_there, on_err, on_ok, plan_applied, plan_on, plan_short, plan_takes, plan_unchanged, put_length}
 use Rattle.lsp_store.proofs.store.Store.apply.Goals as goal
 
 pub apply-requires-clause-on : goal.apply-requires-clause-on
@@ -14,12 +14,6 @@ pub apply-requires-clause-short : goal.apply-requires-clause-short
 apply-requires-clause-short c =
     plan_short c.self.inside.limits c.self.inside.documents.entries c.args.self.now c.self.view_is c.args.plan
     c.requires.on c.in-Some.stored.now (entry_there _ _ _ c.in-Some.ensures.value)
-
-pub unreachable-requires : goal.unreachable-requires
-unreachable-requires c =
-    absurd (nothing_there c.self.inside.documents.entries _ c.in_default.ensures.value
-    (plan_entry c.self.inside.limits c.self.inside.documents.entries c.args.self.now c.self.view_is c.args.plan
-    c.requires.on).at)
 
 pub invariant_of-self : goal.invariant_of-self
 invariant_of-self c = omega (

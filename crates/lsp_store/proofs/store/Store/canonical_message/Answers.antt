@@ -6,8 +6,8 @@ use Rattle.lsp_store.specs.declared.fault.StoreFault.{StoreFault}
 use Rattle.lsp_store.specs.declared.fault.StoreFault.TheVariants.{NoMemory}
 use Rattle.lsp_store.specs.Plan.{IsPlanOf}
 use Rattle.lsp_store.proofs.Messages.MessageLemmas.{first_told, texts_held}
-use Rattle.lsp_store.proofs.Messages.PlannedLemmas.{plan_alike, plan_canonical, plan_read, plan_settled}
-use Rattle.lsp_store.proofs.Tables.PlanLemmas.{if_err, if_ok, ok_from}
+use Rattle.lsp_store.proofs.Messages.PlannedLemmas.{plan_alike, plan_read, plan_settled}
+use Rattle.lsp_store.proofs.Tables.PlanLemmas.{ok_from}
 use Rattle.lsp_store.proofs.store.Store.canonical_message.Goals as goal
 
 pub returns-in-Err-clause-error : goal.returns-in-Err-clause-error
@@ -15,65 +15,11 @@ returns-in-Err-clause-error c =
     let version : to_z w32 (of_z w32 c.args.version) ≡ c.args.version = to_z-of_z w32 c.args.version (search rules) in
     first_told _ _ _ (rw version at c.in-Err.ensures.error)
 
-pub returns-in-Ok-clause-framed : goal.returns-in-Ok-clause-framed
-returns-in-Ok-clause-framed c =
-    let version : to_z w32 (of_z w32 c.args.version) ≡ c.args.version = to_z-of_z w32 c.args.version (search rules) in
-    let batch : List ContentChange = map content_change c.args.changes.now in
-    let q : IsPlanOf c.args.self.now c.args.uri.now c.args.version c.args.encoding batch c.in-Ok.plan =
-    rw version at c.in-Ok.ensures.planned in
-    if_ok c.planned_message.result (λ bytes is. (is c.args.uri.now c.args.version c.args.encoding batch q).0)
-    c.planned_message.ensures.framed
-
-pub returns-in-Ok-clause-accepted : goal.returns-in-Ok-clause-accepted
-returns-in-Ok-clause-accepted c =
-    let version : to_z w32 (of_z w32 c.args.version) ≡ c.args.version = to_z-of_z w32 c.args.version (search rules) in
-    let batch : List ContentChange = map content_change c.args.changes.now in
-    let q : IsPlanOf c.args.self.now c.args.uri.now c.args.version c.args.encoding batch c.in-Ok.plan =
-    rw version at c.in-Ok.ensures.planned in
-    ok_from c.planned_message.result (λ bytes is. (is c.args.uri.now c.args.version c.args.encoding batch q).1)
-    c.planned_message.ensures.framed
-
-pub returns-in-Ok-clause-error : goal.returns-in-Ok-clause-error
-returns-in-Ok-clause-error c =
-    let version : to_z w32 (of_z w32 c.args.version) ≡ c.args.version = to_z-of_z w32 c.args.version (search rules) in
-    let batch : List ContentChange = map content_change c.args.changes.now in
-    let q : IsPlanOf c.args.self.now c.args.uri.now c.args.version c.args.encoding batch c.in-Ok.plan =
-    rw version at c.in-Ok.ensures.planned in
-    if_err c.planned_message.result (λ fault why. why c.args.uri.now c.args.version c.args.encoding batch q)
-    c.planned_message.ensures.error
-
-pub returns-in-Ok-clause-memory : goal.returns-in-Ok-clause-memory
-returns-in-Ok-clause-memory c =
-    let version : to_z w32 (of_z w32 c.args.version) ≡ c.args.version = to_z-of_z w32 c.args.version (search rules) in
-    let batch : List ContentChange = map content_change c.args.changes.now in
-    let q : IsPlanOf c.args.self.now c.args.uri.now c.args.version c.args.encoding batch c.in-Ok.plan =
-    rw version at c.in-Ok.ensures.planned in
-    λ e. q.left
-
 pub returns-in-Err-clause-one : goal.returns-in-Err-clause-one
 returns-in-Err-clause-one c = λ e.
     let no_memory : c.in-Err.fault ≡ NoMemory = cc in
     let version : to_z w32 (of_z w32 c.args.version) ≡ c.args.version = to_z-of_z w32 c.args.version (search rules) in
     rw version at (c.in-Err.ensures.one (ap (λ (fault : StoreFault). Err fault) no_memory))
-
-pub returns-in-Ok-clause-one : goal.returns-in-Ok-clause-one
-returns-in-Ok-clause-one c =
-    let version : to_z w32 (of_z w32 c.args.version) ≡ c.args.version = to_z-of_z w32 c.args.version (search rules) in
-    let batch : List ContentChange = map content_change c.args.changes.now in
-    let q : IsPlanOf c.args.self.now c.args.uri.now c.args.version c.args.encoding batch c.in-Ok.plan =
-    rw version at c.in-Ok.ensures.planned in
-    λ e range text is. q.accepted
-
-pub returns-in-Ok-clause-canonical : goal.returns-in-Ok-clause-canonical
-returns-in-Ok-clause-canonical c =
-    let version : to_z w32 (of_z w32 c.args.version) ≡ c.args.version = to_z-of_z w32 c.args.version (search rules) in
-    let batch : List ContentChange = map content_change c.args.changes.now in
-    let q : IsPlanOf c.args.self.now c.args.uri.now c.args.version c.args.encoding batch c.in-Ok.plan =
-    rw version at c.in-Ok.ensures.planned in
-    ok_from c.planned_message.result
-    (λ bytes is. plan_canonical c.args.self.now c.args.uri.now c.args.version c.args.encoding batch
-    c.in-Ok.plan q)
-    c.planned_message.ensures.framed
 
 pub returns-in-Ok-clause-exactly : goal.returns-in-Ok-clause-exactly
 returns-in-Ok-clause-exactly c =

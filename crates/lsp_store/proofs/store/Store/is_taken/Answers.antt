@@ -1,5 +1,5 @@
-use Rattle.std.proofs.Common.{◌∙◌, ap, not, sym}
-use Rattle.lsp_store.proofs.Tables.StoreLemmas.{taken_strict, taken_never}
+use Rattle.std.proofs.Common.{◌∙◌, sym}
+use Rattle.lsp_store.proofs.Tables.StoreLemmas.{taken_strict}
 use Rattle.lsp_store.proofs.store.Store.is_taken.Goals as goal
 
 pub returns-then-not-is_lenient : goal.returns-then-not-is_lenient
@@ -7,9 +7,3 @@ returns-then-not-is_lenient c =
     c.contains_key.ensures
     ∙ taken_strict c.self.inside.limits c.self.inside.documents.entries c.args.self.now c.self.view_is c.args.uri.now
     (sym c.is_lenient.ensures ∙ c.if-not-is_lenient.true)
-
-pub returns-else-not-is_lenient : goal.returns-else-not-is_lenient
-returns-else-not-is_lenient c =
-    ap not c.if-not-is_lenient.false
-    ∙ taken_never c.self.inside.limits c.self.inside.documents.entries c.args.self.now c.self.view_is c.args.uri.now
-    (sym c.is_lenient.ensures ∙ c.if-not-is_lenient.false)

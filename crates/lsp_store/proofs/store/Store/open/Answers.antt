@@ -1,7 +1,6 @@
-use Rattle.std.proofs.Common.{◌≡◌, Err, inr, rules, w32, to_z, of_z, string_bytes}
+use Rattle.std.proofs.Common.{◌≡◌, inr, rules, w32, to_z, of_z, string_bytes}
 use Rattle.std.proofs.lemmas.Int.{to_z-of_z}
 use Rattle.std.proofs.lemmas.Result.{err_from_is_err_and}
-use Rattle.lsp_store.specs.declared.fault.StoreFault.TheVariants.{NoMemory}
 use Rattle.lsp_store.proofs.Tables.StoreLemmas.{opened, opened_few}
 use Rattle.lsp_store.proofs.store.Store.open.Goals as goal
 
@@ -34,15 +33,6 @@ returns-clause-taken c =
       c.deref.ensures,
       c.deref-2.ensures,
     ) at (c.in_ok-check_open.ensures.may (string_bytes c.args.language) c.args.version))
-
-pub returns-in_err-check_open-clause-memory : goal.returns-in_err-check_open-clause-memory
-returns-in_err-check_open-clause-memory c = λ e.
-    let p = err_from_is_err_and c.from_residual.result c.from_residual.ensures.1 in
-    let converted = p.1 in
-    let same = p.2 in
-    let was = c.in_err-check_open.was in
-    let no_memory : c.check_open.result ≡ Err NoMemory = cc in
-    absurd (c.check_open.ensures.memory no_memory)
 
 pub returns-in_err-stored-clause-memory : goal.returns-in_err-stored-clause-memory
 returns-in_err-stored-clause-memory c = λ e.

@@ -2,15 +2,6 @@ use Rattle.std.proofs.Common.{◌∙◌, sym, arith}
 use Rattle.lsp_store.proofs.Tables.StoreLemmas.{others_new, others_open}
 use Rattle.lsp_store.proofs.store.Store.others.Goals as goal
 
-pub overflow_sub-result : goal.overflow_sub-result
-overflow_sub-result c =
-    omega (
-      arith,
-      others_open c.self.inside.limits c.self.inside.documents.entries c.args.self.now c.self.view_is c.args.uri.now
-          (sym c.contains_key.ensures ∙ c.if-contains_key.true),
-      c.len-count.ensures,
-    )
-
 pub returns-then-contains_key : goal.returns-then-contains_key
 returns-then-contains_key c =
     omega (

@@ -1,21 +1,7 @@
-use Rattle.std.proofs.Common.{◌≡◌, None, Some, sym, ◌∙◌, rules, w32, to_z, of_z}
+use Rattle.std.proofs.Common.{◌≡◌, sym, ◌∙◌, rules, w32, to_z, of_z}
 use Rattle.std.proofs.lemmas.Int.{to_z-of_z}
-use Rattle.lsp_store.proofs.Tables.PlanLemmas.{HasEntry, plan_entry, plan_key, plan_on, plan_text, planned_body}
+use Rattle.lsp_store.proofs.Tables.PlanLemmas.{HasEntry, plan_key, plan_text, planned_body}
 use Rattle.lsp_store.proofs.store.Store.planned_batch.Goals as goal
-
-pub unreachable-requires : goal.unreachable-requires
-unreachable-requires c =
-    let there = plan_entry c.self.inside.limits c.self.inside.documents.entries c.args.self.now c.self.view_is
-    c.args.plan.now c.requires.on in
-    let bad : None ≡ Some there.found = c.in_default.ensures.entry ∙ there.at in
-    absurd (cc)
-
-pub canonical-requires : goal.canonical-requires
-canonical-requires c =
-    record {
-      on = plan_on c.self.inside.limits c.self.inside.documents.entries c.args.self.now c.self.view_is c.args.plan.now
-          c.requires.on c.in-Some.stored.now (record { key = c.in-Some.uri.now; at = sym c.in-Some.ensures.entry });
-    }
 
 pub returns : goal.returns
 returns c = λ uri version encoding batch q.

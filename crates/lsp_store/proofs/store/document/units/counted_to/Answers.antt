@@ -1,4 +1,4 @@
-use Rattle.std.proofs.Common.{ℕ, ◌≡◌, ◌+◌, ◌∙◌, ap, arith, chars, length, sum_by, sym, take}
+use Rattle.std.proofs.Common.{◌+◌, ap, arith, length, sum_by, sym, take}
 use Rattle.std.proofs.lemmas.List.{length-take}
 use Rattle.std.proofs.lemmas.Str.{IsCharBoundary-start, IsUtf8-take, chars-nil}
 use Rattle.lsp_text.specs.Units.{units_in}
@@ -45,10 +45,3 @@ loop-offset-preserved c =
                 c.loop-offset.invariant.at c.chunk_to-chunk.ensures.part,
           );
     }
-
-pub returns : goal.returns
-returns c =
-    let all : c.loop-offset.offset ≡ c.args.end =
-    omega (arith, c.loop-offset.invariant.low, c.loop-offset-test.false) in
-    c.loop-offset.invariant.counted ∙ ap (λ (n : ℕ). sum_by (units_in c.args.encoding) (chars (take n c.args.text.now)))
-    all

@@ -1,21 +1,9 @@
-use Rattle.std.proofs.Common.{subst, arith}
+use Rattle.std.proofs.Common.{arith}
 use Rattle.std.proofs.lemmas.Str.{IsUtf8-past_char}
 use Rattle.std.specs.Str.{chars}
 use Rattle.lsp_text.specs.Units.{units_in}
-use Rattle.lsp_store.specs.inside.UnitsPassed.{HasPassed}
-use Rattle.lsp_store.proofs.Queries.UnitsBeforeLemmas.{chars_none, passed_few, passed_more, passed_next}
-use Rattle.lsp_store.proofs.Queries.UnitsPassedLemmas.{passed_before, passed_whole}
+use Rattle.lsp_store.proofs.Queries.UnitsBeforeLemmas.{passed_few, passed_more, passed_next}
 use Rattle.lsp_store.proofs.store.document.units.passed_by.Goals as goal
-
-pub returns-then-left-here : goal.returns-then-left-here
-returns-then-left-here c =
-    let units = units_in c.args.encoding in
-    let text = chars c.args.text.now in
-    let l = c.loop-c in
-    let next = passed_next units text _ _ c.in-Some.c l.offset l.left c.args.count l.invariant.utf8
-    c.in-Some.ensures.steps.0 l.invariant.passed in
-    passed_before units text _ c.in-Some.c l.offset l.left c.args.count next
-    (omega (arith, c.if-left-here.true, c.units-here.ensures))
 
 pub overflow_add-offset : goal.overflow_add-offset
 overflow_add-offset c =
@@ -41,12 +29,3 @@ loop-c-preserved c =
       passed = passed_more units text _ c.in-Some.c _ _ l.offset l.left c.args.count c.len_utf8-offset.ensures.value
           c.units-here.ensures c.if-left-here.false next;
     }
-
-pub returns : goal.returns
-returns c =
-    let units = units_in c.args.encoding in
-    let text = chars c.args.text.now in
-    let l = c.loop-c in
-    passed_whole units text l.offset l.left c.args.count
-    (subst (λ rest. HasPassed units text rest l.offset l.left c.args.count) (chars_none _ c.in-None.ensures.steps.0.0)
-    l.invariant.passed)

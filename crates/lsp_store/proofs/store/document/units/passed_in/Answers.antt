@@ -3,7 +3,7 @@ use Rattle.std.proofs.lemmas.Str.{IsCharBoundary-start}
 use Rattle.std.specs.Str.{chars}
 use Rattle.lsp_text.specs.Units.{units_in}
 use Rattle.lsp_store.proofs.Queries.UnitsBeforeLemmas.{passed_none}
-use Rattle.lsp_store.proofs.Queries.UnitsPassedLemmas.{chunk_few, chunk_next, chunk_passed, chunk_stops, chunk_whole, passed_end}
+use Rattle.lsp_store.proofs.Queries.UnitsPassedLemmas.{chunk_few, chunk_next, chunk_passed, chunk_stops, passed_end}
 use Rattle.lsp_store.proofs.store.document.units.passed_in.Goals as goal
 
 pub loop-offset-init : goal.loop-offset-init
@@ -42,19 +42,6 @@ loop-offset-preserved c = record {
       c.loop-offset.invariant.at c.chunk_from-chunk.ensures.next c.chunk_from-chunk.ensures.part
       c.loop-offset.invariant.passed c.passed_by-passed.ensures c.if-passed-size.false;
 }
-
-pub loop-offset-smaller : goal.loop-offset-smaller
-loop-offset-smaller c =
-    let some = c.chunk_from-chunk.ensures.some (omega (arith, c.loop-offset-test.true, c.len-len.ensures.len)) in
-    omega (
-      arith,
-      chunk_whole (units_in c.args.encoding) c.args.text.now c.chunk_from-chunk.result.now c.loop-offset.offset
-          c.loop-offset.left c.passed_by-passed.result.0 c.passed_by-passed.result.1 c.args.count c.len-len.ensures.utf8
-          c.loop-offset.invariant.at c.chunk_from-chunk.ensures.next c.chunk_from-chunk.ensures.part
-          c.loop-offset.invariant.passed c.passed_by-passed.ensures c.if-passed-size.false,
-      some,
-      c.loop-offset-test.true,
-    )
 
 pub returns : goal.returns
 returns c =

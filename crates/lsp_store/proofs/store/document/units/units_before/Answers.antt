@@ -14,9 +14,6 @@ returns-then-not-is_char_boundary c = λ count.
     (λ at. false≢true (sym c.if-not-is_char_boundary.true ∙ c.is_char_boundary.ensures.boundary.1 at)) in
     none_is (HasUnitsBefore units (chars text) c.args.offset) none count
 
-pub units_to-requires-clause-at_end : goal.units_to-requires-clause-at_end
-units_to-requires-clause-at_end c = c.is_char_boundary.ensures.boundary.0 c.if-not-is_char_boundary.false
-
 pub returns : goal.returns
 returns c = λ count.
     let units = units_in c.args.encoding in

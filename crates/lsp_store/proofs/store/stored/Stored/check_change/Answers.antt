@@ -1,16 +1,9 @@
-use Rattle.std.proofs.Common.{◌∙◌, refl, sym, map, rules, w32, arith}
+use Rattle.std.proofs.Common.{◌∙◌, refl, sym, rules, w32, arith}
 use Rattle.std.proofs.lemmas.Int.{to_z-of_z}
-use Rattle.lsp_edit.specs.Edited.{content_change}
 use Rattle.lsp_store.specs.Opened.{entry_under}
-use Rattle.lsp_store.proofs.Tables.RefusalLemmas.{stale_refused, many_refused, long_refused, fit_accepted}
+use Rattle.lsp_store.proofs.Tables.RefusalLemmas.{many_refused, long_refused, fit_accepted}
 use Rattle.lsp_store.proofs.store.stored.Stored.check_change.Goals as goal
 use Rattle.lsp_store.proofs.store.stored.Stored.check_change.Goals.{then-changes-max_changes-via-then-changes-max_changes, then-changes-max_changes-via-else-changes-max_changes+then-not-fits}
-
-pub returns-then-is_stale-clause-error : goal.returns-then-is_stale-clause-error
-returns-then-is_stale-clause-error c units uri =
-    stale_refused c.args.limits.now units (entry_under uri c.args.self.now) c.args.version _ _
-    (map content_change c.args.changes.now) (to_z-of_z w32 c.args.version (search rules))
-    (to_z-of_z w32 c.args.self.now.version (search rules)) (sym c.is_stale.ensures ∙ c.if-is_stale.true)
 
 pub returns-then-changes-max_changes-clause-error : goal.returns-then-changes-max_changes-clause-error
 returns-then-changes-max_changes-clause-error c units uri =
