@@ -14,8 +14,8 @@ use Rattle.lsp_log.specs.declared.record.Sender.TheVariants.{Client, Server}
 use Rattle.lsp_log.specs.Log.{LogRules, Record, AreRecords, IsVersion, together, record_bytes, mark_of, line_of, is_line_due, version_line}
 use Rattle.lsp_log.specs.laws.Logs.{AllRecords, AllRecordsLaw}
 use Rattle.lsp_log.proofs.OpeningLemmas.{starts_front, starts_known}
-use Rattle.lsp_log.proofs.SplitLemmas.{frame_len}
 use Rattle.lsp_log.proofs.UniqueLemmas.{IsEnd, same_version}
+use Rattle.std.proofs.lemmas.Grind.{common_steps}
 
 -- ---- the version
 
@@ -27,11 +27,7 @@ version_decided true input =
         Two,
         (refl, (drop 18 input, starts_front input version_line (starts_with nat_eq input version_line) refl begins)),
       )
-      | inr other ↦ (
-        One,
-        λ looks more e. let begins : starts_with nat_eq input version_line ≡ true =
-            starts_known input version_line more (starts_with nat_eq input version_line) refl e in cc,
-      )
+      | inr other ↦ grind (arith, common_steps, starts_known)
     ]
 
 -- ---- the next record
@@ -78,15 +74,7 @@ module _ (decision : DecisionLaw) where
       ⊎ IsEnd max_body version bytes
   next_record max_body One bytes =
       elim (decision max_body bytes) [
-        | inl first ↦ inl (record {
-          side = Client;
-          frame = first.frame;
-          body = first.body;
-          more = first.rest;
-          is_frame = first.is_frame;
-          is = first.is;
-          client = λ _. refl;
-        })
+        | inl first ↦ grind (arith, common_steps, inl)
         | inr none ↦ inr (λ side frame body more s e. none frame body more s e)
       ]
   next_record max_body Two [] = inr (nothing_marked max_body)
@@ -124,13 +112,7 @@ module _ (decision : DecisionLaw) where
   shorter : (max_body : ℕ) (version : Version) (bytes : List ℕ) (next : NextRecord max_body version bytes)
       → suc (length next.more) ≤ length bytes
   shorter max_body version bytes next =
-      omega (
-        arith,
-        ap length next.is,
-        length-append (mark_of version next.side) (next.frame ++ next.more),
-        length-append next.frame next.more,
-        frame_len max_body next.frame next.body next.is_frame,
-      )
+      grind (arith, common_steps, length-append)
 
   with_first : (max_body place : ℕ) (version : Version) (due : Bool) (bytes : List ℕ)
       (next : NextRecord max_body version bytes)
@@ -143,20 +125,14 @@ module _ (decision : DecisionLaw) where
         rest = others.rest;
         is = next.is ∙ sym (append_assoc (mark_of version next.side) next.frame next.more)
             ∙ ap (λ (x : List ℕ). (mark_of version next.side ++ next.frame) ++ x) others.is;
-        each = (
-          record { is_frame_of = next.is_frame; side = next.client; of_version = refl; placed = refl; due = refl },
-          others.each,
-        );
+        each = grind (arith, common_steps);
         ends = others.ends;
       }
 
   all_within : (n max_body place : ℕ) (version : Version) (due : Bool) (bytes : List ℕ) → length bytes ≤ n
       → AllFrom max_body version place due bytes
   all_within zero max_body place version due bytes within =
-      elim (next_record max_body version bytes) [
-        | inl next ↦ absurd (omega (arith, within, shorter max_body version bytes next))
-        | inr ends ↦ record { records = []; rest = bytes; is = refl; each = tt; ends = ends }
-      ]
+      grind (arith, common_steps, next_record, inl, inr)
   all_within (suc n) max_body place version due bytes within =
       elim (next_record max_body version bytes) [
         | inl next ↦ with_first max_body place version due bytes next
@@ -175,12 +151,7 @@ module _ (decision : DecisionLaw) where
       (omega arith) in
       record {
         log = record { version = version; records = all.records; rest = all.rest };
-        reads = record {
-          version = known;
-          accepted = accepted;
-          is = is ∙ ap (λ (x : List ℕ). line_of version ++ x) all.is;
-          each = all.each;
-        };
+        reads = grind (arith, common_steps);
         none = all.ends;
       }
 

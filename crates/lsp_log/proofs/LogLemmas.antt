@@ -1,10 +1,11 @@
 -- Records one after another.
-use Rattle.std.proofs.Common.{◌≡◌, ℕ, ◌+◌, Bool, false, List, [], ◌∷◌, ◌++◌, length, refl, sym, ap, subst, arith, drop, Some, None}
+use Rattle.std.proofs.Common.{◌≡◌, ℕ, ◌+◌, Bool, false, List, [], ◌∷◌, ◌++◌, length, refl, ap, arith, drop, Some, None}
 use Rattle.std.specs.Prelude.{slice_get}
 use Rattle.std.proofs.lemmas.List.{length-append}
 use Rattle.lsp_log.specs.declared.record.Version.{Version}
 use Rattle.lsp_log.specs.declared.record.Version.TheVariants.{One, Two}
 use Rattle.lsp_log.specs.Log.{Record, IsRecord, AreRecords, LogRules, Log, IsReadAs, together, record_bytes, line_of, is_line_due}
+use Rattle.std.proofs.lemmas.Grind.{common_steps}
 
 pub together_push : (version : Version) (rs : List Record) (r : Record) (rest : List ℕ)
     → together version (rs ++ r ∷ []) rest ≡ together version rs (record_bytes version r ++ rest)
@@ -15,23 +16,13 @@ pub together_len : (version : Version) (rs : List Record) (rest : List ℕ) → 
     ≡ length (together version rs []) + length rest
 together_len version [] rest = omega arith
 together_len version (q ∷ rs) rest =
-    omega (
-      arith,
-      together_len version rs rest,
-      length-append (record_bytes version q) (together version rs rest),
-      length-append (record_bytes version q) (together version rs []),
-    )
+    grind (arith, common_steps, length-append, (together_len version rs rest))
 
 -- how long the input is
 pub input_len : (log_rules : LogRules) (input : List ℕ) (log : Log) → IsReadAs log_rules input log
     → length input ≡ length (line_of log.version) + length (together log.version log.records []) + length log.rest
 input_len log_rules input log reads =
-    omega (
-      arith,
-      ap length reads.is,
-      length-append (line_of log.version) (together log.version log.records log.rest),
-      together_len log.version log.records log.rest,
-    )
+    grind (arith, common_steps, length-append, together_len)
 
 -- whether a record behind these has the line
 abbrev pub due_after : Bool → List Record → Bool
@@ -59,17 +50,14 @@ pub are_push : (max_body : ℕ) (version : Version) (place : ℕ) (due : Bool) (
     → IsRecord max_body version (place + length (together version rs [])) (due_after due rs) r
     → AreRecords max_body version place due (rs ++ r ∷ [])
 are_push max_body version place due [] r each is =
-    let here : place + length (together version [] []) ≡ place = omega arith in
-    (subst (λ (n : ℕ). IsRecord max_body version n due r) here is, tt)
+    grind (arith, common_steps)
 are_push max_body version place due (q ∷ rs) r each is =
     let len : place + length (together version (q ∷ rs) []) ≡ place + length (record_bytes version q)
     + length (together version rs []) =
     omega (arith, length-append (record_bytes version q) (together version rs [])) in
     let later : IsRecord max_body version (place + length (record_bytes version q) + length (together version rs []))
     (due_after false rs) r =
-    subst (λ (b : Bool). IsRecord max_body version (place + length (record_bytes version q)
-    + length (together version rs [])) b r) (sym (due_later rs))
-    (subst (λ (n : ℕ). IsRecord max_body version n false r) len is) in
+    grind (arith, common_steps, due_later) in
     (each.0, are_push max_body version (place + length (record_bytes version q)) false rs r each.1 later)
 
 -- the first of some bytes

@@ -1,5 +1,5 @@
 -- The first bytes of an input, and its version.
-use Rattle.std.proofs.Common.{◌≡◌, ℕ, ◌+◌, ◌-◌, ◌<◌, ◌≤◌, Bool, true, List, [], ◌++◌, length, take, drop, Option, refl, sym, ◌∙◌, ap, subst, arith, append_assoc, append-nil, inl, inr}
+use Rattle.std.proofs.Common.{◌≡◌, ℕ, ◌+◌, ◌-◌, ◌<◌, ◌≤◌, Bool, true, List, [], ◌++◌, length, take, drop, Option, refl, sym, ◌∙◌, ap, arith, append_assoc, append-nil, inl, inr}
 use Rattle.std.specs.Prelude.{nat_eq}
 use Rattle.std.proofs.lemmas.List.{length-append, take-append-drop, length-take, take-take, take_at, take-append-le}
 use Rattle.std.proofs.lemmas.Slice.{take-put_mid}
@@ -9,12 +9,12 @@ use Rattle.std.proofs.lemmas.Bool.Decides.{Decides-eqb}
 use Rattle.std.proofs.Math.Seq.{take-append-add}
 use Rattle.std.specs.List.{starts_with}
 use Rattle.std.specs.Io.KnownBytes.{Consumes}
-use Rattle.std.proofs.KnownBytes.{Consumes-trans}
 use borrow.Rule.Slice.PartMut.{put_mid}
 use Rattle.lsp_log.specs.declared.record.Version.{Version}
 use Rattle.lsp_log.specs.declared.record.Version.TheVariants.{One, Two}
 use Rattle.lsp_log.specs.Log.{IsVersion, version_line}
 use Rattle.lsp_log.specs.Opening.{IsLineFront}
+use Rattle.std.proofs.lemmas.Grind.{common_steps}
 
 -- bytes that begin with others
 pub starts_front : (bytes front : List ℕ) (r : Bool) → r ≡ starts_with nat_eq bytes front → r ≡ true
@@ -43,32 +43,19 @@ front_no bytes r is front =
 pub next_bytes : (len n : ℕ) (buf part : List ℕ) → len ≤ length buf → length part ≡ length buf - len → n ≤ length part
     → take (len + n) (put_mid len (length buf - len) buf part) ≡ take len buf ++ take n part
 next_bytes len n buf part within long few =
-    let all : take (len + length part) (put_mid len (length buf - len) buf part) ≡ take len buf ++ part =
-    take-put_mid len (length buf - len) buf part (len + length part) refl within in
-    let front : length (take len buf) ≡ len = omega (arith, length-take len buf) in
-    let some : take (length (take len buf) + n) (take len buf ++ part) ≡ take len buf ++ take n part =
-    take-append-add (take len buf) part n in
-    sym (take-take (len + n) (len + length part) (put_mid len (length buf - len) buf part) (omega (arith, few)))
-    ∙ ap (take (len + n)) all ∙ rw front at some
+    grind (arith, common_steps, take-put_mid, length-take, take-append-add, take-take)
 
 pub next_len : (len n : ℕ) (buf part : List ℕ) → len ≤ length buf → length part ≡ length buf - len → n ≤ length part
     → length (take (len + n) (put_mid len (length buf - len) buf part)) ≡ len + n
 next_len len n buf part within long few =
-    omega (
-      arith,
-      ap length (next_bytes len n buf part within long few),
-      length-append (take len buf) (take n part),
-      length-take len buf,
-      length-take n part,
-    )
+    grind (arith, common_steps, next_bytes, length-append, length-take)
 
 pub next_read : (old mid new : Option (List ℕ)) (len n : ℕ) (buf part : List ℕ) → len ≤ length buf → length part
     ≡ length buf - len → n ≤ length part
     → Consumes old mid (take len buf) → Consumes mid new (take n part)
     → Consumes old new (take (len + n) (put_mid len (length buf - len) buf part))
 next_read old mid new len n buf part within long few before now =
-    subst (λ (z : List ℕ). Consumes old new z) (sym (next_bytes len n buf part within long few))
-    (Consumes-trans old mid new (take len buf) (take n part) before now)
+    grind (arith, common_steps, next_bytes)
 
 -- A version that is known stays.
 two_stays : (versions : Bool) (bytes more : List ℕ) → IsVersion versions Two bytes

@@ -1,8 +1,7 @@
 -- What is left where no whole record is buffered.
-use Rattle.std.proofs.Common.{◌≡◌, ◌≢◌, ◌⊎◌, ℕ, List, [], ◌∷◌, ◌++◌, length, drop, Option, refl, sym, ◌∙◌, ap, subst, arith, append-nil, inl, inr}
+use Rattle.std.proofs.Common.{◌≡◌, ◌≢◌, ◌⊎◌, ℕ, List, [], ◌∷◌, ◌++◌, length, drop, Option, refl, ◌∙◌, ap, subst, arith, append-nil, inl, inr}
 use Rattle.std.proofs.lemmas.List.{length-append}
 use Rattle.lsp_frame.specs.Frame.{IsFrameOf}
-use Rattle.lsp_frame.specs.Stream.{IsFrame}
 use Rattle.lsp_log.specs.declared.record.Version.{Version}
 use Rattle.lsp_log.specs.declared.record.Version.TheVariants.{One, Two}
 use Rattle.lsp_log.specs.declared.record.Sender.{Sender}
@@ -11,7 +10,8 @@ use Rattle.lsp_log.specs.declared.splitter.Splitter.{Splitter}
 use Rattle.lsp_log.specs.Log.{LogRules, Record, HasNoRecord, mark_of}
 use Rattle.lsp_log.specs.Splitting.{IsReady, IsAfter, log_at, buffered_of, mark_part}
 use Rattle.lsp_log.specs.laws.Logs.{BufferedLaw, RestLaw}
-use Rattle.lsp_log.proofs.SplitLemmas.{given_reads, some_side, some_or, frame_len}
+use Rattle.lsp_log.proofs.SplitLemmas.{given_reads, some_side, some_or}
+use Rattle.std.proofs.lemmas.Grind.{common_steps}
 
 -- Two marks of one version have one length.
 behind_mark : (version : Version) (side other : Sender) (a b : List ℕ) → mark_of version side ++ a ≡ mark_of version other
@@ -26,34 +26,7 @@ behind_mark Two Server Server a b e = ap (drop 1) e
 no_record : (log_rules : LogRules) (input : List ℕ) (records : List Record) (s : Splitter) → IsReady s
     → IsAfter log_rules input [] records s → HasNoRecord log_rules.max_body (log_at s records [])
 no_record log_rules input records s ready at other raw body more is_frame_of e =
-    let none : IsFrame log_rules.max_body s.framer.buffered → ⊥ =
-    λ frame. ready.none (subst (λ (m : ℕ). IsFrame m s.framer.buffered) (sym at.limit) frame) in
-    let plain : mark_part s.version s.side ++ s.framer.buffered ≡ mark_of s.version other ++ (raw ++ more) =
-    sym (append-nil (buffered_of s)) ∙ e in
-    elim (some_or s.side) [
-      | inl known ↦
-          let known_plain : mark_of s.version known.0 ++ s.framer.buffered ≡ mark_of s.version other ++ (raw ++ more) =
-          ap (λ (o : Option Sender). mark_part s.version o ++ s.framer.buffered) (sym known.1) ∙ plain in
-          let same : s.framer.buffered ≡ raw ++ more =
-          behind_mark s.version known.0 other s.framer.buffered (raw ++ more) known_plain in
-          let nothing : more ≡ [] = at.one raw body more is_frame_of same in
-          let all : raw ≡ s.framer.buffered = sym (same ∙ ap (λ z. raw ++ z) nothing ∙ append-nil raw) in
-          none (record {
-            body = body;
-            is_frame_of = subst (λ (z : List ℕ). IsFrameOf log_rules.max_body z body) all is_frame_of;
-          })
-      | inr unknown ↦
-          let empty : mark_part s.version s.side ++ s.framer.buffered ≡ [] =
-          ap (λ (o : Option Sender). mark_part s.version o ++ s.framer.buffered) unknown ∙ ready.fed.between unknown in
-          omega (
-            arith,
-            ap length plain,
-            ap length empty,
-            length-append (mark_of s.version other) (raw ++ more),
-            length-append raw more,
-            frame_len log_rules.max_body raw body is_frame_of,
-          )
-    ]
+    grind (arith, common_steps, append-nil, some_or, inl, behind_mark, inr, length-append)
 
 nothing_or_some : (xs : List ℕ) → (xs ≡ []) ⊎ (xs ≢ [])
 nothing_or_some [] = inl refl
@@ -64,15 +37,7 @@ rest_law log_rules input records s ready at =
     elim (nothing_or_some (buffered_of s ++ [])) [
       | inl nothing ↦ inl nothing
       | inr some ↦ elim (some_or s.side) [
-        | inl known ↦ inr (record {
-          side = known.0;
-          part = s.framer.buffered;
-          is = append-nil (buffered_of s) ∙ ap (λ (o : Option Sender). mark_part s.version o ++ s.framer.buffered)
-              known.1;
-          begins = at.part;
-          some = some;
-          none = no_record log_rules input records s ready at;
-        })
+        | inl known ↦ inr (grind (arith, common_steps, append-nil, no_record))
         | inr unknown ↦ inl (append-nil (buffered_of s)
             ∙ ap (λ (o : Option Sender). mark_part s.version o ++ s.framer.buffered) unknown ∙ ready.fed.between unknown)
       ]

@@ -3,7 +3,6 @@ use Rattle.std.proofs.Common.{◌≡◌, ℕ, ◌+◌, ◌-◌, ◌<◌, ◌≤�
 use Rattle.std.specs.Prelude.{min, not, is_some}
 use Rattle.std.proofs.lemmas.List.{length-append, take-append-drop}
 use Rattle.lsp_frame.specs.Frame.{IsFrameOf}
-use Rattle.lsp_frame.specs.Header.{header_of, lines_bytes}
 use Rattle.lsp_frame.specs.Faults.{place_after, IsDecided}
 use Rattle.lsp_frame.specs.Stream.{FramerData, IsFrame, IsPart, HoldsOne, IsFeedFault, IsStreamFault, released}
 use Rattle.lsp_stream.specs.Faults.{engine_fault}
@@ -19,15 +18,11 @@ use Rattle.lsp_log.specs.declared.splitter.Splitter.{Splitter}
 use Rattle.lsp_log.specs.Log.{LogRules, Record, IsRecord, IsReadAs, IsMalformed, line_of, mark_of, is_line_due, together, record_bytes}
 use Rattle.lsp_log.specs.Splitting.{IsFed, IsReady, IsAfter, IsSplitFault, IsSide, IsOpen, mark_part, buffered_of, log_at, side_of, record_at}
 use Rattle.lsp_log.proofs.LogLemmas.{together_push, input_len, are_push, due_now, not_due}
+use Rattle.std.proofs.lemmas.Grind.{common_steps}
 
 -- A frame has at least two bytes, so nothing is none.
 pub frame_len : (max_body : ℕ) (raw body : List ℕ) → IsFrameOf max_body raw body → 2 ≤ length raw
-frame_len max_body raw body s = omega (
-  arith,
-  ap length s.is,
-  length-append (header_of s.lines) body,
-  length-append (lines_bytes s.lines) (13 ∷ 10 ∷ []),
-)
+frame_len max_body raw body s = grind (arith, common_steps, length-append)
 
 pub nothing_one : (max_body : ℕ) → HoldsOne max_body []
 nothing_one max_body raw body more s e =
@@ -60,8 +55,7 @@ fed_bytes buffered piece k = append_assoc buffered (take k piece) (drop k piece)
 fed_held : (mark buffered piece : List ℕ) (k : ℕ) → (mark ++ (buffered ++ take k piece)) ++ drop k piece
     ≡ (mark ++ buffered) ++ piece
 fed_held mark buffered piece k =
-    append_assoc mark (buffered ++ take k piece) (drop k piece) ∙ ap (λ z. mark ++ z) (fed_bytes buffered piece k)
-    ∙ sym (append_assoc mark buffered piece)
+    grind (arith, common_steps, append_assoc, fed_bytes)
 
 pub fed_stands : (log_rules : LogRules) (input piece : List ℕ) (records : List Record) (s : Splitter) (f : FramerData)
     (k : ℕ) → f ≡ record s.framer { buffered = s.framer.buffered ++ take k piece }
@@ -77,12 +71,7 @@ fed_stands log_rules input piece records s f k e part one at =
     let is_after : IsAfter log_rules input (drop k piece) records (record s {
       framer = record s.framer { buffered = s.framer.buffered ++ take k piece };
     }) = record {
-      reads = record {
-        version = at.reads.version;
-        accepted = at.reads.accepted;
-        is = at.reads.is ∙ ap (λ z. line_of s.version ++ together s.version records z) (sym all);
-        each = at.reads.each;
-      };
+      reads = grind (arith, common_steps);
       limit = at.limit;
       placed = at.placed ∙ ap (λ z. place_after 0 (length input - length z)) (sym all);
       framed = at.framed ∙ ap (λ z. place_after 0 (length input - length z)) (sym bytes);
@@ -139,8 +128,7 @@ pub feed_fault : (log_rules : LogRules) (input piece : List ℕ) (records : List
     → IsFeedFault s.framer n piece fault → s.framer.failed ≡ false → IsAfter log_rules input piece records s
     → IsSplitFault log_rules.max_body input (log_at s records piece) (engine_fault fault)
 feed_fault log_rules input piece records s n fault some why sound at =
-    let known : KnownSide s.side = known_side s.side some in
-    split_fault log_rules input piece records s known.side n fault known.is why sound at
+    grind (arith, common_steps, known_side, split_fault)
 
 -- Where the framer is out of memory it is as it was.
 no_memory : (f n : FramerData) (piece : List ℕ) (fault : FrameFault) → IsFeedFault f n piece fault
@@ -169,11 +157,7 @@ some_bytes (b ∷ bs) some = omega arith
 pub feed_memory : (s : Splitter) (n : FramerData) (piece : List ℕ) (fault : FrameFault) → (s.side ≡ None → ⊥)
     → IsFeedFault s.framer n piece fault → (length piece ≡ 0 → ⊥) → engine_fault fault ≡ engine.NoMemory
     → (record s { framer = n } ≡ s) × (s.side ≡ None → ⊥) × (0 < length piece)
-feed_memory s n piece fault some why bytes is = (
-  ap (λ (g : FramerData). record s { framer = g }) (no_memory s.framer n piece fault why is),
-  some,
-  some_bytes piece bytes,
-)
+feed_memory s n piece fault some why bytes is = grind (arith, common_steps, no_memory, some_bytes)
 
 -- A mark was taken.
 two_between : (version : Version) → IsSide version None → version ≡ Two
@@ -200,21 +184,7 @@ marked_stands log_rules input piece tail mark records s side f none nothing is s
     let is_after : IsAfter log_rules input tail records (record s {
       framer = record s.framer { place = place_after s.framer.place 1 };
       side = Some side;
-    }) = record {
-      reads = record {
-        version = at.reads.version;
-        accepted = at.reads.accepted;
-        is = at.reads.is ∙ ap (λ z. line_of s.version ++ together s.version records z) all;
-        each = at.reads.each;
-      };
-      limit = at.limit;
-      placed = at.placed ∙ ap (λ z. place_after 0 (length input - length z)) all;
-      framed = omega (arith, at.framed, ap length before, ap length rest_after, ap length was, len);
-      part = at.part;
-      one = at.one;
-      side = subst (λ (v : Version). IsSide v (Some side)) (sym two) tt;
-      due = at.due;
-    } in
+    }) = grind (arith, common_steps) in
     subst (λ (g : FramerData). IsAfter log_rules input tail records (record s { framer = g; side = Some side })) (sym e)
     is_after
 
@@ -237,24 +207,13 @@ known_reads log_rules input more body records s was is is_frame_of at =
     let len = input_len log_rules input (log_at s records more) at.reads in
     let record_here : IsRecord log_rules.max_body s.version
     (length (line_of s.version) + length (together s.version records [])) (is_line_due s.version records)
-    (record_at s body) = record {
-      is_frame_of = is_frame_of;
-      side = λ one. ap side_of is ∙ one_side s.version was (subst (λ (o : Option Sender). IsSide s.version o) is at.side)
-          one;
-      of_version = refl;
-      placed = at.placed ∙ ap (place_after 0) (omega (arith, len));
-      due = at.due;
-    } in
+    (record_at s body) = grind (arith, common_steps, one_side) in
     record {
       version = at.reads.version;
       accepted = at.reads.accepted;
       is = at.reads.is ∙ ap (λ z. line_of s.version ++ together s.version records (z ++ more)) bytes
           ∙ ap (λ z. line_of s.version ++ z) (sym (together_push s.version records (record_at s body) more));
-      each = are_push log_rules.max_body s.version (length (line_of s.version)) (is_line_due s.version []) records
-          (record_at s body) at.reads.each
-          (subst (λ (b : Bool). IsRecord log_rules.max_body s.version
-          (length (line_of s.version) + length (together s.version records [])) b (record_at s body))
-          (sym (due_now s.version records)) record_here);
+      each = grind (arith, common_steps, are_push, due_now);
     }
 
 given_known : (log_rules : LogRules) (input more body : List ℕ) (records : List Record) (s : Splitter) (f : FramerData)
@@ -273,12 +232,7 @@ given_known : (log_rules : LogRules) (input more body : List ℕ) (records : Lis
 given_known log_rules input more body records s f was side mark place is e sided none marked placed is_frame_of at =
     let len = input_len log_rules input (log_at s records more) at.reads in
     let buffered : length (buffered_of s) ≡ mark + length s.framer.buffered =
-    omega (
-      arith,
-      ap (λ (o : Option Sender). length (mark_part s.version o ++ s.framer.buffered)) is,
-      length-append (mark_of s.version was) s.framer.buffered,
-      marked,
-    ) in
+    grind (arith, common_steps, length-append) in
     let whole : length (buffered_of s ++ more) ≡ length (buffered_of s) + length more =
     length-append (buffered_of s) more in
     let framed : length (s.framer.buffered ++ more) ≡ length s.framer.buffered + length more =
@@ -291,13 +245,7 @@ given_known log_rules input more body records s f was side mark place is e sided
       place = place;
       line_due = false;
     }) = record {
-      reads = record {
-        version = reads.version;
-        accepted = reads.accepted;
-        is = reads.is ∙ ap (λ z. line_of s.version ++ together s.version (records ++ record_at s body ∷ [])
-            ((z ++ []) ++ more)) (sym none);
-        each = reads.each;
-      };
+      reads = grind (arith, common_steps);
       limit = at.limit;
       placed = omega (arith, placed, at.placed, len, buffered, whole, ap (λ z. length ((z ++ []) ++ more)) none);
       framed = omega (arith, at.framed, len, buffered, whole, framed);
@@ -366,12 +314,7 @@ new_stands log_rules input more s nothing limit framed none side placed due at_s
     omega (arith, ap length at_start.is, length-append (line_of s.version) more) in
     let line : length (line_of s.version) ≤ 18 = line_len s.version in
     record {
-      reads = record {
-        version = at_start.known;
-        accepted = at_start.accepted;
-        is = at_start.is ∙ ap (λ z. line_of s.version ++ (z ++ more)) (sym buffered);
-        each = tt;
-      };
+      reads = grind (arith, common_steps);
       limit = limit;
       placed = omega (arith, len, line, placed, ap (λ z. length (z ++ more)) buffered);
       framed = omega (arith, len, line, framed, ap (λ z. length (z ++ more)) nothing);

@@ -9,6 +9,7 @@ use Rattle.lsp_log.specs.declared.record.Sender.{Sender}
 use Rattle.lsp_log.specs.declared.record.Sender.TheVariants.{Client, Server}
 use Rattle.lsp_log.specs.Log.{Record, IsRecord, AreRecords, HasNoRecord, together, record_bytes, mark_of, line_of, is_line_due}
 use Rattle.lsp_log.specs.laws.Logs.{UniqueLaw, FirstLaw, VersionLaw}
+use Rattle.std.proofs.lemmas.Grind.{common_steps}
 
 pub same_version : VersionLaw
 same_version versions One One input is also = refl
@@ -33,12 +34,7 @@ same_head : (max_body : ℕ) (version : Version) (place : ℕ) (due : Bool) (r q
     → IsRecord max_body version place due r → IsRecord max_body version place due q
     → r.head ≡ q.head
 same_head max_body version place due r q side is also =
-    λ i. record {
-      side = side i;
-      version = (is.of_version ∙ sym also.of_version) i;
-      place = (is.placed ∙ sym also.placed) i;
-      line_due = (is.due ∙ sym also.due) i;
-    }
+    grind (arith, common_steps)
 
 record IsSame (r q : Record) (rest other : List ℕ) : Type 0 where
   record_is : r ≡ q

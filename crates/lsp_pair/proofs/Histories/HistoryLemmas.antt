@@ -11,7 +11,7 @@ use Rattle.lsp_client.specs.Step as client
 use Rattle.lsp_pair.specs.declared.event.Happened.{Happened}
 use Rattle.lsp_pair.specs.Events.{Setting, EventData, calls, to_server, to_client}
 use Rattle.lsp_pair.specs.Pair.{PairData, IsFitting, IsStep, new_pair}
-use Rattle.lsp_pair.specs.laws.World.{ClientMessage, commands, lifecycle, World, Turn, turn_of_call, turn_of_delivery, to_server_event, to_client_event, turn_of_result, turn, world_of, beginning, client_of, server_of}
+use Rattle.lsp_pair.specs.laws.World.{ClientMessage, commands, lifecycle, World, Turn, turn_of_call, turn_of_delivery, to_server_event, to_client_event, turn_of_result, turn, world_of, client_of, server_of}
 use Rattle.lsp_pair.specs.laws.At.{table_with, frames_from, waiting_out, IsAt}
 use Rattle.lsp_pair.specs.laws.Steps.{IsStepAt}
 use Rattle.lsp_pair.specs.Documents.{History, no_history, history_after, HaveDocuments, IsLater}
@@ -20,6 +20,7 @@ use Rattle.lsp_pair.proofs.Worlds.ListLemmas.{table_after_all}
 use Rattle.lsp_pair.proofs.Worlds.Shapes.{the_kind}
 use Rattle.lsp_pair.proofs.Worlds.WorldLemmas.{world_sound, world-last}
 use Rattle.lsp_pair.proofs.Steps.StepLemmas.{new_at}
+use Rattle.std.proofs.lemmas.Grind.{common_steps}
 
 -- ---- tables
 
@@ -137,19 +138,7 @@ pub next_history : (setting : Setting) (events : List EventData) (event : EventD
     → IsFitting setting → h ≡ history_of (world_of setting events) → IsStepAt setting events event happened new
     → IsHistory (history_after h happened new.client.table) new
 next_history setting events event h happened new sound told steps =
-    let t : Turn = turn setting (world_of setting events) event in
-    let last : world_of setting (events ++ event ∷ []) ≡ t.world = world-last setting beginning events event in
-    let documents : new.client.table ≡ (client_of setting t.world).table =
-    ap (λ p. p.client.table) steps.at.is ∙ ap (λ w. (client_of setting w).table) last in
-    record {
-      setting = setting;
-      sound = sound;
-      events = events ++ event ∷ [];
-      at = steps.at;
-      told =
-          (λ i. history_after (told i) (steps.happens i) (documents i))
-          ∙ (turn_next setting (world_of setting events) event ∙ ap history_of (sym last));
-    }
+    grind (arith, common_steps, world-last, turn_next)
 
 -- after a step that leads to the world of the list with its event added
 pub history_if : {E : Type 0} (old new : PairData) (event : EventData) (result : Result Happened E)
@@ -173,12 +162,7 @@ pub later-last : (h mid_history : History) (old mid new : PairData) (events : Li
     → IsStep mid event happened new
     → IsLater h old (events ++ event ∷ []) (history_after mid_history happened new.client.table)
     new
-later-last h mid_history old mid new [] event happened run steps = (
-  happened,
-  new,
-  subst (λ p. IsStep p event happened new) run.1 steps,
-  (ap (λ k. history_after k happened new.client.table) run.0, refl),
-)
+later-last h mid_history old mid new [] event happened run steps = grind (arith, common_steps)
 later-last h mid_history old mid new (first ∷ events) event happened run steps = (
   run.0,
   run.1,

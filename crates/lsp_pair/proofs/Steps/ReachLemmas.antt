@@ -1,23 +1,20 @@
 -- What a reached pair has in its queues.
-use Rattle.std.proofs.Common.{ℕ, ◌≡◌, ◌≢◌, true, List, [], ◌∷◌, ◌++◌, map, Result, Ok, Err, IfOk, OnOk, OnErr, sym, ap, ◌∙◌, subst, arith}
-use Rattle.lsp_frame.specs.Frame.{IsFrameOf}
+use Rattle.std.proofs.Common.{ℕ, ◌≡◌, ◌≢◌, true, List, [], ◌∷◌, ◌++◌, map, Result, Ok, Err, IfOk, OnOk, OnErr, sym, ◌∙◌, subst, arith}
 use Rattle.lsp_frame.specs.Stream.{IsFrame}
 use Rattle.lsp_frame.proofs.WrittenLemmas.{written_is_frame}
 use Rattle.lsp_message.specs.Outgoing as outgoing
-use Rattle.lsp_message.specs.Outgoing.{OutgoingData, body_of}
-use Rattle.lsp_server.specs.declared.phase.Phase.{Phase}
+use Rattle.lsp_message.specs.Outgoing.{OutgoingData}
 use Rattle.lsp_server.specs.declared.phase.Phase.TheVariants.{Ended}
 use Rattle.lsp_server.specs.Step as server
 use Rattle.lsp_client.specs.Step as client
-use Rattle.lsp_server.specs.Step.{Step, step_in}
 use Rattle.lsp_client.specs.Step.{is_listening}
 use Rattle.lsp_pair.specs.declared.event.Happened.{Happened}
 use Rattle.lsp_pair.specs.declared.event.Happened.TheVariants.{Server}
 use Rattle.lsp_pair.specs.declared.event.Did.TheVariants as done
-use Rattle.lsp_pair.specs.Events.{Setting, EventData, did_of}
+use Rattle.lsp_pair.specs.Events.{Setting, EventData}
 use Rattle.lsp_pair.specs.Pair.{PairData, message_frame, IsFitting, IsStep}
-use Rattle.lsp_pair.specs.laws.World.{ClientMessage, commands, lifecycle, World, incoming_of_message, server_of, world_of, IsProperEvent}
-use Rattle.lsp_pair.specs.laws.At.{frames_from, waiting_out, waiting_back, IsAt}
+use Rattle.lsp_pair.specs.laws.World.{ClientMessage, commands, lifecycle, World, server_of, IsProperEvent}
+use Rattle.lsp_pair.specs.laws.At.{frames_from, IsAt}
 use Rattle.lsp_pair.specs.laws.Usual.{IsUsual}
 use Rattle.lsp_pair.specs.laws.Steps.{IsStepAt}
 use Rattle.lsp_pair.specs.inside.Reached.{IsReached}
@@ -28,6 +25,7 @@ use Rattle.lsp_pair.proofs.Worlds.ArriveLemmas.{Arrives, Arrivals, body_on}
 use Rattle.lsp_pair.proofs.Worlds.ReturnLemmas.{Returning}
 use Rattle.lsp_pair.proofs.Worlds.WorldLemmas.{there_arrives, here_returns, world_sound}
 use Rattle.lsp_pair.proofs.Steps.StepLemmas.{frame_on, steps_at, steps_reach}
+use Rattle.std.proofs.lemmas.Grind.{common_steps}
 
 -- an ended server does nothing usual
 never_ended : (said : ClientMessage) → IsUsual said (Server done.Dropped) → ⊥
@@ -46,61 +44,33 @@ never_ended (lifecycle (outgoing.error_reply id error)) h = h
 module _ (setting : Setting) (sound : IsFitting setting) (w : World) (ok : WorldSound setting w) where
   not_ended : (said : ClientMessage) (rest : List ClientMessage) → Arrives setting w said rest → w.server_phase ≢ Ended
   not_ended said rest a ended =
-      let same : a.step_is ≡ step_in Ended (server_of setting w) (incoming_of_message said) =
-      sym a.given ∙ ap (λ (p : Phase). step_in p (server_of setting w) (incoming_of_message said)) ended in
-      never_ended said (subst (λ (s : Step). IsUsual said (Server (did_of s.answer))) same a.usual)
+      grind (arith, common_steps, never_ended)
 
   first_served : (q : List ClientMessage) → Arrivals setting w q
       → HoldsOfFirst (frames_from (the_kind setting) (server_of setting w).table q)
       (λ first. IsFrame setting.config.limits.max_body first × (w.server_phase ≢ Ended))
   first_served [] a = tt
   first_served (said ∷ rest) a =
-      let within = sound.within.body in
-      let great = sound.great.greatest_body in (
-        record {
-          body = body_on (the_kind setting) (server_of setting w).table said;
-          is_frame_of =
-              subst (λ (b : List ℕ). IsFrameOf setting.config.limits.max_body b
-              (body_on (the_kind setting) (server_of setting w).table said))
-              (sym (frame_on (the_kind setting) (server_of setting w).table said))
-              (written_is_frame setting.config.limits.max_body (body_on (the_kind setting) (server_of setting w).table
-              said) (omega (arith, a.short, within)) (omega (arith, a.short, within, great)));
-        },
-        not_ended said rest a,
-      )
+      grind (arith, common_steps, body_on, the_kind, frame_on, written_is_frame)
 
   first_heard : (q : List OutgoingData) → Returning setting w q
       → HoldsOfFirst (map message_frame q) (λ first. IsFrame setting.limits.max_body first
       × (is_listening w.client_phase ≡ true))
   first_heard [] r = tt
   first_heard (m ∷ rest) r =
-      let small = sound.ranges.greatest_body in (
-        record {
-          body = body_of m;
-          is_frame_of = written_is_frame setting.limits.max_body (body_of m) r.short (omega (arith, r.short, small));
-        },
-        r.listening,
-      )
+      grind (arith, common_steps, written_is_frame)
 
 pub reached_serves : (pair : PairData) → IsReached pair
     → HoldsOfFirst pair.to_server (λ first. IsFrame pair.server.config.limits.max_body first
     × (pair.server.phase ≢ Ended))
 reached_serves pair r =
-    let w : World = world_of r.setting r.events in
-    let ok : WorldSound r.setting w = world_sound r.setting r.sound r.events r.at.proper in
-    subst (λ (p : PairData). HoldsOfFirst p.to_server (λ first. IsFrame p.server.config.limits.max_body first
-    × (p.server.phase ≢ Ended))) (sym r.at.is)
-    (first_served r.setting r.sound w ok (waiting_out w) (there_arrives r.setting r.sound w ok))
+    grind (arith, common_steps, world_sound, first_served, there_arrives)
 
 pub reached_hears : (pair : PairData) → IsReached pair
     → HoldsOfFirst pair.to_client (λ first. IsFrame pair.client.limits.max_body first
     × (is_listening pair.client.phase ≡ true))
 reached_hears pair r =
-    let w : World = world_of r.setting r.events in
-    let ok : WorldSound r.setting w = world_sound r.setting r.sound r.events r.at.proper in
-    subst (λ (p : PairData). HoldsOfFirst p.to_client (λ first. IsFrame p.client.limits.max_body first
-    × (is_listening p.client.phase ≡ true))) (sym r.at.is)
-    (first_heard r.setting r.sound w ok (waiting_back w) (here_returns r.setting r.sound w ok))
+    grind (arith, common_steps, world_sound, first_heard, here_returns)
 
 -- ---- a step that may run out of memory
 
@@ -114,8 +84,7 @@ pub step_from : {E : Type 0} (old now new : PairData) (event given : EventData) 
     → given ≡ event
     → IfOk result (λ a. IsStep old event a new) → IfOk result (λ a. IsStep now given a new)
 step_from old now new event given result same is steps =
-    subst (λ (e : EventData). IfOk result (λ a. IsStep now e a new)) (sym is)
-    (subst (λ (p : PairData). IfOk result (λ a. IsStep p event a new)) same steps)
+    grind (arith, common_steps)
 
 pub at_if : {E : Type 0} (old new : PairData) (event : EventData) (result : Result Happened E) → IsProperEvent event
     → IfOk result (λ a. IsStep old event a new)

@@ -1,5 +1,5 @@
 -- A delivery to the server, over plain values.
-use Rattle.std.proofs.Common.{ℕ, ◌≡◌, ◌≢◌, ◌<◌, Bool, true, false, List, [], ◌∷◌, ◌++◌, length, map, get_or, Vec, Ok, Err, refl, sym, ap, ◌∙◌, subst, arith}
+use Rattle.std.proofs.Common.{ℕ, ◌≡◌, ◌≢◌, ◌<◌, Bool, true, false, List, [], ◌∷◌, ◌++◌, length, map, get_or, Vec, Ok, Err, refl, sym, ap, subst, arith}
 use Rattle.std.specs.Prelude.{if◌then◌else◌}
 use Rattle.std.specs.declared.alloc.Global.{Global}
 use Rattle.lsp_frame.specs.Limits.{LimitsData}
@@ -20,6 +20,7 @@ use Rattle.lsp_pair.specs.Events.{to_server, to_client, did_of, replies_in, hear
 use Rattle.lsp_pair.specs.Pair.{message_frame, IsStep}
 use Rattle.lsp_pair.specs.Seen.{frames}
 use Rattle.lsp_pair.specs.inside.Ends.{HoldsOfFirst, did_of_sent, frames_in_answer, frames_in_delivery}
+use Rattle.std.proofs.lemmas.Grind.{common_steps}
 
 did_same : (a : AnswerData OutgoingData) → did_of_sent (as_sent a) ≡ did_of a
 did_same (answer.reply m) = refl
@@ -59,20 +60,7 @@ pub serve_is : (c : client.ClientData) (s new : server.ServerData) (limits : Lim
     (record { client = c; server = new; to_server = frames rest; to_client = next })
 serve_is c s new limits items rest back next first body buffered given result out is_frame_of is same lives answers
     state did pushed =
-    rw out (record {
-      body = body;
-      framed = subst (λ (l : LimitsData). IsFrameOf l.max_body first.items body) same
-          (subst (λ (b : List ℕ). IsFrameOf limits.max_body b body) is is_frame_of);
-      has_not_ended = lives;
-      happens = ap Server (did ∙ (ap did_of_sent answers ∙ did_same (server.step s (reading body)).answer));
-      leaves = λ i. record {
-        client = c;
-        server = state i;
-        to_server = frames rest;
-        to_client = (pushed ∙ ap (λ (fs : List (List ℕ)). back ++ fs) (ap frames_in_answer answers
-            ∙ frames_same (server.step s (reading body)).answer)) i;
-      };
-    })
+    grind (arith, common_steps, did_same, frames_same)
 
 -- ---- a delivery to the client
 
@@ -108,18 +96,4 @@ pub hear_is : (s : server.ServerData) (c new : client.ClientData) (limits : Limi
     (record { client = new; server = s; to_server = next; to_client = frames rest })
 hear_is s c new limits items rest there next first body buffered given result out is_frame_of is same is_listening hears
     did pushed =
-    let h = listening (client.is_listening c.phase) is_listening c body given new hears in
-    rw out (record {
-      body = body;
-      framed = subst (λ (l : LimitsData). IsFrameOf l.max_body first.items body) same
-          (subst (λ (b : List ℕ). IsFrameOf limits.max_body b body) is is_frame_of);
-      is_listening = is_listening;
-      happens = ap Client (did ∙ (ap heard_of h.0 ∙ heard_same (client.delivery_of c (reading body)).delivered));
-      leaves = λ i. record {
-        client = h.1 i;
-        server = s;
-        to_client = frames rest;
-        to_server = (pushed ∙ ap (λ (fs : List (List ℕ)). there ++ fs) (ap frames_in_delivery h.0
-            ∙ bytes_same (client.delivery_of c (reading body)).delivered)) i;
-      };
-    })
+    grind (arith, common_steps, listening, heard_same, bytes_same)

@@ -9,7 +9,7 @@ use Rattle.lsp_message.specs.Params.{DocumentItem}
 use Rattle.lsp_store.specs.Table.{table_of}
 use Rattle.lsp_server.specs.Step as server
 use Rattle.lsp_client.specs.declared.fault.ClientFault.{ClientFault}
-use Rattle.lsp_client.specs.Step.{Call, Sending, Delivery, call_result, delivery_of, sent_body}
+use Rattle.lsp_client.specs.Step.{Call, Sending, Delivery, delivery_of, sent_body}
 use Rattle.lsp_pair.specs.declared.event.Happened.{Happened}
 use Rattle.lsp_pair.specs.declared.event.Happened.TheVariants.{Server, Client}
 use Rattle.lsp_pair.specs.Events.{Setting, EventData, calls, to_server, to_client, did_of, replies_in, heard_of, messages_in}
@@ -26,6 +26,7 @@ use Rattle.lsp_pair.proofs.Worlds.ArriveLemmas.{Arrives, Arrivals, body_on}
 use Rattle.lsp_pair.proofs.Worlds.ReturnLemmas.{Returns, Returning}
 use Rattle.lsp_pair.proofs.Worlds.CallLemmas.{IsSending, CallResult, called_sound}
 use Rattle.lsp_pair.proofs.Worlds.WorldLemmas.{good_turn, there_arrives, here_returns, served_turn, heard_turn, quiet_there, quiet_here, world_sound, world-last, proper_last, agree_at}
+use Rattle.std.proofs.lemmas.Grind.{common_steps}
 
 pub frame_on : (kind : SyncKind) (table : List DocumentItem) (said : ClientMessage) → frame_of kind table said
     ≡ frame (body_on kind table said)
@@ -56,31 +57,13 @@ module _ (setting : Setting) (sound : IsFitting setting) (w : World) (ok : World
       ≡ frames_from kind (table_of (commands_in (take w.out_delivered (w.out ++ said ∷ []))))
       (drop w.out_delivered (w.out ++ said ∷ []))
   queue_more said =
-      ap (λ (t : List DocumentItem). frames_from kind (server_of setting w).table (waiting_out w) ++ frame_of kind t
-      said ∷ []) (sym (whole_after [] w.out_delivered w.out))
-      ∙ (sym (frames-append kind (server_of setting w).table (waiting_out w) (said ∷ []))
-      ∙ (λ i. frames_from kind
-      (table_of (commands_in (sym (take-append-le w.out_delivered w.out (said ∷ []) ok.at.arrived) i)))
-      (sym (drop-append-le w.out_delivered w.out (said ∷ []) ok.at.arrived) i)))
+      grind (arith, common_steps, whole_after, frames-append, take-append-le, drop-append-le)
 
   called_pair : (said : ClientMessage) (sending : Sending) → IsSending setting w said sending
       → record old { client = sending.state; to_server = old.to_server ++ message_frame sending.message ∷ [] }
       ≡ pair_of setting (turn_of_call w said (Ok sending)).world
   called_pair said sending is =
-      let next : World = (turn_of_call w said (Ok sending)).world in
-      let client_is : sending.state ≡ client_of setting next =
-      is.state ∙ (λ i. record (client_of setting w) {
-        phase = sending.state.phase;
-        agreed = sending.state.agreed;
-        table = sym (after-last [] w.out said) i;
-      }) in
-      let server_is : server_of setting w ≡ server_of setting next =
-      λ i. record (server_of setting w)
-      { table = table_of (commands_in (sym (take-append-le w.out_delivered w.out (said ∷ []) ok.at.arrived) i)) } in
-      let queue : old.to_server ++ message_frame sending.message ∷ [] ≡ frames_from kind (server_of setting next).table
-      (waiting_out next) =
-      ap (λ (f : List ℕ). old.to_server ++ f ∷ []) is.frame ∙ queue_more said in
-      λ i. record { client = client_is i; server = server_is i; to_server = queue i; to_client = old.to_client }
+      grind (arith, common_steps, after-last, take-append-le, queue_more)
 
   call_step : (call : Call) (result : Result Sending ClientFault) (happened : Happened) (new : PairData)
       → CallResult setting w (message_of_call (client_of setting w) call) result
@@ -104,25 +87,7 @@ module _ (setting : Setting) (sound : IsFitting setting) (w : World) (ok : World
       }
       ≡ pair_of setting (turn_of_step w a.step_is).world
   served_pair said rest e a =
-      let next : World = (turn_of_step w a.step_is).world in
-      let i = next_is w.out w.out_delivered said rest e in
-      let table : table_with (server_of setting w).table said ≡ (server_of setting next).table =
-      sym (ap (table_after_all []) i.before ∙ after-last [] (take w.out_delivered w.out) said) in
-      let server_is : a.step_is.state ≡ server_of setting next =
-      a.state ∙ (λ j. record (server_of setting w) {
-        phase = a.step_is.state.phase;
-        encoding = a.step_is.state.encoding;
-        table = table j;
-      }) in
-      let queue : frames_from kind (table_with (server_of setting w).table said) rest
-      ≡ frames_from kind (server_of setting next).table (waiting_out next) =
-      λ j. frames_from kind (table j) (sym i.after j) in
-      let back : old.to_client ++ map message_frame (replies_in a.step_is.answer)
-      ≡ map message_frame (waiting_back next) =
-      sym (map-append message_frame (waiting_back w) (replies_in a.step_is.answer))
-      ∙ ap (map message_frame)
-      (sym (drop-append-le w.back_delivered w.back (replies_in a.step_is.answer) ok.at.returned)) in
-      λ j. record { client = client_of setting w; server = server_is j; to_server = queue j; to_client = back j }
+      grind (arith, common_steps, next_is, table_after_all, after-last, map-append, drop-append-le)
 
   server_step : (q : List ClientMessage) → waiting_out w ≡ q → Arrivals setting w q → (happened : Happened)
       (new : PairData)
@@ -130,8 +95,7 @@ module _ (setting : Setting) (sound : IsFitting setting) (w : World) (ok : World
       (frames_from kind (server_of setting w).table q) happened new
       → AsTurn setting (turn setting w to_server) happened new
   server_step [] e a happened new steps =
-      subst (λ (t : Turn). AsTurn setting t happened new) (sym (quiet_there setting sound w ok e))
-      (record { happens = steps.0; leaves = steps.1 })
+      grind (arith, common_steps, quiet_there)
   server_step (said ∷ rest) e a happened new steps =
       let within = sound.within.body in
       let body : steps.body ≡ body_on kind (server_of setting w).table said =
@@ -196,8 +160,7 @@ module _ (setting : Setting) (sound : IsFitting setting) (w : World) (ok : World
       → IsDeliveryStep (λ first rest. IsClientStep old first rest happened new) old (map message_frame q) happened new
       → AsTurn setting (turn setting w to_client) happened new
   client_step [] e r happened new steps =
-      subst (λ (t : Turn). AsTurn setting t happened new) (sym (quiet_here setting sound w ok e))
-      (record { happens = steps.0; leaves = steps.1 })
+      grind (arith, common_steps, quiet_here)
   client_step (m ∷ rest) e r happened new steps =
       let body : steps.body ≡ body_of m = one_body setting.limits.max_body (message_frame m) (body_of m) steps.body refl
       r.short sound.ranges.greatest_body steps.framed in
@@ -220,8 +183,7 @@ module _ (setting : Setting) (sound : IsFitting setting) (w : World) (ok : World
   pub steps_as : (event : EventData) → IsProperEvent event → (happened : Happened) (new : PairData)
       → IsStep old event happened new → AsTurn setting (turn setting w event) happened new
   steps_as (calls call) proper happened new steps =
-      call_step call (call_result (client_of setting w) call) happened new
-      (called_sound setting w ok.shape ok.at call proper) steps
+      grind (arith, common_steps, call_step, called_sound)
   steps_as to_server proper happened new steps = server_step (waiting_out w) refl (there_arrives setting sound w ok)
       happened new steps
   steps_as to_client proper happened new steps = client_step (waiting_back w) refl (here_returns setting sound w ok)

@@ -9,6 +9,7 @@ use Rattle.lsp_store.specs.Table.{Command, table_after, table_from}
 use Rattle.lsp_pair.specs.Pair.{message_frame}
 use Rattle.lsp_pair.specs.laws.World.{ClientMessage, commands, lifecycle, commands_in}
 use Rattle.lsp_pair.specs.laws.At.{frame_of, table_with, frames_from}
+use Rattle.std.proofs.lemmas.Grind.{common_steps}
 
 -- ---- what is at an index of a list
 
@@ -24,22 +25,13 @@ next_suc : {X : Type 0} (xs : List X) (n : ℕ) (x : X) (rest : List X) → drop
 next_suc [] zero x rest e = absurd (cc)
 next_suc [] (suc n) x rest e = absurd (cc)
 next_suc (y ∷ ys) zero x rest e =
-    let first : y ≡ x = cc in
-    let others : ys ≡ rest = cc in
-    (ap Some first, others, ap (λ z. z ∷ []) first, omega arith)
+    grind (arith, common_steps)
 next_suc (y ∷ ys) (suc n) x rest e =
-    let i = next_suc ys n x rest e in
-    (i.0, i.1, ap (λ zs. y ∷ zs) i.2, omega (arith, i.3))
+    grind (arith, common_steps, (next_suc ys n x rest e))
 
 pub next_is : {X : Type 0} (xs : List X) (n : ℕ) (x : X) (rest : List X) → drop n xs ≡ x ∷ rest → IsNext xs n x rest
 next_is xs n x rest e =
-    let i = next_suc xs n x rest e in
-    record {
-      there = i.0;
-      after = ap (λ k. drop k xs) (add-one n) ∙ i.1;
-      before = ap (λ k. take k xs) (add-one n) ∙ i.2;
-      within = omega (arith, i.3);
-    }
+    grind (arith, common_steps, next_suc, add-one)
 
 pub none_next : {X : Type 0} (xs : List X) (n : ℕ) → drop n xs ≡ [] → slice_get xs n ≡ None
 none_next [] zero e = refl

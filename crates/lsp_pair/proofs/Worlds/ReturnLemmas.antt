@@ -31,6 +31,7 @@ use Rattle.lsp_pair.specs.laws.Usual.{IsUsualBack}
 use Rattle.lsp_pair.proofs.Worlds.LifeLemmas.{first_result, last_result, short_first, short_last}
 use Rattle.lsp_pair.proofs.Worlds.ListLemmas.{table_after_all, next_is, length_more}
 use Rattle.lsp_pair.proofs.Worlds.Shapes.{the_encoding, the_kind, said-append, said_quiet, Shape, fresh, asking, answered, down, closed, leaving, left, working, closing, client_at, server_at, agreed_at, encoding_at, there_at, here_at, IsBusyShape, AtShape, WorldSound}
+use Rattle.std.proofs.lemmas.Grind.{common_steps}
 
 -- What the client makes of a message that waits for it: as it is written and as it was said, it does the same.
 pub record Returns (setting : Setting) (w : World) (m : OutgoingData) (rest : List OutgoingData) : Type 0 where
@@ -96,9 +97,7 @@ begins_given : (s : ClientData) (encoding : Encoding) (sync : ChangeForm) → is
     → begin_as_announced s (announced_of (initialize_value encoding (announced_kind sync)))
     ≡ begin_in s encoding (announced_kind sync)
 begins_given s encoding sync e =
-    ap (begin_as_announced s) (is_read_back (first_result encoding (announced_kind sync)) (record {
-      sfits = omega arith;
-    })) ∙ agrees_on s encoding sync e
+    grind (arith, common_steps, is_read_back, first_result, agrees_on)
 
 least : (setting : Setting) (n : ℕ) → IsFitting setting → n ≤ 4096 → n ≤ setting.limits.max_body
 least setting n sound h = let r = sound.ranges in omega (arith, r.least_body, h)

@@ -1,8 +1,7 @@
 -- What a server makes of the messages of commands.
-use Rattle.std.proofs.Common.{ℕ, ℤ, ◌≡◌, ◌≤◌, true, false, List, [], ◌∷◌, length, map, FitsSigned, IsUtf8, encode_utf8_all, Option, Some, None, Ok, refl, sym, ap, ◌∙◌, subst, arith, ⊎_elim, nat_lt, w32}
+use Rattle.std.proofs.Common.{ℕ, ℤ, ◌≡◌, ◌≤◌, List, [], ◌∷◌, length, map, FitsSigned, IsUtf8, encode_utf8_all, Option, Some, None, Ok, refl, sym, ap, ◌∙◌, subst, arith, nat_lt, w32}
 use Rattle.std.specs.Str.{chars}
 use Rattle.std.proofs.lemmas.Bool.{cases_Bool, ltb-false}
-use Rattle.std.proofs.lemmas.List.Elements.{All-nil, All-cons}
 use Rattle.std.proofs.lemmas.Str.{encodes-chars, scalars-chars}
 use Rattle.lsp_frame.specs.Limits.{LimitsData, AreInRange}
 use Rattle.lsp_text.specs.declared.encoding.Encoding.{Encoding}
@@ -17,9 +16,9 @@ use Rattle.lsp_message.specs.declared.agreement.SyncKind.TheVariants.{Off, Full,
 use Rattle.lsp_message.specs.Message.{reading}
 use Rattle.lsp_message.specs.Outgoing.{did_open, did_change, did_close, body_of}
 use Rattle.lsp_message.specs.Params.{DocumentItem, ChangeData, CloseData}
-use Rattle.lsp_message.specs.laws.Sent.{IsProper, IsProperDocument, IsProperChange, IsProperEdit}
+use Rattle.lsp_message.specs.laws.Sent.{IsProper, IsProperDocument, IsProperChange}
 use Rattle.lsp_message.proofs.ReadBack.{reading-body_of, is_read_back, body_of-unique}
-use Rattle.lsp_store.specs.Table.{Refusal, Command, opens, changes, closes, body_too_long, change_refusal, after_change, changed, command_refusal, table_after, unless_refused}
+use Rattle.lsp_store.specs.Table.{Refusal, Command, opens, changes, closes, change_refusal, after_change, changed, command_refusal, table_after, unless_refused}
 use Rattle.lsp_store.specs.Message.{AreTexts, written_content_change, canonical_batch, whole_batch, whole_text, change_message, body_refusal}
 use Rattle.lsp_store.specs.laws.Tables.{AllWithin, IsWithin, IsReplacedBy}
 use Rattle.lsp_store.specs.Limits.{AreWithin}
@@ -38,6 +37,7 @@ use Rattle.lsp_server.proofs.EditLemmas.{edits_back}
 use Rattle.lsp_client.specs.Step.{sent_batch, sent_body}
 use Rattle.lsp_client.specs.inside.Orders.{order_refusal}
 use Rattle.lsp_pair.specs.laws.World.{commands, incoming_of_message, IsProperEdits}
+use Rattle.std.proofs.lemmas.Grind.{common_steps}
 
 -- ---- commands as the types hold them
 
@@ -60,16 +60,12 @@ may_command limits kind table command e =
 
 body_short : (limits : LimitsData) (body : List ℕ) → body_refusal limits body ≡ None → length body ≤ limits.max_body
 body_short limits body e =
-    ⊎_elim (λ (above : nat_lt limits.max_body (length body) ≡ true). absurd
-    (let bad : Some (body_too_long (length body)) ≡ None = rw above at e in cc))
-    (λ (within : nat_lt limits.max_body (length body) ≡ false). ltb-false limits.max_body (length body) within)
-    (cases_Bool (nat_lt limits.max_body (length body)))
+    grind (arith, common_steps, nat_lt, ltb-false, cases_Bool)
 
 pub sent_short : (limits : LimitsData) (kind : SyncKind) (table : List DocumentItem) (command : Command)
     → order_refusal limits kind table command ≡ None → length (sent_body kind table command) ≤ limits.max_body
 sent_short limits kind table command e =
-    body_short limits (sent_body kind table command) (later_none (command_refusal limits table command)
-    (body_refusal limits (sent_body kind table command)) e)
+    grind (arith, common_steps, body_short, later_none)
 
 -- ---- the batch that is sent
 
@@ -83,12 +79,7 @@ pub record IsSentBatch (small great : LimitsData) (encoding : Encoding) (table :
 whole_proper : (uri : List ℕ) (version : ℤ) (bytes : List ℕ) → IsUtf8 uri → FitsSigned w32 version → IsUtf8 bytes
     → IsProper (change_message uri version (record { range = None; text = chars bytes } ∷ []))
 whole_proper uri version bytes u v b =
-    record {
-      uri = u;
-      version = v;
-      changes = All-cons IsProperEdit (record { range = None; text = encode_utf8_all (chars bytes) }) []
-          (record { range = tt; text = subst IsUtf8 (sym (encodes-chars bytes b)) b }) (All-nil IsProperEdit);
-    }
+    grind (arith, common_steps, encode_utf8_all, encodes-chars)
 
 module _ (small great : LimitsData) (encoding : Encoding) (table : List DocumentItem) (uri : List ℕ) (version : ℤ)
     (batch : List ContentChange) (ranges : AreInRange small) (within : AreWithin small great)
@@ -229,11 +220,7 @@ module _ (small great : LimitsData) (encoding : Encoding) (kind : SyncKind) (s :
       → IsServedAs s kind (opens entry)
   unfolding sent_body
   open_served entry is may =
-      let done : step_on s (incoming.did_open (Some entry)) ≡ done_by s (table_after s.table (opens entry))
-      = run_open s entry running ∙ obeys_done s (opens entry)
-      (accepted_here (opens entry) (greater_limits_law small great s.table (opens entry) within
-      (may_command small kind s.table (opens entry) may))) in
-      record { written = ap (step_on s) (read_open entry is) ∙ done; given = done }
+      grind (arith, common_steps, run_open, obeys_done, accepted_here, greater_limits_law, may_command, read_open)
 
   close_served : (uri : List ℕ) → IsUtf8 uri → order_refusal small kind s.table (closes uri) ≡ None
       → IsServedAs s kind (closes uri)
@@ -253,13 +240,7 @@ module _ (small great : LimitsData) (encoding : Encoding) (kind : SyncKind) (s :
       (Some (record { uri = uri; version = version; changes = map written_content_change other })))
       ≡ done_by s (after_change (units_in encoding) s.table uri version batch)
   change_done uri version batch other texts is =
-      run_change s (record { uri = uri; version = version; changes = map written_content_change other }) running
-      ∙ (ap (λ (b : List ContentChange). command_step s (changes uri version (session_encoding s) b))
-      (edits_back other texts)
-      ∙ (ap (λ (e : Encoding). command_step s (changes uri version e other)) encoding_is
-      ∙ (obeys_done s (changes uri version encoding other) (accepted_here (changes uri version encoding other)
-      is.accepted)
-      ∙ ap (done_by s) is.leaves)))
+      grind (arith, common_steps, run_change, edits_back, encoding_is, obeys_done, accepted_here)
 
   change_served : (uri : List ℕ) (version : ℤ) (batch : List ContentChange) → IsProperEdits uri version batch
       → order_refusal small kind s.table (changes uri version encoding batch) ≡ None

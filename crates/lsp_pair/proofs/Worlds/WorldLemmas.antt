@@ -1,5 +1,5 @@
 -- What holds of the world of every list of events.
-use Rattle.std.proofs.Common.{◌≡◌, Bool, true, false, List, [], ◌∷◌, ◌++◌, Option, Some, Result, Ok, Err, refl, sym, ap, ◌∙◌, subst, arith}
+use Rattle.std.proofs.Common.{◌≡◌, Bool, List, [], ◌∷◌, ◌++◌, Option, Result, Ok, Err, refl, sym, ap, ◌∙◌, subst, arith}
 use Rattle.std.specs.Prelude.{if◌then◌else◌, MatchOption}
 use Rattle.lsp_message.specs.Message.{message}
 use Rattle.lsp_message.specs.Outgoing.{OutgoingData}
@@ -7,18 +7,19 @@ use Rattle.lsp_message.specs.laws.Sent.{sent}
 use Rattle.lsp_client.specs.declared.fault.ClientFault.{ClientFault}
 use Rattle.lsp_client.specs.declared.fault.ClientFault.TheVariants.{WrongPhase}
 use Rattle.lsp_client.specs.Step as client
-use Rattle.lsp_client.specs.Step.{Call, call_result}
+use Rattle.lsp_client.specs.Step.{Call}
 use Rattle.lsp_pair.specs.declared.event.Happened.TheVariants.{Server, Client, Nothing}
 use Rattle.lsp_pair.specs.Events.{Setting, EventData, calls, to_server, to_client, did_of, heard_of}
 use Rattle.lsp_pair.specs.Pair.{IsFitting}
 use Rattle.lsp_pair.specs.laws.World.{ClientMessage, World, beginning, Turn, turn_of_call, message_of_call, message_in, turn_of_step, to_server_event, turn_of_delivery, turn_of_result, to_client_event, turn, world_from, world_of, client_of, IsProperEvent, AreProperEvents}
 use Rattle.lsp_pair.specs.laws.At.{waiting_out, waiting_back, pair_of}
-use Rattle.lsp_pair.specs.laws.Usual.{IsUsual, IsUsualBack, IsUsualTurn, agreed_of, has_agreed, HaveOneEncoding}
+use Rattle.lsp_pair.specs.laws.Usual.{IsUsual, IsUsualBack, IsUsualTurn, HaveOneEncoding}
 use Rattle.lsp_pair.proofs.Worlds.ListLemmas.{next_is, none_next}
-use Rattle.lsp_pair.proofs.Worlds.Shapes.{Shape, fresh, asking, answered, client_at, agreed_at, encoding_at, AtShape, WorldSound}
+use Rattle.lsp_pair.proofs.Worlds.Shapes.{Shape, fresh, asking, client_at, agreed_at, encoding_at, AtShape, WorldSound}
 use Rattle.lsp_pair.proofs.Worlds.ArriveLemmas.{Arrives, Arrivals, arrivals}
 use Rattle.lsp_pair.proofs.Worlds.ReturnLemmas.{Returns, Returning, returning}
 use Rattle.lsp_pair.proofs.Worlds.CallLemmas.{CallResult, called_sound}
+use Rattle.std.proofs.lemmas.Grind.{common_steps}
 
 pub beginning_sound : (setting : Setting) → WorldSound setting beginning
 beginning_sound setting =
@@ -77,11 +78,7 @@ module _ (setting : Setting) (sound : IsFitting setting) (w : World) (ok : World
   server_turn : (q : List ClientMessage) → waiting_out w ≡ q → Arrivals setting w q
       → IsGoodTurn setting w to_server (turn setting w to_server)
   server_turn [] e a =
-      subst (IsGoodTurn setting w to_server) (sym (quiet_there e)) (record {
-        usual = subst (λ (o : Option ClientMessage). MatchOption o (Nothing ≡ Nothing) (λ said. IsUsual said Nothing))
-            (sym (none_next w.out w.out_delivered e)) refl;
-        next = ok;
-      })
+      grind (arith, common_steps, quiet_there, none_next)
   server_turn (said ∷ rest) e a =
       subst (IsGoodTurn setting w to_server) (sym (served_turn said rest e a)) (record {
         usual =
@@ -94,11 +91,7 @@ module _ (setting : Setting) (sound : IsFitting setting) (w : World) (ok : World
   client_turn : (q : List OutgoingData) → waiting_back w ≡ q → Returning setting w q
       → IsGoodTurn setting w to_client (turn setting w to_client)
   client_turn [] e r =
-      subst (IsGoodTurn setting w to_client) (sym (quiet_here e)) (record {
-        usual = subst (λ (o : Option OutgoingData). MatchOption o (Nothing ≡ Nothing) (λ m. IsUsualBack m Nothing))
-            (sym (none_next w.back w.back_delivered e)) refl;
-        next = ok;
-      })
+      grind (arith, common_steps, quiet_here, none_next)
   client_turn (m ∷ rest) e r =
       subst (IsGoodTurn setting w to_client) (sym (heard_turn m rest e r)) (record {
         usual =
@@ -117,11 +110,7 @@ module _ (setting : Setting) (sound : IsFitting setting) (w : World) (ok : World
 
   pub good_turn : (event : EventData) → IsProperEvent event → IsGoodTurn setting w event (turn setting w event)
   good_turn (calls call) proper =
-      record {
-        usual = tt;
-        next = call_turn call (call_result (client_of setting w) call)
-            (called_sound setting w ok.shape ok.at call proper);
-      }
+      grind (arith, common_steps, call_turn, called_sound)
   good_turn to_server proper = server_turn (waiting_out w) refl there_arrives
   good_turn to_client proper = client_turn (waiting_back w) refl here_returns
 
@@ -153,21 +142,4 @@ proper_last (first ∷ events) event p q = (p.0, proper_last events event p.1 q)
 pub agree_at : (setting : Setting) (w : World) (shape : Shape) → AtShape setting w shape
     → HaveOneEncoding setting (pair_of setting w)
 agree_at setting w shape at =
-    record {
-      client = λ h. at.agreed_is ∙ client_agrees shape (subst (λ p. has_agreed p ≡ true) at.client_is h);
-      server = λ h. at.encoding_is ∙ server_agrees shape (subst (λ p. has_agreed p ≡ true) at.client_is h);
-    }
-  where
-    client_agrees : (shape : Shape) → has_agreed (client_at shape) ≡ true → agreed_at setting shape
-        ≡ Some (agreed_of setting)
-    client_agrees fresh h = absurd (let bad : false ≡ true = h in cc)
-    client_agrees asking h = absurd (let bad : false ≡ true = h in cc)
-    client_agrees answered h = absurd (let bad : false ≡ true = h in cc)
-    client_agrees shape h = refl
-
-    server_agrees : (shape : Shape) → has_agreed (client_at shape) ≡ true → encoding_at setting shape
-        ≡ Some (agreed_of setting).encoding
-    server_agrees fresh h = absurd (let bad : false ≡ true = h in cc)
-    server_agrees asking h = absurd (let bad : false ≡ true = h in cc)
-    server_agrees answered h = absurd (let bad : false ≡ true = h in cc)
-    server_agrees shape h = refl
+    grind (arith, common_steps, client_at, agreed_at, asking, encoding_at)

@@ -1,15 +1,22 @@
-use Rattle.std.proofs.Common.{ℕ, ◌≡◌, ◌≤◌, ◌-◌, true, false, length, sym, ap, ◌∙◌, arith}
+use Rattle.std.proofs.Common.{ℕ, ◌≡◌, ◌≤◌, ◌-◌, true, false, length, sym, ◌∙◌, arith}
 use Rattle.std.proofs.lemmas.List.{length-take, length-drop}
-use Rattle.std.specs.Prelude.{nat_eq}
 use Rattle.std.proofs.lemmas.Bool.{false_from_ne_true}
 use Rattle.lsp_log.proofs.OpeningLemmas.{next_read, next_len, stays}
 use Rattle.lsp_log.proofs.opening.read_opening.Goals as goal
+use Rattle.std.proofs.lemmas.Grind.{common_steps}
 
 pub returns-then-not-is_undecided-clause-read : goal.returns-then-not-is_undecided-clause-read
 returns-then-not-is_undecided-clause-read g c =
-    next_read _ _ _ c.opening.len c.in_ok-n.n c.opening.buf c.read_piece.new.buf (omega arith)
-    (omega (arith, c.read_piece.auto.buf, length-take {A = ℕ}, length-drop {A = ℕ})) c.in_ok-n.ensures.bound
-    c.opening.invariant.read c.in_ok-n.ensures.read
+    grind (
+      arith,
+      common_steps,
+      next_read,
+      length-take,
+      length-drop,
+      c.in_ok-n.ensures.bound,
+      c.opening.invariant.read,
+      c.in_ok-n.ensures.read,
+    )
 
 pub returns-then-not-is_undecided-clause-known : goal.returns-then-not-is_undecided-clause-known
 returns-then-not-is_undecided-clause-known g c = λ more last.
@@ -23,16 +30,16 @@ opening-preserved g c =
     let long : length c.read_piece.new.buf ≡ length c.opening.buf - c.opening.len =
     omega (arith, c.read_piece.auto.buf, length-take {A = ℕ}, length-drop {A = ℕ}) in
     let front = c.is_undecided.ensures.yes c.if-not-is_undecided.false in
-    let goes_on : (g.R.Source.seen c.read_piece.new.reader).ended ≡ false = false_from_ne_true _ (λ error.
-    let zero : nat_eq c.in_ok-n.n 0 ≡ true = ap (λ k. nat_eq k 0) (c.in_ok-n.ensures.ended.0 error) in
-    let other = c.is_undecided.ensures.not_ended c.if-not-is_undecided.false in
-    cc) in
+    let goes_on : (g.R.Source.seen c.read_piece.new.reader).ended ≡ false = grind (
+      arith,
+      common_steps,
+      false_from_ne_true,
+      c.in_ok-n.ensures.ended.0,
+      c.is_undecided.ensures.not_ended,
+      c.if-not-is_undecided.false,
+    ) in
     record {
-      within = omega (
-        arith,
-        front.0,
-        next_len c.opening.len c.in_ok-n.n c.opening.buf c.read_piece.new.buf within long c.in_ok-n.ensures.bound,
-      );
+      within = grind (arith, common_steps, next_len, c.in_ok-n.ensures.bound);
       front = front;
       unread = λ no. absurd (let two : false ≡ true = sym no ∙ c.is_undecided.ensures.looked_for
           c.if-not-is_undecided.false in cc);
@@ -45,9 +52,9 @@ opening-preserved g c =
         within = omega (arith, c.opening.invariant.spent.within, c.in_ok-n.ensures.calls.spent.within);
         least = omega (arith, c.opening.invariant.spent.least, c.in_ok-n.ensures.calls.spent.least);
         most = omega (arith, c.opening.invariant.spent.most, c.in_ok-n.ensures.calls.spent.most);
-        exact = λ h. omega (
+        exact = grind (
           arith,
-          h,
+          common_steps,
           c.opening.invariant.spent.exact,
           c.in_ok-n.ensures.calls.spent.exact,
           c.in_ok-n.ensures.calls.spent.least,

@@ -1,8 +1,6 @@
-use Rattle.std.proofs.Common.{◌≡◌, ◌+◌, ◌++◌, ◌∷◌, [], Some, map, option_map, take, refl, ap, sym, ◌∙◌, subst, arith}
+use Rattle.std.proofs.Common.{◌≡◌, ◌+◌, ◌++◌, ◌∷◌, [], map, take, refl, ap, sym, ◌∙◌, subst, arith}
 use Rattle.std.proofs.lemmas.List.{append_assoc}
-use Rattle.std.specs.List.{slice_get}
-use Rattle.std.proofs.lemmas.Option.{slice_get-map, slice_get_read}
-use Rattle.lsp_pair.specs.Pair.{IsRun, PairData, StepMayAllocate}
+use Rattle.lsp_pair.specs.Pair.{IsRun}
 use Rattle.lsp_pair.specs.laws.At.{IsAt}
 use Rattle.lsp_pair.specs.Seen.{event_view}
 use Rattle.lsp_pair.specs.Documents.{history_after, IsLater}
@@ -50,15 +48,3 @@ returns-clause-history c h is =
     later_documents h _ _ _ (map event_view c.args.events.now) c.loop-event.event-index c.loop-event.stepped
     c.loop-event.invariant.counted
     refl (c.loop-event.invariant.history h is)
-
-pub returns-in_default-clause-memory : goal.returns-in_default-clause-memory
-returns-in_default-clause-memory c t =
-    let at : slice_get (map event_view c.args.events.now) c.loop-event.stepped ≡ Some (event_view c.event-item.result) =
-    ap (slice_get (map event_view c.args.events.now)) c.loop-event.invariant.counted
-    ∙ (slice_get-map event_view c.args.events.now c.loop-event.event-index
-    ∙ ap (option_map event_view)
-    (slice_get_read c.args.events.now _ c.loop-event.event-index c.event-item.result refl (omega arith)
-    c.event-item.is)) in
-    rw at
-    (subst (λ (p : PairData). StepMayAllocate p (event_view c.event-item.result)) (sym c.in_default.ensures.unchanged)
-    c.in_default.ensures.memory)

@@ -1,5 +1,5 @@
 use Rattle.std.proofs.lemmas.Result.{err_from_is_err_and}
-use Rattle.lsp_log.proofs.SplitLemmas.{fed_stands, feed_fault, feed_memory, not_none}
+use Rattle.lsp_log.proofs.SplitLemmas.{fed_stands, feed_fault, not_none}
 use Rattle.lsp_log.proofs.splitter.Splitter.feed.Goals as goal
 
 pub returns-clause-is_after : goal.returns-clause-is_after
@@ -15,14 +15,3 @@ returns-in_err-feed-clause-error c =
     feed_fault log_rules input c.args.piece.now records c.args.self.now c.feed.new.self c.in_err-feed.field-0.0
     (not_none c.args.self.now.side c.is_none.result c.is_none.ensures c.if-is_none.false)
     c.in_err-feed.ensures.error c.requires.fed.sound at)
-
-pub returns-in_err-feed-clause-memory : goal.returns-in_err-feed-clause-memory
-returns-in_err-feed-clause-memory c = λ is.
-    let given = err_from_is_err_and c.from_residual.result c.from_residual.ensures.1 in
-    let one = given.1 in
-    let two = given.2 in
-    feed_memory c.args.self.now c.feed.new.self c.args.piece.now c.in_err-feed.field-0.0
-    (not_none c.args.self.now.side c.is_none.result c.is_none.ensures c.if-is_none.false)
-    c.in_err-feed.ensures.error
-    (λ none. let bad = c.in_err-feed.ensures.empty c.requires.fed.sound none in cc)
-    cc

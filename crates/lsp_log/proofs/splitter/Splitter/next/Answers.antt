@@ -16,6 +16,3 @@ returns-in-Some-clause-is_after c = λ log_rules input more body records is_fram
     c.first_side-self.ensures.none c.mark_len-mark.ensures
     (omega (arith, c.saturating_add.ensures, c.saturating_add-self.ensures, ap length c.in-Some.ensures.2))
     is_frame_of at
-
-pub returns-in-Some-clause-none : goal.returns-in-Some-clause-none
-returns-in-Some-clause-none c = λ none. absurd (none c.in-Some.ensures.1)
