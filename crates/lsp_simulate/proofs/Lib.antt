@@ -3,4 +3,7 @@
 -- by `refused` before its first step. The lines at its end are `end_after` and `some_documents`.
 pub mod InputLemmas
 pub mod LineLemmas
+pub mod OptionLemmas
+pub mod ProgramLemmas
+pub mod ReadLemmas
 pub mod SessionLemmas

@@ -1,4 +1,6 @@
+pub mod CommandLine
 pub mod Run
 pub mod Session
+pub mod Setting
 pub mod Words
 pub mod inside

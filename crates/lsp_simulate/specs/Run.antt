@@ -15,6 +15,7 @@ use Rattle.lsp_simulate.specs.declared.command_line.Setting.{Setting}
 use Rattle.lsp_simulate.specs.declared.run.RunFault.{RunFault}
 use Rattle.lsp_simulate.specs.declared.run.RunFault.TheVariants.{Pair, Read, Write, NoMemory, BadEvent}
 use Rattle.lsp_simulate.specs.Session.{WroteSession}
+use Rattle.lsp_simulate.specs.Setting.{AreWordsReadAs}
 
 -- The exit status after a fault.
 abbrev pub run_fault_status : RunFault → ℕ
@@ -105,7 +106,8 @@ IsSimulationOf (Ok None) before after status = (status ≡ 2) × (after ≡ befo
 IsSimulationOf (Err error) before after status =
     IsWithoutSession (kind_of error) before after status
 
--- A run of the program. What the words are read as, no clause says.
-pub record IsSimulation (before after : Streams) (status : ℕ) : Type 0 where
+-- A run of the program with these words: what they are read as, and that this is done.
+pub record IsSimulation (words : List (List ℕ)) (before after : Streams) (status : ℕ) : Type 0 where
   pub read : Result (Option Setting) Error
+  pub words_are : AreWordsReadAs words read
   pub done : IsSimulationOf read before after status

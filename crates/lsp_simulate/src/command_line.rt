@@ -1,16 +1,26 @@
 //! The program's command line.
+//!
+//! `options` is the program as `clap` sees it, and `help` has the texts of help.
+//!
+//! What words mean is said by `clap`'s definitions, of a program with the options of `program_app`.
+//! The parse returns an `Option`, since `clap` has no law that values which it checked are there.
+
+ghost use Rattle.std.specs.Prelude.{◌≡◌, IfSome, IsSome, codes, false, map, ℕ};
+ghost use Rattle.lsp_frame.specs.Limits.{LimitsData};
+ghost use Rattle.lsp_simulate.specs.Setting.{AreClientLimits, AreServerLimits, AreWordsReadAs};
+ghost use Rattle.lsp_simulate.specs.Setting.{HasEither, HasNumber, IsConfig, IsFlag, IsSetting};
+ghost use Rattle.lsp_simulate.specs.Setting.{choice_given, form_given};
 
 mod help;
+mod options;
 
-use crate::command_line::help::{Flag, Limit};
-use clap::builder::ValueParser;
-use clap::{Arg, ArgAction, ArgMatches, Command, Error};
+use crate::command_line::options::program;
+use clap::{ArgMatches, Error};
 use lsp_frame::Limits;
 use lsp_message::Offers;
-use lsp_program::{VERSION, change_forms, encodings};
 use lsp_server::{ChangeForm, Config, EncodingChoice};
 use lsp_text::Encoding;
-use std::alloc::{AllocError, Global};
+use std::alloc::Global;
 
 /// The set-up of both ends.
 #[derive(Clone, Copy, Debug, PartialEq, Eq)]
@@ -24,139 +34,117 @@ pub struct Setting {
 }
 
 /// Reads the words of the command line. An error is a usage fault, a text of help or the version, or
-/// out of memory. There is always a setting, since `clap` has checked each value.
-pub fn parse<'a>(alloc: Global, words: &'a [&'a str]) -> Result<Option<Setting>, Error> {
-    let defaults = help::defaults(alloc)?;
-    let matches = program(alloc, &defaults)?.try_get_matches_from(words)?;
+/// out of memory. There is no setting only where an option with its value is missing. Tests show
+/// that `clap` refuses such words before.
+pub fn parse<'a>(alloc: Global, words: &'a [&'a str]) -> Result<Option<Setting>, Error>
+    ensures { AreWordsReadAs (map (λ word. word.now) words.entry.now) result }
+{
+    let program = program(alloc)?;
+    let matches = program.try_get_matches_from(words)?;
     Ok(setting_of(&matches))
 }
 
-fn setting_of(options: &ArgMatches<'_>) -> Option<Setting> {
-    let sync = match options.get_str("sync")? {
-        "full" => ChangeForm::Full,
-        _ => ChangeForm::Incremental,
-    };
+fn setting_of(options: &ArgMatches<'_>) -> Option<Setting>
+    ensures some { IfSome result (IsSetting options.now) }
+    ensures none { (setting : Setting) → IsSetting options.now setting → IsSome result }
+{
+    let limits = client_limits(options)?;
+    let config = config_of(options)?;
     Some(Setting {
-        limits: client_limits(options)?,
+        limits,
         offers: Offers {
             utf8: options.get_flag("utf-8"),
             utf32: options.get_flag("utf-32"),
         },
-        config: Config {
-            limits: server_limits(options)?,
-            choice: choice_of(options)?,
-            sync,
-        },
+        config,
     })
 }
 
-fn choice_of(options: &ArgMatches<'_>) -> Option<EncodingChoice> {
+fn config_of(options: &ArgMatches<'_>) -> Option<Config>
+    ensures some { IfSome result (IsConfig options.now) }
+    ensures none { (config : Config) → IsConfig options.now config → IsSome result }
+{
+    let limits = server_limits(options)?;
+    let choice = choice_of(options)?;
+    let sync = sync_of(options)?;
+    Some(Config {
+        limits,
+        choice,
+        sync,
+    })
+}
+
+fn sync_of(options: &ArgMatches<'_>) -> Option<ChangeForm>
+    ensures { result ≡ form_given options.now }
+{
+    match options.get_str("sync")? {
+        "full" => Some(ChangeForm::Full),
+        _ => Some(ChangeForm::Incremental),
+    }
+}
+
+fn choice_of(options: &ArgMatches<'_>) -> Option<EncodingChoice>
+    ensures { result ≡ choice_given options.now }
+{
     if let Some(name) = options.get_str("fixed") {
-        return Encoding::of_name(name).map(EncodingChoice::Fixed);
+        return Some(EncodingChoice::Fixed(Encoding::of_name(name)?));
     }
     let prefer = Encoding::of_name(options.get_str("prefer")?)?;
     Some(EncodingChoice::Negotiated { prefer })
 }
 
-fn client_limits(options: &ArgMatches<'_>) -> Option<Limits> {
-    let limits = Limits::new(
-        options.get_one::<usize>("max-body")?,
-        options.get_one::<usize>("max-text")?,
-        options.get_one::<usize>("max-docs")?,
-        options.get_one::<usize>("max-changes")?,
-    )
-    .ok()?;
-    Some(asked(options, limits))
+fn client_limits(options: &ArgMatches<'_>) -> Option<Limits>
+    ensures some { IfSome result (AreClientLimits options.now) }
+    ensures none { (limits : LimitsData) → AreClientLimits options.now limits → IsSome result }
+{
+    let max_body = number_of(options, "max-body")?;
+    let max_text = number_of(options, "max-text")?;
+    let max_docs = number_of(options, "max-docs")?;
+    let max_changes = number_of(options, "max-changes")?;
+    let Ok(limits) = Limits::new(max_body, max_text, max_docs, max_changes) else {
+        return None;
+    };
+    Some(with_leniency(options, limits))
+}
+
+/// Returns the server's limits. Those that no option sets are the client's.
+fn server_limits(options: &ArgMatches<'_>) -> Option<Limits>
+    ensures some { IfSome result (AreServerLimits options.now) }
+    ensures none { (limits : LimitsData) → AreServerLimits options.now limits → IsSome result }
+{
+    let max_body = either(options, "server-max-body", "max-body")?;
+    let max_text = either(options, "server-max-text", "max-text")?;
+    let max_docs = either(options, "server-max-docs", "max-docs")?;
+    let max_changes = either(options, "server-max-changes", "max-changes")?;
+    let Ok(limits) = Limits::new(max_body, max_text, max_docs, max_changes) else {
+        return None;
+    };
+    Some(with_leniency(options, limits))
 }
 
 /// Returns these limits, lenient if that is asked for, which is for both ends.
-fn asked(options: &ArgMatches<'_>, limits: Limits) -> Limits {
+fn with_leniency(options: &ArgMatches<'_>, limits: Limits) -> Limits
+    requires { limits.lenient ≡ false }
+    ensures limits { result ≡ record limits { lenient = result.lenient } }
+    ensures lenient { IsFlag options.now (codes "lenient") result.lenient }
+{
     if options.get_flag("lenient") {
         return limits.lenient();
     }
     limits
 }
 
-/// Returns the server's limits. Those that no option sets are the client's.
-fn server_limits(options: &ArgMatches<'_>) -> Option<Limits> {
-    let limits = Limits::new(
-        either(options, "server-max-body", "max-body")?,
-        either(options, "server-max-text", "max-text")?,
-        either(options, "server-max-docs", "max-docs")?,
-        either(options, "server-max-changes", "max-changes")?,
-    )
-    .ok()?;
-    Some(asked(options, limits))
-}
-
 /// Returns the number of the first option, or else that of the second.
-fn either(options: &ArgMatches<'_>, first: &str, second: &str) -> Option<usize> {
-    options
-        .get_one::<usize>(first)
-        .or(options.get_one::<usize>(second))
+fn either(options: &ArgMatches<'_>, first: &str, second: &str) -> Option<usize>
+    ensures some { IfSome result (HasEither options.now first.now second.now) }
+    ensures none { (n : ℕ) → HasEither options.now first.now second.now n → IsSome result }
+{
+    number_of(options, first).or(number_of(options, second))
 }
 
-fn program<'a>(alloc: Global, defaults: &'a [String; 4]) -> Result<Command<'a>, AllocError> {
-    let mut program = Command::new(alloc, "lsp_simulate")
-        .about(help::about())
-        .after_help(help::notes())
-        .version(VERSION)
-        .arg(prefer(alloc))?
-        .arg(fixed(alloc))?
-        .arg(sync(alloc))?;
-    for one in help::flags() {
-        program = program.arg(flag(alloc, one))?;
-    }
-    for (limit, default) in help::client_limits().into_iter().zip(defaults) {
-        program = program.arg(number(alloc, limit).default_value(default))?;
-    }
-    for limit in help::server_limits() {
-        program = program.arg(number(alloc, limit))?;
-    }
-    Ok(program)
-}
-
-fn flag<'a>(alloc: Global, flag: Flag) -> Arg<'a> {
-    Arg::new(alloc, flag.name)
-        .long(flag.name)
-        .action(ArgAction::SetTrue)
-        .help(flag.help)
-}
-
-fn prefer<'a>(alloc: Global) -> Arg<'a> {
-    Arg::new(alloc, "prefer")
-        .long("prefer")
-        .value_name("NAME")
-        .value_parser(encodings())
-        .hide_possible_values(true)
-        .default_value("utf-16")
-        .help(help::prefer())
-}
-
-fn fixed<'a>(alloc: Global) -> Arg<'a> {
-    Arg::new(alloc, "fixed")
-        .long("fixed")
-        .value_name("NAME")
-        .value_parser(encodings())
-        .hide_possible_values(true)
-        .help(help::fixed())
-}
-
-fn sync<'a>(alloc: Global) -> Arg<'a> {
-    Arg::new(alloc, "sync")
-        .long("sync")
-        .value_name("NAME")
-        .value_parser(change_forms())
-        .hide_possible_values(true)
-        .default_value("incremental")
-        .help(help::sync())
-}
-
-/// Returns an option with a number in a range.
-fn number<'a>(alloc: Global, limit: Limit) -> Arg<'a> {
-    Arg::new(alloc, limit.name)
-        .long(limit.name)
-        .value_name("N")
-        .value_parser(ValueParser::unsigned(limit.least as u64, limit.greatest as u64))
-        .help(limit.help)
+fn number_of(options: &ArgMatches<'_>, id: &str) -> Option<usize>
+    ensures some { IfSome result (HasNumber options.now id.now) }
+    ensures none { (n : ℕ) → HasNumber options.now id.now n → IsSome result }
+{
+    options.get_one::<usize>(id)
 }

@@ -1,6 +1,6 @@
 //! The program over any reader and writers.
 
-ghost use Rattle.std.specs.Prelude.{◌≡◌, ◌≢◌, ◌⊎◌, ◌++◌, Result, codes};
+ghost use Rattle.std.specs.Prelude.{◌≡◌, ◌≢◌, ◌⊎◌, ◌++◌, Result, codes, map};
 ghost use Rattle.clap.specs.Values.{kind_of};
 ghost use Rattle.clap.specs.declared.error.kind.ErrorKind.TheVariants.{OutOfMemory};
 ghost use Rattle.clap.specs.declared.error.kind.ErrorKind.TheVariants.{DisplayHelp, DisplayVersion};
@@ -74,7 +74,7 @@ pub fn run<R: Source, W: Sink, E: Sink>(
     output: &mut W,
     errors: &mut E,
 ) -> u8
-    ensures { IsSimulation
+    ensures { IsSimulation (map (λ word. word.now) words.entry.now)
         (streams (R.seen input.old) (W.seen output.old) (E.seen errors.old))
         (streams (R.seen input.new) (W.seen output.new) (E.seen errors.new)) result }
 {

@@ -1,7 +1,10 @@
 //! The texts of help. They are in functions, so that proofs don't unfold them.
 
+ghost use Rattle.std.specs.Prelude.{◌≡◌};
+ghost use Rattle.lsp_simulate.specs.CommandLine.{client_rules, server_rules};
+ghost use Rattle.lsp_simulate.specs.inside.Options.{rules_of_limits};
+
 use lsp_frame::Limits;
-use std::alloc::{AllocError, Global};
 
 /// An option that sets a limit of an end.
 #[derive(Clone, Copy, Debug)]
@@ -9,14 +12,26 @@ pub struct Limit {
     pub name: &'static str,
     pub least: usize,
     pub greatest: usize,
+    /// The default, in decimal digits.
+    pub default: Option<&'static str>,
     pub help: &'static str,
 }
 
-/// An option without a value.
+/// The options that set the limits of an end.
 #[derive(Clone, Copy, Debug)]
-pub struct Flag {
-    pub name: &'static str,
-    pub help: &'static str,
+pub struct LimitOptions {
+    pub body: Limit,
+    pub text: Limit,
+    pub docs: Limit,
+    pub changes: Limit,
+}
+
+/// The help of the flags.
+#[derive(Clone, Copy, Debug)]
+pub struct FlagHelp {
+    pub utf8: &'static str,
+    pub utf32: &'static str,
+    pub lenient: &'static str,
 }
 
 /// Returns the text above the list of options.
@@ -27,24 +42,6 @@ pub fn about() -> &'static str {
 /// Returns the text below the list of options.
 pub fn notes() -> &'static str {
     NOTES
-}
-
-/// Returns the encodings that a client may offer beside UTF-16, and `--lenient`.
-pub fn flags() -> [Flag; 3] {
-    [
-        Flag {
-            name: "utf-8",
-            help: UTF8,
-        },
-        Flag {
-            name: "utf-32",
-            help: UTF32,
-        },
-        Flag {
-            name: "lenient",
-            help: LENIENT,
-        },
-    ]
 }
 
 /// Returns the help of `--prefer`.
@@ -62,76 +59,91 @@ pub fn sync() -> &'static str {
     SYNC
 }
 
-/// Returns the options that set the client's limits.
-pub fn client_limits() -> [Limit; 4] {
-    [
-        body("max-body", MAX_BODY),
-        text("max-text", MAX_TEXT),
-        documents("max-docs", MAX_DOCS),
-        changes("max-changes", MAX_CHANGES),
-    ]
+/// Returns the help of the flags.
+pub fn flags() -> FlagHelp {
+    FlagHelp {
+        utf8: UTF8,
+        utf32: UTF32,
+        lenient: LENIENT,
+    }
 }
 
-/// Returns the defaults of the client's limits, in decimal digits.
-pub fn defaults(alloc: Global) -> Result<[String; 4], AllocError> {
-    let default = Limits::default();
-    Ok([
-        digits(alloc, default.max_body())?,
-        digits(alloc, default.max_text())?,
-        digits(alloc, default.max_docs())?,
-        digits(alloc, default.max_changes())?,
-    ])
+/// Returns the options that set the client's limits. Their defaults are those of
+/// `Limits::default()`.
+pub fn client_limits() -> &'static LimitOptions
+    ensures { rules_of_limits result.now ≡ client_rules }
+{
+    &CLIENT_LIMITS
 }
 
-fn digits(alloc: Global, number: usize) -> Result<String, AllocError> {
-    format!(in alloc; "{number}")
+/// Returns the options that set the server's limits. They have no defaults.
+pub fn server_limits() -> &'static LimitOptions
+    ensures { rules_of_limits result.now ≡ server_rules }
+{
+    &SERVER_LIMITS
 }
 
-/// Returns the options that set the server's limits.
-pub fn server_limits() -> [Limit; 4] {
-    [
-        body("server-max-body", SAME),
-        text("server-max-text", SAME),
-        documents("server-max-docs", SAME),
-        changes("server-max-changes", SAME),
-    ]
-}
-
-fn body(name: &'static str, help: &'static str) -> Limit {
-    Limit {
-        name,
+static CLIENT_LIMITS: LimitOptions = LimitOptions {
+    body: Limit {
+        name: "max-body",
         least: Limits::LEAST_BODY,
         greatest: Limits::GREATEST_BODY,
-        help,
-    }
-}
-
-fn text(name: &'static str, help: &'static str) -> Limit {
-    Limit {
-        name,
+        default: Some("16777216"),
+        help: MAX_BODY,
+    },
+    text: Limit {
+        name: "max-text",
         least: 0,
         greatest: Limits::GREATEST_TEXT,
-        help,
-    }
-}
-
-fn documents(name: &'static str, help: &'static str) -> Limit {
-    Limit {
-        name,
+        default: Some("16777216"),
+        help: MAX_TEXT,
+    },
+    docs: Limit {
+        name: "max-docs",
         least: 1,
         greatest: Limits::GREATEST_DOCS,
-        help,
-    }
-}
-
-fn changes(name: &'static str, help: &'static str) -> Limit {
-    Limit {
-        name,
+        default: Some("1024"),
+        help: MAX_DOCS,
+    },
+    changes: Limit {
+        name: "max-changes",
         least: 1,
         greatest: Limits::GREATEST_CHANGES,
-        help,
-    }
-}
+        default: Some("65536"),
+        help: MAX_CHANGES,
+    },
+};
+
+static SERVER_LIMITS: LimitOptions = LimitOptions {
+    body: Limit {
+        name: "server-max-body",
+        least: Limits::LEAST_BODY,
+        greatest: Limits::GREATEST_BODY,
+        default: None,
+        help: SAME,
+    },
+    text: Limit {
+        name: "server-max-text",
+        least: 0,
+        greatest: Limits::GREATEST_TEXT,
+        default: None,
+        help: SAME,
+    },
+    docs: Limit {
+        name: "server-max-docs",
+        least: 1,
+        greatest: Limits::GREATEST_DOCS,
+        default: None,
+        help: SAME,
+    },
+    changes: Limit {
+        name: "server-max-changes",
+        least: 1,
+        greatest: Limits::GREATEST_CHANGES,
+        default: None,
+        help: SAME,
+    },
+};
 
 // Lines of help have at most 80 columns. `clap` writes 32 before the text of an option, and its default
 // after it.
@@ -177,16 +189,16 @@ static SYNC: &str = "How the client is asked to send changes: as
 whole texts or as ranges
 (full, incremental)";
 
-static MAX_BODY: &str = "Greatest length of a message of the client,
+const MAX_BODY: &str = "Greatest length of a message of the client,
 in bytes";
 
-static MAX_TEXT: &str = "Greatest length of a document of the client,
+const MAX_TEXT: &str = "Greatest length of a document of the client,
 in bytes";
 
-static MAX_DOCS: &str = "Greatest number of open documents of the
+const MAX_DOCS: &str = "Greatest number of open documents of the
 client";
 
-static MAX_CHANGES: &str = "Greatest number of changes in one edit of the
+const MAX_CHANGES: &str = "Greatest number of changes in one edit of the
 client";
 
 const SAME: &str = "The same of the server; without it the client's";

@@ -1,0 +1,8 @@
+use Rattle.std.proofs.Common.{refl}
+use Rattle.std.specs.Fmt.{digits}
+use Rattle.lsp_simulate.proofs.command_line.help.client_limits.Goals as goal
+
+-- The digits of the defaults are computed.
+pub returns : goal.returns
+unfolding digits
+returns c = refl
