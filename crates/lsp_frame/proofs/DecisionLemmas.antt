@@ -13,7 +13,7 @@ use Rattle.lsp_frame.specs.declared.fault.HeaderFault.{HeaderFault}
 use Rattle.lsp_frame.specs.declared.framer.shape.Shape.{Shape}
 use Rattle.lsp_frame.specs.declared.framer.shape.Shape.TheVariants as shape
 use Rattle.lsp_frame.proofs.Lists.{All_push}
-use Rattle.lsp_frame.proofs.HeaderLemmas.{same_header, AreLines-append, lines_bytes-append, stops_behind, stops_at_start, stops_at_name, stops_at_value, stops_at_return, stops_at_last, begins_part, begins_behind, colon_part, value_part}
+use Rattle.lsp_frame.proofs.HeaderLemmas.{same_header, lines_bytes-append, stops_behind, stops_at_start, stops_at_name, stops_at_value, stops_at_return, stops_at_last, begins_part, begins_behind, colon_part, value_part}
 use Rattle.lsp_frame.proofs.FaultLemmas.{one_front, begins_none, header_begins_none}
 use Rattle.std.proofs.lemmas.Grind.{common_steps}
 

@@ -1,12 +1,10 @@
 -- What a header says, and the frame that it begins.
-use Rattle.std.proofs.Common.{◌≡◌, ℕ, ◌+◌, ◌-◌, ◌<◌, ◌≤◌, Bool, true, false, not, ◌||◌, ◌&&◌, List, [], ◌∷◌, ◌++◌, length, refl, sym, ◌∙◌, ap, subst, arith}
-use Rattle.std.specs.Prelude.{codes, nat_lt, if◌then◌else◌, Result, Ok, Err}
-use Rattle.std.specs.List.{list_all}
+use Rattle.std.proofs.Common.{◌≡◌, ℕ, ◌+◌, ◌-◌, ◌<◌, ◌≤◌, Bool, true, false, ◌||◌, List, [], ◌∷◌, ◌++◌, length, refl, sym, ◌∙◌, ap, subst, arith}
+use Rattle.std.specs.Prelude.{codes, nat_lt, Result, Ok, Err}
 use Rattle.std.proofs.lemmas.Bool.{lt-ltb, ltb-false}
 use Rattle.std.proofs.lemmas.List.{length-append, take_at}
-use Rattle.lsp_frame.specs.Header.{Line, lines_bytes, header_of}
-use Rattle.lsp_frame.specs.Charset.{trimmed, has_good_charset}
-use Rattle.lsp_frame.specs.Verdict.{values_of, is_number, number, judge_header, judge_values, judge_single}
+use Rattle.lsp_frame.specs.Header.{Line}
+use Rattle.lsp_frame.specs.Verdict.{values_of, judge_header, judge_values, judge_single}
 use Rattle.lsp_frame.specs.Stream.{IsFrame}
 use Rattle.lsp_frame.specs.Faults.{IsJudgedAt, IsDecidedAt}
 use Rattle.lsp_frame.specs.inside.Stage.{IsWhole, IsInBody, length_said, length_of, charset_of, notes_of}

@@ -1,12 +1,12 @@
 -- Which frames a stream begins with, and that they are the same however it is read.
 use Rattle.std.proofs.Common.{◌≡◌, ℕ, ◌+◌, ◌-◌, ◌<◌, ◌≤◌, List, [], ◌∷◌, ◌++◌, length, take, drop, refl, sym, ◌∙◌, ap, subst, append_assoc, append-nil, take-append-drop, arith, inl, inr}
-use Rattle.std.specs.Prelude.{Ok, Err, ◌⊎◌, Option, Some, None, MatchOption}
+use Rattle.std.specs.Prelude.{Err, ◌⊎◌, Option}
 use Rattle.std.proofs.lemmas.List.{length-append, length-take, length-drop, take-take}
 use Rattle.lsp_frame.specs.Header.{Line, AreLines, lines_bytes, header_of, BeginsHeader}
 use Rattle.lsp_frame.specs.Verdict.{judge_header}
 use Rattle.lsp_frame.specs.Frame.{IsFrameOf, HasNoFrame}
 use Rattle.lsp_frame.specs.Faults.{IsBadHeaderAt, IsHeaderTooLongAt, IsJudgedAt, IsDecidedAt, IsDecided, header_fault_at, place_after}
-use Rattle.lsp_frame.specs.Stream.{IsFrame, IsPart, AreFrames, IsSound, IsRead}
+use Rattle.lsp_frame.specs.Stream.{IsFrame, IsPart, AreFrames, IsRead}
 use Rattle.lsp_frame.specs.laws.Frames.{SameFrame}
 use Rattle.lsp_frame.specs.declared.fault.HeaderFault.{HeaderFault}
 use Rattle.lsp_frame.specs.declared.fault.HeaderFault.TheVariants as header

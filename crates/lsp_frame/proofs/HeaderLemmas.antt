@@ -59,10 +59,6 @@ same_header (line ∷ lines) (other ∷ others) x y a b e =
     let r : line ∷ lines ≡ other ∷ others = cc in
     (r, i.1)
 
-pub AreLines-append : (lines others : List Line) → AreLines lines → AreLines others → AreLines (lines ++ others)
-AreLines-append [] others a b = b
-AreLines-append (line ∷ lines) others a b = (a.0, AreLines-append lines others a.1 b)
-
 pub lines_bytes-append : (lines others : List Line) → lines_bytes (lines ++ others) ≡ lines_bytes lines ++ lines_bytes
     others
 lines_bytes-append [] others = refl

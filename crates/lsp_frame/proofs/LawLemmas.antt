@@ -1,7 +1,6 @@
 -- The laws over frames, streams and faults.
 use Rattle.std.proofs.Common.{◌≡◌, ℕ, ◌+◌, ◌<◌, [], ◌++◌, length, sym, ap, subst, append-nil, arith}
 use Rattle.std.proofs.lemmas.List.{length-append}
-use Rattle.lsp_frame.specs.Header.{header_of}
 use Rattle.lsp_frame.specs.Frame.{frame, IsFrameOf}
 use Rattle.lsp_frame.specs.laws.Frames.{OneFrameLaw, BoundLaw, FramesLaw, FaultLaw, InjectiveLaw, SameFrame}
 use Rattle.lsp_frame.proofs.FrameLemmas.{judge_within}

@@ -1,25 +1,16 @@
 -- Where the colon of a line stands, and what the notes of a header are behind one more line.
-use Rattle.std.proofs.Common.{◌≡◌, ℕ, zero, suc, ◌+◌, ◌-◌, ◌<◌, Bool, true, false, not, List, [], ◌∷◌, ◌++◌, length, get_or, take, drop, refl, sym, ◌∙◌, ap, subst, append_assoc, append-nil, arith}
-use Rattle.std.specs.Prelude.{Option, Some, None, codes, nat_lt, if◌then◌else◌}
-use Rattle.std.specs.List.{AllByRecursion}
+use Rattle.std.proofs.Common.{◌≡◌, ℕ, ◌+◌, ◌-◌, ◌<◌, Bool, true, false, List, [], ◌∷◌, ◌++◌, length, get_or, take, drop, refl, sym, ◌∙◌, ap, append_assoc, append-nil, arith}
+use Rattle.std.specs.Prelude.{Option, Some, None, if◌then◌else◌}
 use Rattle.std.proofs.lemmas.List.{length-append, take_at, drop_at, get_or_at, get_or_append_left}
 use Rattle.std.proofs.lemmas.Bool.{eqb-true}
 use Rattle.memchr.specs.Find.{IsFirstByte, is_byte}
-use Rattle.lsp_frame.specs.Header.{Line, IsLine, IsNameByte, line_bytes}
-use Rattle.lsp_frame.specs.Charset.{trimmed, is_text, has_good_charset}
-use Rattle.lsp_frame.specs.Verdict.{values_of, is_number, number}
+use Rattle.lsp_frame.specs.Header.{Line, IsLine, line_bytes}
+use Rattle.lsp_frame.specs.Charset.{is_text, has_good_charset}
+use Rattle.lsp_frame.specs.Verdict.{values_of}
 use Rattle.lsp_frame.specs.inside.Stage.{length_said, length_noted, length_of, charset_noted, charset_of, noted, notes_of}
-use Rattle.lsp_frame.specs.declared.framer.notes.Length.{Length}
 use Rattle.lsp_frame.specs.declared.framer.notes.Length.TheVariants as said
-use Rattle.lsp_frame.specs.declared.framer.notes.Charset.{Charset}
 use Rattle.lsp_frame.specs.declared.framer.notes.Charset.TheVariants as named
-use Rattle.lsp_frame.specs.declared.framer.notes.Notes.{Notes}
 use Rattle.std.proofs.lemmas.Grind.{common_steps}
-
-pub All_at : (P : ℕ → Type 0) (xs : List ℕ) (k d : ℕ) → AllByRecursion P xs → k < length xs → P (get_or xs k d)
-All_at P [] k d all within = absurd (omega arith)
-All_at P (x ∷ xs) zero d all within = all.0
-All_at P (x ∷ xs) (suc k) d all within = All_at P xs k d all.1 (omega arith)
 
 -- The first colon of a line stands behind its name.
 pub colon_at : (line : Line) (place : Option ℕ) → IsLine line → IsFirstByte (is_byte 58) (line_bytes line) place

@@ -1,5 +1,5 @@
 -- A header that is coming in, line by line.
-use Rattle.std.proofs.Common.{◌≡◌, ◌≢◌, ℕ, ◌+◌, ◌-◌, ◌<◌, ◌≤◌, false, List, [], ◌∷◌, ◌++◌, length, take, drop, refl, sym, ◌∙◌, ap, subst, append_assoc, append-nil, arith}
+use Rattle.std.proofs.Common.{◌≡◌, ◌≢◌, ℕ, ◌+◌, ◌-◌, ◌<◌, ◌≤◌, false, List, [], ◌++◌, length, take, drop, refl, sym, ◌∙◌, ap, subst, append_assoc, append-nil, arith}
 use Rattle.std.proofs.lemmas.List.{length-append, length-take, length-drop, drop_at, take_rest, take-take, take-append-drop}
 use Rattle.std.proofs.Math.Seq.{take-append-add, take-add}
 use Rattle.lsp_frame.specs.Header.{Line, IsLine, line_bytes, lines_bytes, BeginsHeader}
@@ -13,7 +13,7 @@ use Rattle.lsp_frame.specs.declared.framer.notes.Notes.{Notes}
 use Rattle.lsp_frame.specs.declared.framer.header.Header.{Header}
 use Rattle.lsp_frame.specs.declared.framer.shape.Shape.{Shape}
 use Rattle.lsp_frame.specs.declared.framer.shape.Shape.TheVariants as shape
-use Rattle.lsp_frame.proofs.HeaderLemmas.{AreLines-append, lines_bytes-append, begins_part, begins_behind, stops_behind}
+use Rattle.lsp_frame.proofs.HeaderLemmas.{lines_bytes-append, begins_part, begins_behind, stops_behind}
 use Rattle.lsp_frame.proofs.LineLemmas.{noted_is}
 use Rattle.std.proofs.lemmas.Grind.{common_steps}
 

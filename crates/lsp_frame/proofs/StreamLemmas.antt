@@ -2,9 +2,8 @@
 use Rattle.std.proofs.Common.{◌≡◌, ℕ, ◌+◌, ◌-◌, ◌<◌, ◌≤◌, true, false, List, [], ◌∷◌, ◌++◌, length, take, drop, refl, sym, ◌∙◌, ap, subst, append_assoc, append-nil, take-append-drop, arith, inl, inr}
 use Rattle.std.specs.Prelude.{Result, Ok, Err, OnErr, Some, None, replicate}
 use Rattle.std.proofs.lemmas.List.{length-append, take-append-le, length-replicate}
-use Rattle.lsp_frame.specs.Header.{header_of, BeginsHeader, IsHeader}
 use Rattle.lsp_frame.specs.Frame.{IsFrameOf, HasNoFrame}
-use Rattle.lsp_frame.specs.Faults.{IsJudgedAt, IsDecidedAt, header_fault_at, place_after}
+use Rattle.lsp_frame.specs.Faults.{IsJudgedAt, IsDecidedAt, place_after}
 use Rattle.lsp_frame.specs.Stream.{FramerData, IsFrame, IsPart, AreFrames, IsSound, IsRead, IsStreamFault, IsFeedFault, released}
 use Rattle.lsp_frame.specs.inside.Stream.{IsHolding, HasTaken, IsFaulty}
 use Rattle.lsp_frame.specs.declared.fault.HeaderFault.{HeaderFault}
@@ -195,10 +194,6 @@ new_behind limits f e =
       none = no_empty_frame limits.max_body;
     } in
     subst (λ (g : FramerData). HasTaken limits.max_body [] [] g) (sym e) rest_after
-
-pub behind_none : (max_body : ℕ) (stream : List ℕ) (bodies : List (List ℕ)) (f : FramerData)
-    → HasTaken max_body stream bodies f → IsFrame f.limits.max_body f.buffered → ⊥
-behind_none max_body stream bodies f at frame = at.none (subst (λ (n : ℕ). IsFrame n f.buffered) at.holding.limit frame)
 
 -- The pieces of a stream, one after another.
 pub joined_more : (f : Vec ℕ Global → List ℕ) (pieces : List (Vec ℕ Global)) (i : ℕ) (piece : Vec ℕ Global)

@@ -1,5 +1,5 @@
 -- A written frame is a frame as it is read.
-use Rattle.std.proofs.Common.{◌≡◌, ℕ, ◌+◌, ◌-◌, ◌*◌, ◌^◌, ◌<◌, ◌≤◌, Bool, true, false, not, ◌&&◌, lit<, List, [], ◌∷◌, length, get_or, reverse, refl, sym, ◌∙◌, ap, subst, append_assoc, arith, inl}
+use Rattle.std.proofs.Common.{◌≡◌, ℕ, ◌+◌, ◌-◌, ◌*◌, ◌^◌, ◌<◌, ◌≤◌, Bool, true, false, not, ◌&&◌, lit<, List, [], ◌∷◌, length, get_or, reverse, refl, sym, ap, subst, append_assoc, arith, inl}
 use Rattle.std.proofs.Common.{Vec, Global}
 use Rattle.std.specs.Prelude.{IfOk, codes, decimal, fold, nat_le, nat_lt, Result, Ok, Err, ◌==◌}
 use Rattle.std.specs.List.{AllByRecursion, list_all}
@@ -11,7 +11,6 @@ use Rattle.lsp_frame.specs.Header.{Line, IsNameByte, IsValueByte}
 use Rattle.lsp_frame.specs.Charset.{is_blank, trimmed, trimmed_start, trimmed_end}
 use Rattle.lsp_frame.specs.Verdict.{is_digit, number, judge_header}
 use Rattle.lsp_frame.specs.Frame.{frame, IsFrameOf}
-use Rattle.lsp_frame.proofs.LineLemmas.{All_at}
 use Rattle.std.proofs.lemmas.Grind.{common_steps}
 
 -- a digit

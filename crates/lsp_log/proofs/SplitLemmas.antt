@@ -1,5 +1,5 @@
 -- A splitter on its way through a log.
-use Rattle.std.proofs.Common.{◌≡◌, ℕ, ◌+◌, ◌-◌, ◌<◌, ◌≤◌, ◌^◌, Bool, true, false, List, [], ◌∷◌, ◌++◌, length, take, drop, Option, Some, None, refl, sym, ◌∙◌, ap, subst, arith, append_assoc, inl, inr, ◌⊎◌}
+use Rattle.std.proofs.Common.{◌≡◌, ℕ, ◌+◌, ◌-◌, ◌≤◌, ◌^◌, Bool, true, false, List, [], ◌∷◌, ◌++◌, length, take, drop, Option, Some, None, refl, sym, ◌∙◌, ap, subst, arith, append_assoc, inl, inr, ◌⊎◌}
 use Rattle.std.specs.Prelude.{min, not, is_some}
 use Rattle.std.proofs.lemmas.List.{length-append, take-append-drop}
 use Rattle.lsp_frame.specs.Frame.{IsFrameOf}
@@ -149,15 +149,6 @@ no_memory f n piece (fault_of.BadCharset place) why is =
     let bad : engine.Frame (fault_of.BadCharset place) ≡ engine.NoMemory = is in cc
 no_memory f n piece fault_of.Failed why is = let bad : engine.Frame fault_of.Failed ≡ engine.NoMemory = is in cc
 no_memory f n piece fault_of.NoMemory why is = why.1
-
-some_bytes : (piece : List ℕ) → (length piece ≡ 0 → ⊥) → 0 < length piece
-some_bytes [] some = absurd (some refl)
-some_bytes (b ∷ bs) some = omega arith
-
-pub feed_memory : (s : Splitter) (n : FramerData) (piece : List ℕ) (fault : FrameFault) → (s.side ≡ None → ⊥)
-    → IsFeedFault s.framer n piece fault → (length piece ≡ 0 → ⊥) → engine_fault fault ≡ engine.NoMemory
-    → (record s { framer = n } ≡ s) × (s.side ≡ None → ⊥) × (0 < length piece)
-feed_memory s n piece fault some why bytes is = grind (arith, common_steps, no_memory, some_bytes)
 
 -- A mark was taken.
 two_between : (version : Version) → IsSide version None → version ≡ Two

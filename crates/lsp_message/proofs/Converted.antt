@@ -77,10 +77,6 @@ pub whole_read : (read : Option (Json × List Token)) (d : Data) → converted o
     ≡ Some d
 whole_read read d e = let s = source of_json read d [] e in ap whole s.1 ∙ s.2
 
-pub whole_and_more : (read : Option (Json × List Token)) (d : Data) (t : Token) (rest : List Token)
-    → converted of_json read ≡ Some (d, t ∷ rest) → whole read ≡ None
-whole_and_more read d t rest e = ap whole (source of_json read d (t ∷ rest) e).1
-
 no_last : (j : Json) (ts : List Token) → of_json j ≡ None → option_and_then of_json (if_last j ts) ≡ None
 no_last j [] e = e
 no_last j (t ∷ ts) e = refl
@@ -88,6 +84,3 @@ no_last j (t ∷ ts) e = refl
 refused_by : (read : Option (Json × List Token)) → Failure of_json read → whole read ≡ None
 refused_by read (inl none) = ap whole none
 refused_by read (inr found) = ap whole found.1 ∙ no_last found.0.0 found.0.1 found.2
-
-pub whole_refused : (read : Option (Json × List Token)) → converted of_json read ≡ None → whole read ≡ None
-whole_refused read e = refused_by read (failure of_json read e)

@@ -1,9 +1,8 @@
 -- What is kept of a value is enough for what the protocol wants of it.
-use Rattle.std.proofs.Common.{◌≡◌, Option, Some, None, option_map, option_and_then, refl}
+use Rattle.std.proofs.Common.{◌≡◌, Some, refl}
 use Rattle.std.specs.Prelude.{Bool, false, Float}
 use Rattle.serde_json.specs.Data.{Data, null, boolean, number, string, array, object, Items, Members, unsigned, negative, float}
-use Rattle.lsp_message.specs.Message.{id_in, id_found, is_version_two}
-use Rattle.lsp_message.specs.Params.{version_in, coordinate_in}
+use Rattle.lsp_message.specs.Message.{is_version_two}
 use Rattle.lsp_message.specs.Values.{is_null, text_in}
 use Rattle.lsp_message.specs.inside.Scalars.{kept}
 
@@ -23,18 +22,8 @@ kept_same f floats booleans arrays objects (object ms) = objects ms
 pub kept_text : (d : Data) → text_in (Some (kept d)) ≡ text_in (Some d)
 kept_text = kept_same (λ d. text_in (Some d)) (λ x. refl) (λ b. refl) (λ ds. refl) (λ ms. refl)
 
-pub kept_version : (d : Data) → version_in (Some (kept d)) ≡ version_in (Some d)
-kept_version = kept_same (λ d. version_in (Some d)) (λ x. refl) (λ b. refl) (λ ds. refl) (λ ms. refl)
-
-pub kept_coordinate : (d : Data) → coordinate_in (Some (kept d)) ≡ coordinate_in (Some d)
-kept_coordinate = kept_same (λ d. coordinate_in (Some d)) (λ x. refl) (λ b. refl) (λ ds. refl) (λ ms. refl)
-
 pub kept_two : (d : Data) → is_version_two (Some (kept d)) ≡ is_version_two (Some d)
 kept_two = kept_same (λ d. is_version_two (Some d)) (λ x. refl) (λ b. refl) (λ ds. refl) (λ ms. refl)
 
 pub kept_null : (d : Data) → is_null (kept d) ≡ is_null d
 kept_null = kept_same is_null (λ x. refl) (λ b. refl) (λ ds. refl) (λ ms. refl)
-
-pub kept_id : (id : Option Data) → option_and_then id_in (option_map kept id) ≡ id_found id
-kept_id None = refl
-kept_id (Some d) = kept_same id_in (λ x. refl) (λ b. refl) (λ ds. refl) (λ ms. refl) d

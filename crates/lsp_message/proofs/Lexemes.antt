@@ -1,7 +1,7 @@
 -- The lexemes of the parts of a message with one change of a range.
-use Rattle.std.proofs.Common.{◌≡◌, ℕ, List, [], ◌∷◌, ◌++◌, take, drop, length, get_or, true, false, Option, Some, None, ◌≤◌, ◌<◌, refl, sym, ap, ap₂, ◌∙◌, arith, codes, ◌==◌, ◌⊎◌, inl, inr, get_or-take, length-take-le, take-append-drop, drop-cons, suc}
+use Rattle.std.proofs.Common.{◌≡◌, ℕ, List, [], ◌∷◌, ◌++◌, take, drop, length, get_or, true, false, Option, Some, ◌≤◌, ◌<◌, refl, sym, ap, ap₂, ◌∙◌, arith, codes, ◌==◌, ◌⊎◌, inl, inr, get_or-take, length-take-le, take-append-drop, drop-cons, suc}
 use Rattle.std.proofs.lemmas.Bool.{or_cases, eqb-true}
-use Rattle.std.specs.Prelude.{◌||◌, Bool, IfSome, not}
+use Rattle.std.specs.Prelude.{◌||◌, Bool, not}
 use Rattle.json.specs.Token.{begin_object, end_object, string, number}
 use Rattle.json.specs.Text.{content}
 use Rattle.json.specs.Word.{ends_word}
@@ -15,10 +15,6 @@ use Rattle.lsp_message.specs.inside.Lexemes.{name_lexemes, number_lexemes, Range
 use Rattle.std.proofs.lemmas.Grind.{common_steps}
 
 -- ---- what may be missing
-
-pub if_some_by : {A : Type 0} (o : Option A) (P : A → Type 0) → ((a : A) → o ≡ Some a → P a) → IfSome o P
-if_some_by None P f = tt
-if_some_by (Some a) P f = f a refl
 
 -- ---- blanks
 
@@ -60,11 +56,6 @@ split_is text beginning rest at front back =
 ended_by : (byte mark : ℕ) (rest : List ℕ) → (byte == mark) ≡ true → ends_word (mark ∷ rest) ≡ true
     → ends_word (byte ∷ rest) ≡ true
 ended_by byte mark rest same ended = ap (λ b. ends_word (b ∷ rest)) (eqb-true byte mark same) ∙ ended
-
--- a number ends before a comma, a brace and a line feed
-pub number_ended : (byte : ℕ) (rest : List ℕ) → (((byte == 44) || (byte == 125)) || (byte == 10)) ≡ true
-    → ends_word (byte ∷ rest) ≡ true
-number_ended byte rest one = grind (arith, common_steps, or_cases, inl, ended_by, inr)
 
 -- bytes before the first that stops a string's plain text are written as they are
 pub escape_up_to : (text : List ℕ) (len : ℕ) → len ≤ length text

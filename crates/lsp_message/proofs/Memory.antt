@@ -1,34 +1,12 @@
 -- Which values are changes, by a look at them, and that some are there where memory is taken for them.
-use Rattle.std.proofs.Common.{◌≡◌, ◌<◌, ℕ, true, ◌&&◌, List, [], ◌∷◌, length, codes, Option, None, Some, option_and_then, refl, arith}
+use Rattle.std.proofs.Common.{◌≡◌, ◌<◌, ℕ, true, ◌&&◌, List, [], ◌∷◌, length, Option, None, Some, option_and_then, refl, arith}
 use Rattle.std.specs.Prelude.{ℤ, is_some, IsSomeAnd}
 use Rattle.std.specs.List.{list_all}
-use Rattle.lsp_text.specs.declared.position.Range.{Range}
-use Rattle.serde_json.specs.Data.{Data, null, boolean, number, string, array, object}
-use Rattle.serde_json.specs.Find.{get, get_member}
 use Rattle.serde_json.specs.View.{view, items_view}
 use Rattle.serde_json.specs.declared.value.Value.{Value}
-use Rattle.lsp_message.specs.Values.{text_in}
-use Rattle.lsp_message.specs.Params.{ContentChangeData, ChangeData, HasChanges, content_change_in, range_of}
+use Rattle.lsp_message.specs.Params.{ContentChangeData, ChangeData, HasChanges, content_change_in}
 use Rattle.lsp_message.specs.inside.Params.{content_changes_in}
 use Rattle.std.proofs.lemmas.Grind.{common_steps}
-
-both_there : (text : Option (List ℕ)) (range : Option (Option Range)) →
-    is_some (option_and_then
-    (λ t. option_and_then (λ (r : Option Range). Some (let e : ContentChangeData = record { range = r; text = t } in
-    e)) range)
-    text) ≡ (is_some text && is_some range)
-both_there None range = refl
-both_there (Some t) None = refl
-both_there (Some t) (Some r) = refl
-
-pub edit_there : (d : Data) → is_some (content_change_in d)
-    ≡ (is_some (text_in (get (codes "text") d)) && is_some (range_of (get (codes "range") d)))
-edit_there null = refl
-edit_there (boolean b) = refl
-edit_there (number n) = refl
-edit_there (string s) = refl
-edit_there (array ds) = refl
-edit_there (object ms) = both_there (text_in (get_member (codes "text") ms)) (range_of (get_member (codes "range") ms))
 
 one_more : (edit : Option ContentChangeData) (edits : Option (List ContentChangeData)) →
     is_some (option_and_then (λ e. option_and_then (λ es. Some (e ∷ es)) edits) edit) ≡ (is_some edit && is_some edits)

@@ -1,7 +1,6 @@
 -- A message by its parts.
-use Rattle.std.proofs.Common.{◌≡◌, ℕ, List, [], ◌∷◌, true, Option, Some, None, Result, Ok, Err, IfOk, IfSome, option_map, refl, sym, ap, ◌∙◌}
+use Rattle.std.proofs.Common.{◌≡◌, ℕ, List, [], true, Option, Some, None, Result, Ok, Err, IfOk, IfSome, option_map, refl, sym, ap, ◌∙◌}
 use Rattle.std.specs.Option.{option_map_or}
-use Rattle.json.specs.Token.{Token}
 use Rattle.json.specs.Lex.{tokens}
 use Rattle.json.specs.Json.{value}
 use Rattle.serde_json.specs.Data.{Data}
@@ -10,7 +9,7 @@ use Rattle.serde_json.specs.Read.{read}
 use Rattle.lsp_message.specs.Message.{Reading, is_version_two, not_a_message, id_found}
 use Rattle.lsp_message.specs.inside.Message.{call_of, answer_of, reading_with, reading_by}
 use Rattle.lsp_message.specs.inside.Reading.{value_at}
-use Rattle.lsp_message.proofs.Converted.{whole_read, whole_and_more, whole_refused}
+use Rattle.lsp_message.proofs.Converted.{whole_read}
 
 pub if_some_weaker : {A : Type 0} (o : Option A) (P Q : A → Type 0) → ((a : A) → P a → Q a) → IfSome o P → IfSome o Q
 if_some_weaker None P Q f h = tt
@@ -43,10 +42,3 @@ by_method v m i p e r method two is = rw two (with_method m i p e r ∙ ap (λ o
 
 pub text_read : (s : List ℕ) (d : Data) → value_at 127 (tokens s) ≡ Some (d, []) → read s ≡ Some d
 text_read s d e = whole_read (value 127 (tokens s)) d e
-
-pub text_and_more : (s : List ℕ) (d : Data) (t : Token) (r : List Token) → value_at 127 (tokens s) ≡ Some (d, t ∷ r)
-    → read s ≡ None
-text_and_more s d t r e = whole_and_more (value 127 (tokens s)) d t r e
-
-pub text_refused : (s : List ℕ) → value_at 127 (tokens s) ≡ None → read s ≡ None
-text_refused s e = whole_refused (value 127 (tokens s)) e

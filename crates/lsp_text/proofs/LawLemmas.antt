@@ -1,20 +1,17 @@
 -- The laws over places, names, units and lines.
-use Rattle.std.proofs.Common.{◌≡◌, ℕ, ◌+◌, ◌<◌, ◌≤◌, List, length, slice_index, refl, sym, ap, ◌∙◌, arith, ⊎_elim}
+use Rattle.std.proofs.Common.{◌≡◌, ℕ, ◌+◌, ◌<◌, ◌≤◌, List, length, slice_index, refl, ap, ◌∙◌, arith, ⊎_elim}
 use Rattle.std.specs.Prelude.{Bool, true, false, Some, None, codes, if◌then◌else◌}
-use Rattle.std.specs.Str.{chars, bytes_eq}
+use Rattle.std.specs.Str.{chars}
 use Rattle.std.proofs.lemmas.Bool.{cases_lt}
 use Rattle.std.proofs.lemmas.List.{length-map, get_or-map}
-use Rattle.std.proofs.lemmas.Slice.Eq.{bytes_eq-Decides}
-use Rattle.std.proofs.lemmas.Str.{encodes-chars, len_utf8_bounds}
+use Rattle.std.proofs.lemmas.Str.{encodes-chars}
 use Rattle.lsp_text.specs.declared.encoding.Encoding.{Encoding}
 use Rattle.lsp_text.specs.declared.encoding.Encoding.TheVariants.{Utf8, Utf16, Utf32}
 use Rattle.lsp_text.specs.Text.{place_of}
 use Rattle.lsp_text.specs.TextLines.{line_at, line_ends, line_start}
 use Rattle.lsp_text.specs.LineStarts.{line_starts, start_places}
-use Rattle.lsp_text.specs.Units.{name_of, encoding_named}
-use Rattle.lsp_text.specs.laws.Units.{utf8_bounds, utf16_bounds, utf32_bounds}
+use Rattle.lsp_text.specs.Units.{name_of}
 use Rattle.lsp_text.specs.laws.Places.{RisingLaw, EndsLaw, BoundaryLaw}
-use Rattle.lsp_text.specs.laws.Encodings.{NameLaw, UnitLaw}
 use Rattle.lsp_text.specs.laws.Lines.{StartsLaw}
 use Rattle.lsp_text.specs.laws.Positions.{FoundLaw}
 use Rattle.lsp_text.proofs.Positions.PlaceLemmas.{place_rises, place_order, place_one, place_end, index_at}
@@ -36,11 +33,6 @@ boundary_law bytes place utf8 boundary =
       found.index,
       grind (arith, common_steps, place_one),
     )
-
-pub unit_law : UnitLaw
-unit_law Utf8 c = let b = utf8_bounds c in let l = len_utf8_bounds c in (b.0, omega arith)
-unit_law Utf16 c = let b = utf16_bounds c in let l = len_utf8_bounds c in (b.0, omega arith)
-unit_law Utf32 c = let b = utf32_bounds c in let l = len_utf8_bounds c in (b.0, omega arith)
 
 -- The kept start of a line is the place of the line's start.
 start_place : (text : List ℕ) (line : ℕ) → line ≤ line_ends text → slice_index (start_places text) line
@@ -96,11 +88,3 @@ named name Utf8 false false true one two three found = cc
 named name Utf16 false false true one two three found = cc
 named name Utf32 false false true one two three found = three refl
 named name encoding false false false one two three found = cc
-
-named_by : (encoding : Encoding) → encoding_named (name_of encoding) ≡ Some encoding
-named_by Utf8 = refl
-named_by Utf16 = refl
-named_by Utf32 = refl
-
-pub name_law : NameLaw
-name_law name encoding = grind (arith, common_steps, named, bytes_eq-Decides, named_by)

@@ -1,5 +1,5 @@
 -- The steps of the plain program: the indexes that a loop has before it, and the units that it has still to add.
-use Rattle.std.proofs.Common.{ℕ, suc, ◌≡◌, ◌+◌, ◌-◌, ◌<◌, ◌≤◌, ◌∷◌, ◌==◌, Bool, true, false, Some, List, length, take, drop, get_or, filter, find, encode_utf8_all, refl, sym, ap, ◌∙◌, arith, eq-eqb, le-ltb}
+use Rattle.std.proofs.Common.{ℕ, suc, ◌≡◌, ◌+◌, ◌-◌, ◌<◌, ◌≤◌, ◌∷◌, ◌==◌, Bool, true, false, Some, List, length, take, drop, get_or, filter, find, encode_utf8_all, refl, arith, eq-eqb, le-ltb}
 use Rattle.std.specs.Char.{len_utf8}
 use Rattle.std.proofs.lemmas.Bool.{ne_eqb, lt-leb}
 use Rattle.std.proofs.lemmas.List.{drop_more}

@@ -1,18 +1,15 @@
 -- Blocks: what comes before one and after it, and the lines of both.
-use Rattle.std.proofs.Common.{ℕ, zero, suc, ◌≡◌, ◌+◌, ◌-◌, ◌*◌, ◌<◌, ◌≤◌, ◌⊎◌, true, List, [], ◌∷◌, ◌++◌, length, take, drop, map, sum, get_or, inl, inr, refl, sym, ap, ◌∙◌, arith, subst}
+use Rattle.std.proofs.Common.{ℕ, zero, suc, ◌≡◌, ◌+◌, ◌-◌, ◌*◌, ◌<◌, ◌≤◌, ◌⊎◌, true, List, [], ◌∷◌, ◌++◌, length, take, drop, get_or, inl, inr, refl, sym, ap, ◌∙◌, arith, subst}
 use Rattle.std.specs.Prelude.{encode_utf8_all}
 use Rattle.std.specs.List.{concat}
 use Rattle.std.specs.Str.{chars, is_utf8, IsUtf8}
 use Rattle.std.proofs.Math.Utf8.{encode}
 use Rattle.std.proofs.lemmas.List.{length-append, get_or-append_right, get_or_default, append-nil, take-append-drop}
 use Rattle.std.proofs.lemmas.List.Folds.{concat-append}
-use Rattle.std.proofs.lemmas.List.Sums.{sum_by-cons}
-use Rattle.std.proofs.lemmas.Str.{IsUtf8-from_is_utf8, IsUtf8-append, encodes-chars, length-encode, len_utf8_bounds, chars-append, chars-nil}
-use Rattle.lsp_text.specs.TextLines.{line_ends}
-use Rattle.lsp_buffer.specs.Blocks.{EndsClear, IsFull, AreBlocks, block_ends}
+use Rattle.std.proofs.lemmas.Str.{IsUtf8-from_is_utf8, IsUtf8-append, encodes-chars, length-encode, len_utf8_bounds, chars-nil}
+use Rattle.lsp_buffer.specs.Blocks.{EndsClear, IsFull, AreBlocks}
 use Rattle.lsp_buffer.specs.inside.Cuts.{AreFull}
 use Rattle.lsp_buffer.specs.inside.Parts.{Closes}
-use Rattle.lsp_buffer.proofs.Blocks.SeamLemmas.{seam_count}
 use Rattle.std.proofs.lemmas.Grind.{common_steps}
 
 -- ---- no carriage return at the end
@@ -61,18 +58,6 @@ pub full_closes : (blocks : List (List ℕ)) → AreFull blocks → Closes (conc
 full_closes [] full = inl refl
 full_closes (b ∷ blocks) full =
     grind (arith, common_steps, inr, append-nil, ends_join, (full_closes blocks full.1))
-
-pub full_ends : (blocks : List (List ℕ)) → AreFull blocks → line_ends (chars (concat blocks))
-    ≡ sum (map block_ends blocks)
-full_ends [] full = ap line_ends chars-nil
-full_ends (b ∷ blocks) full =
-    let utf8 : IsUtf8 b = IsUtf8-from_is_utf8 b full.0.utf8 in
-    ap line_ends (chars-append b (concat blocks) utf8) ∙
-    (grind (arith, common_steps, seam_count, clear_chars, sum_by-cons, (full_ends blocks full.1)))
-
-pub full_length : (blocks : List (List ℕ)) → length (concat blocks) ≡ sum (map length blocks)
-full_length [] = refl
-full_length (b ∷ blocks) = grind (arith, common_steps, length-append, sum_by-cons, (full_length blocks))
 
 -- ---- one of the blocks
 
@@ -146,11 +131,6 @@ pub full_take : (n : ℕ) (blocks : List (List ℕ)) → AreFull blocks → AreF
 full_take zero blocks full = tt
 full_take (suc n) [] full = tt
 full_take (suc n) (b ∷ blocks) full = (full.0, full_take n blocks full.1)
-
-pub full_drop : (n : ℕ) (blocks : List (List ℕ)) → AreFull blocks → AreFull (drop n blocks)
-full_drop zero blocks full = full
-full_drop (suc n) [] full = tt
-full_drop (suc n) (b ∷ blocks) full = full_drop n blocks full.1
 
 pub full_at : (index : ℕ) (blocks : List (List ℕ)) → index < length blocks → AreFull blocks
     → IsFull (get_or blocks index [])

@@ -1,5 +1,5 @@
 -- A text that is being cut into blocks.
-use Rattle.std.proofs.Common.{ℕ, ◌≡◌, ◌+◌, ◌-◌, ◌<◌, ◌≤◌, List, [], ◌∷◌, ◌++◌, length, take, drop, get_or, refl, ap, ◌∙◌, arith}
+use Rattle.std.proofs.Common.{ℕ, ◌≡◌, ◌+◌, ◌-◌, ◌<◌, ◌≤◌, List, [], ◌∷◌, ◌++◌, length, take, drop, get_or, ap, ◌∙◌, arith}
 use Rattle.std.specs.List.{concat}
 use Rattle.std.specs.Str.{IsUtf8, IsCharBoundary}
 use Rattle.std.proofs.lemmas.List.{take_more, length-drop, length-take-le, get_or-take, append_assoc, append-nil, take-append-drop}
@@ -14,9 +14,6 @@ pub record IsCutSoFar (text rest : List ℕ) (blocks : List (List ℕ)) : Type 0
   pub whole : concat blocks ++ rest ≡ text
   pub full : AreFull blocks
   pub enough : 1024 ≤ length text → 1024 ≤ length rest
-
-pub cut_begun : (text : List ℕ) (blocks : List (List ℕ)) → blocks ≡ [] → IsCutSoFar text text blocks
-cut_begun text blocks none = record { whole = rw none refl; full = rw none tt; enough = λ h. h }
 
 cut_full : (rest : List ℕ) (cut : ℕ) → IsUtf8 rest → IsCut rest cut → IsCharBoundary rest cut → IsFull (take cut rest)
 cut_full rest cut utf8 is boundary =

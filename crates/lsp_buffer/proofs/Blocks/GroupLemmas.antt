@@ -6,14 +6,8 @@ use Rattle.std.proofs.lemmas.List.{drop-set-add, drop-set-lt, drop-take, get_or-
 use Rattle.lsp_buffer.specs.declared.counts.Counts.{Counts}
 use Rattle.lsp_buffer.specs.Blocks.{AreBlocks, AreGroups, counts_of}
 use Rattle.lsp_buffer.specs.inside.Cuts.{AreFull}
-use Rattle.lsp_buffer.proofs.Blocks.BlockLemmas.{blocks_some}
 use Rattle.lsp_buffer.proofs.Blocks.CountLemmas.{some_full, some_low}
 use Rattle.std.proofs.lemmas.Grind.{common_steps}
-
-pub no_groups : (blocks : List (List ℕ)) (groups : List Counts) → groups ≡ [] → AreBlocks blocks
-    → AreGroups blocks groups
-no_groups blocks groups none are =
-    grind (arith, common_steps, blocks_some)
 
 -- One group more.
 pub groups_more : (blocks : List (List ℕ)) (groups now : List Counts) (counts : Counts) → AreGroups blocks groups

@@ -1,10 +1,10 @@
 -- A text in three parts: what comes before a block, the block, and what comes after it. Positions, boundaries and
 -- changes of the text by those of the block.
-use Rattle.std.proofs.Common.{ℕ, zero, suc, ◌≡◌, ◌+◌, ◌-◌, ◌<◌, ◌≤◌, ◌⊎◌, false, List, [], ◌++◌, length, take, drop, slice_index, Option, Some, None, option_map, ⊎_elim, inl, inr, refl, sym, ap, ◌∙◌, arith}
+use Rattle.std.proofs.Common.{ℕ, zero, suc, ◌≡◌, ◌+◌, ◌-◌, ◌<◌, ◌≤◌, ◌⊎◌, false, List, [], ◌++◌, length, take, drop, Option, Some, None, option_map, ⊎_elim, inl, inr, refl, sym, ap, ◌∙◌, arith}
 use Rattle.std.specs.Prelude.{encode_utf8_all}
 use Rattle.std.specs.Str.{chars, IsCharBoundary}
 use Rattle.std.proofs.Math.Seq.{drop-append-add, take-append-add, drop-append_seam}
-use Rattle.std.proofs.lemmas.List.{length-append, get_or-append_right, get_or_append_left, take-append-le, drop-append-le, append-nil, take_at}
+use Rattle.std.proofs.lemmas.List.{length-append, take-append-le, drop-append-le, append-nil, take_at}
 use Rattle.std.proofs.lemmas.Str.{chars-append, chars-nil, encodes-chars}
 use Rattle.lsp_text.specs.declared.position.Position.{Position}
 use Rattle.lsp_text.specs.Text.{place_of}
@@ -18,7 +18,7 @@ use Rattle.lsp_text.proofs.Positions.NearLemmas.{exact_near}
 use Rattle.lsp_buffer.specs.Blocks.{EndsClear, carried}
 use Rattle.lsp_buffer.specs.inside.Parts.{AreThree, Closes, IsClearSeam}
 use Rattle.lsp_buffer.specs.inside.Seams.{IsAtOrAfter, IsBefore, position_after, position_from}
-use Rattle.lsp_buffer.proofs.Blocks.SeamLemmas.{head, denoted_left, denoted_last, denoted_right, exact_right, head_right, seam_splits, beyond_splits, seam_count}
+use Rattle.lsp_buffer.proofs.Blocks.SeamLemmas.{head, denoted_left, denoted_last, denoted_right, exact_right, head_right, seam_splits, beyond_splits}
 use Rattle.lsp_buffer.proofs.Blocks.BlockLemmas.{clear_chars, chars_close}
 use Rattle.std.proofs.lemmas.Grind.{common_steps}
 
@@ -149,11 +149,6 @@ module _ (bytes front block rest : List ℕ) (are : AreThree bytes front block r
           ap Some
           (grind (arith, common_steps, place_after, closes_chars, front_len, place_before))
 
-  -- The lines of all.
-  pub ends_three : rest ≡ [] → line_ends (chars bytes) ≡ line_ends (chars front) + line_ends (chars block)
-  ends_three none =
-      grind (arith, common_steps, chars-nil, append-nil, chars_are, seam_count, closes_chars)
-
   -- An index of all whose byte offset is in the block.
   pub record IsInner (place index : ℕ) : Type 0 where
     pub inner : ℕ
@@ -231,11 +226,6 @@ module _ (bytes front block rest : List ℕ) (are : AreThree bytes front block r
       grind (arith, common_steps, exact_near, take-append-le, splits_before, seam_chars) in
       ap (exact_position units (chars bytes)) is.index_is ∙
       (grind (arith, common_steps, chars_are, exact_after, closes_chars))
-
-  -- Boundaries.
-  pub byte_in : (i : ℕ) → i < length block → slice_index bytes (length front + i) ≡ slice_index block i
-  byte_in i h =
-      grind (arith, common_steps, get_or-append_right, get_or_append_left)
 
   pub boundary_in : (place : ℕ) → length front ≤ place → (rest ≡ []) ⊎ (place - length front < length block)
       → IsCharBoundary bytes place → IsCharBoundary block (place - length front)

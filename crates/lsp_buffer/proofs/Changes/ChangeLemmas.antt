@@ -178,9 +178,6 @@ module _ (blocks : List (List ℕ)) (range : BlockRange) (new : List ℕ) (chang
   pub last_here : (block : List ℕ) → block ≡ get_or blocks range.last block → get_or blocks range.last [] ≡ block
   last_here block is = get_or_default blocks range.last [] block change.within ∙ sym is
 
-  pub first_at : (block : List ℕ) → block ≡ get_or blocks range.first block → IsCharBoundary block range.start
-  first_at block is = subst (λ (b : List ℕ). IsCharBoundary b range.start) (first_here block is) change.at_start
-
   pub last_at : (block : List ℕ) → block ≡ get_or blocks range.last block → IsCharBoundary block range.end
   last_at block is = subst (λ (b : List ℕ). IsCharBoundary b range.end) (last_here block is) change.at_end
 
@@ -203,9 +200,6 @@ module _ (blocks : List (List ℕ)) (range : BlockRange) (new : List ℕ) (chang
 
   pub first_small : length (get_or blocks range.first []) ≤ 2147483648
   first_small = block_low range.first first_within
-
-  pub last_small : length (get_or blocks range.last []) ≤ 2147483648
-  last_small = block_low range.last change.within
 
   left_length : length (text_left blocks range new) ≡ range.start + length new
       + (length (get_or blocks range.last []) - range.end)
@@ -301,9 +295,6 @@ module _ (blocks : List (List ℕ)) (range : BlockRange) (new : List ℕ) (chang
           ap concat (drop-cons blocks past next within) ∙
           (ap (λ b. b ++ concat (drop (suc past) blocks)) (sym next_is)
           ∙ ap (λ n. next ++ concat (drop n blocks)) (let e : suc past ≡ past + 1 = omega arith in e))
-
-  pub taken_small : (text : List ℕ) (past : ℕ) → IsTaken blocks range new text past → length text ≤ 2147483648
-  taken_small text past taken = grind (arith, common_steps, length-append)
 
   -- The blocks that the text is cut into.
   module _ (text : List ℕ) (past : ℕ) (fresh : List (List ℕ)) (taken : IsTaken blocks range new text past)

@@ -35,12 +35,6 @@ module _ (old : List ℕ) (utf8 : IsUtf8 old) (start stop : ℕ) (new : List ℕ
   pub replaced_len : length (replace_range old start stop new) ≡ start + length new + (length old - stop)
   replaced_len = omega (arith, length-append (take start old ++ new) (drop stop old), both_len, length-drop stop old)
 
-  pub start_split : IsSplitPoint old start
-  start_split = split old start at_start
-
-  pub stop_split : IsSplitPoint old stop
-  stop_split = split old stop at_end
-
   rest_utf8 : IsUtf8 (drop stop old)
   rest_utf8 = IsUtf8-drop old stop utf8 at_end
 
@@ -50,10 +44,6 @@ module _ (old : List ℕ) (utf8 : IsUtf8 old) (start stop : ℕ) (new : List ℕ
       (subst (IsCharBoundary (replace_range old start stop new)) front_len
       (IsCharBoundary-at_seam (replace_range old start stop new) (take start old) (new ++ drop stop old)
       (assoc (take start old) new (drop stop old)) (IsUtf8-append new (drop stop old) new_utf8 rest_utf8)))
-
-  pub end_again : IsSplitPoint (replace_range old start stop new) (start + length new)
-  end_again =
-      grind (arith, common_steps, both_len, rest_utf8)
 
   pub is_spliced : (lines : List ℕ) → AreLinesOf lines old →
       IsSpliced lines (replace_range old start stop new) start stop (length new)

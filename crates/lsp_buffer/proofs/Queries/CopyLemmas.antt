@@ -1,5 +1,5 @@
 -- The bytes of a text from one on, which are copied chunk by chunk.
-use Rattle.std.proofs.Common.{ℕ, ◌≡◌, ◌+◌, ◌-◌, ◌<◌, ◌≤◌, List, ◌++◌, length, take, drop, min, refl, sym, ap, ◌∙◌, arith}
+use Rattle.std.proofs.Common.{ℕ, ◌≡◌, ◌+◌, ◌-◌, ◌≤◌, List, ◌++◌, length, take, drop, min, sym, ap, ◌∙◌, arith}
 use Rattle.std.proofs.lemmas.List.{append_assoc, drop-append-le, drop-drop, drop_at, length-append, length-drop, length-take, length-take-le, take-append-drop, take-take, take_at}
 use Rattle.std.proofs.Math.Seq.{take-add}
 use borrow.Rule.Slice.PartMut.{put_mid}
@@ -9,9 +9,6 @@ use Rattle.std.proofs.lemmas.Grind.{common_steps}
 pub record IsCopied (bytes old now : List ℕ) (start end copied : ℕ) : Type 0 where
   pub within : copied ≤ end
   pub is : now ≡ take copied (drop start bytes) ++ drop copied old
-
-pub none_copied : (bytes old : List ℕ) (start end : ℕ) → IsCopied bytes old old start end 0
-none_copied bytes old start end = record { within = omega arith; is = refl }
 
 -- How many bytes are copied at the most.
 pub record IsEnd (bytes old : List ℕ) (start end : ℕ) : Type 0 where
@@ -32,9 +29,6 @@ module _ (bytes old now chunk : List ℕ) (start end copied n : ℕ) (ends : IsE
 
   pub copied_few : copied + n ≤ end
   copied_few = omega (arith, n_is, part_room, so_far.within)
-
-  pub copied_some : 0 < length chunk → copied < end → 0 < n
-  copied_some some left = omega (arith, n_is, part_room, some, left)
 
   back : drop copied now ≡ drop copied old
   back = ap (drop copied) so_far.is ∙ drop_at (take copied (drop start bytes)) (drop copied old) copied taken

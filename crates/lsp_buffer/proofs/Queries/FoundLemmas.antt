@@ -137,15 +137,6 @@ pub last_found : (blocks : List (List ℕ)) (target : Target) (index : ℕ) (bef
     → IsFound blocks target (record { index = index; before = before })
 last_found blocks target index before all begins = record { begins = begins; last = λ more. absurd (omega arith) }
 
--- A later byte offset.
-pub begins_later : (blocks : List (List ℕ)) (start stop : ℕ) (found : Found) → start ≤ stop
-    → BeginsBefore blocks (Offset start) found → BeginsBefore blocks (Offset stop) found
-begins_later blocks start stop found order begins = record {
-  within = begins.within;
-  before = begins.before;
-  low = omega (arith, begins.low, order);
-}
-
 pub same_found : (blocks : List (List ℕ)) (place : ℕ) (found : Found) (block : List ℕ)
     → BeginsBefore blocks (Offset place) found → block ≡ get_or blocks found.index block
     → place - found.before.len < length block → IsFound blocks (Offset place) found
@@ -161,10 +152,6 @@ same_found blocks place found block begins block_is inside = record {
     length-append (concat (take found.index blocks)) block,
   );
 }
-
-pub end_found : (blocks : List (List ℕ)) (target : Target) (found : Found) → length blocks ≤ found.index + 1
-    → BeginsBefore blocks target found → IsFound blocks target found
-end_found blocks target found all begins = record { begins = begins; last = λ more. absurd (omega arith) }
 
 -- ---- the block that is found
 
@@ -444,9 +431,6 @@ module _ (bytes front block rest : List ℕ) where
 
 module _ (bytes block : List ℕ) (before : Counts) (encoding : Encoding) (p : Position)
     (part : IsPart bytes (Denoted encoding p) block before) (h : ℕ) (h_is : h ≡ head_in before encoding) where
-  pub low_part : IsAtOrAfter before.ends h p
-  low_part = subst (λ (n : ℕ). IsAtOrAfter before.ends n p) (sym h_is) part.at.low
-
   pub resolved_part : (inner : Position) (o : Option ℕ) → inner ≡ position_after before.ends h p
       → o ≡ option_map (place_of (chars block)) (denoted (units_in encoding) (chars block) inner) →
       option_map (λ n. before.len + n) o ≡ option_map (place_of (chars bytes))

@@ -1,12 +1,12 @@
 -- Two batches, one after the other, mean what their meanings composed are, and composing is associative.
-use Rattle.std.proofs.Common.{ℕ, zero, suc, ◌≡◌, ◌+◌, ◌<◌, ◌≤◌, true, false, nat_le, List, [], ◌∷◌, ◌++◌, length, map, take, drop, get_or, Option, Some, None, Result, Ok, Err, ⊎_elim, refl, sym, ap, ap₂, ◌∙◌, subst, arith, drop-cons, take_all}
+use Rattle.std.proofs.Common.{ℕ, zero, suc, ◌≡◌, ◌+◌, ◌≤◌, nat_le, List, [], ◌∷◌, ◌++◌, length, map, take, drop, get_or, Option, Some, None, Result, Ok, Err, refl, sym, ap, ap₂, ◌∙◌, subst, arith, drop-cons, take_all}
 use Rattle.std.proofs.lemmas.Bool.{cases_Bool}
 use Rattle.std.proofs.lemmas.List.{map-append, length-map, take-map, drop-map}
 use Rattle.lsp_text.specs.declared.position.Range.{Range}
 use Rattle.lsp_text.specs.TextLines.{numbers_from}
 use Rattle.lsp_text.specs.Positions.{denoted}
 use Rattle.lsp_edit.specs.Items.{Item, Old, New, plain, character_of, text_of}
-use Rattle.lsp_edit.specs.Batch.{ContentChange, Fault, Reversed, changed_in, items_after, after_changes, continue_with, meaning}
+use Rattle.lsp_edit.specs.Batch.{ContentChange, Fault, changed_in, items_after, after_changes, continue_with, meaning}
 use Rattle.lsp_edit.specs.inside.Batch.{replaced}
 use Rattle.lsp_edit.specs.Compose.{item_through, then_items}
 use Rattle.lsp_edit.specs.Canonical.{canonical}

@@ -1,5 +1,5 @@
 -- The laws of batches, put together.
-use Rattle.std.proofs.Common.{ℕ, ◌≡◌, ◌≤◌, true, false, nat_lt, List, [], ◌∷◌, arith, ⊎_elim}
+use Rattle.std.proofs.Common.{ℕ, ◌≤◌, nat_lt, List, [], ◌∷◌, arith}
 use Rattle.std.proofs.lemmas.Bool.{cases_Bool}
 use Rattle.std.proofs.lemmas.Str.{len_utf8_bounds}
 use Rattle.lsp_text.specs.declared.encoding.Encoding.{Encoding}

@@ -1,6 +1,6 @@
 -- What text edits leave by indexes is what they leave once they are sorted by their byte offsets.
 -- ---- where edits lie
-use Rattle.std.proofs.Common.{ℕ, zero, suc, ◌≡◌, ◌+◌, ◌-◌, ◌<◌, ◌≤◌, ◌⊎◌, true, false, ◌&&◌, ◌==◌, nat_lt, nat_le, List, [], ◌∷◌, ◌++◌, length, map, filter, flat_map, Ok, refl, sym, ap, ap₂, ◌∙◌, subst, arith, ⊎_elim, inl, inr, append-nil, ltb-false, ne_eqb, eq-eqb}
+use Rattle.std.proofs.Common.{ℕ, zero, suc, ◌≡◌, ◌+◌, ◌-◌, ◌<◌, ◌≤◌, ◌⊎◌, true, false, ◌==◌, nat_lt, nat_le, List, [], ◌∷◌, ◌++◌, length, map, filter, flat_map, Ok, refl, sym, ap, ap₂, ◌∙◌, subst, arith, ⊎_elim, inl, inr, append-nil, ltb-false, ne_eqb, eq-eqb}
 use Rattle.std.specs.Prelude.{Contains}
 use Rattle.std.specs.List.{AllByRecursion}
 use Rattle.std.specs.List.Sorted.{IsPermutation}
@@ -19,8 +19,8 @@ use Rattle.lsp_edit.specs.declared.text_edits.TextEditFault.{TextEditFault}
 use Rattle.lsp_edit.specs.declared.text_edits.TextEditFault.TheVariants.{NoMemory}
 use Rattle.lsp_edit.specs.Batch.{ContentChange, meaning}
 use Rattle.lsp_edit.specs.Canonical.{canonical}
-use Rattle.lsp_edit.specs.Items.{Item, Old, New}
-use Rattle.lsp_edit.specs.Parts.{Part, index_of, items_of, new_parts}
+use Rattle.lsp_edit.specs.Items.{Old}
+use Rattle.lsp_edit.specs.Parts.{Part, index_of, items_of}
 use Rattle.lsp_edit.specs.TextEdits.{LocatedEdit, located, new_at, is_taken_out, left_at, items_left, ComesBefore, NoneOverlap, IsBatchOfEdits, EditsOverlap, IsEditsFault}
 use Rattle.lsp_edit.specs.inside.TextEdits.{ArePlaced, IsInOrder, AreApart, old_parts, parts_left, AreLeftByEdits, HasFaultyRange, DoOverlap, PlacedOverlap, IsPlacingFault}
 use Rattle.lsp_edit.proofs.Composing.EditedLemmas.{index_first}

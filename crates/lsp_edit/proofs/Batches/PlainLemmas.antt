@@ -1,7 +1,7 @@
 -- The plain program's steps.
-use Rattle.std.proofs.Common.{ℕ, suc, ◌≡◌, ◌+◌, ◌-◌, ◌<◌, ◌≤◌, ◌⊎◌, true, false, nat_lt, List, [], ◌∷◌, ◌++◌, length, map, take, drop, get_or, refl, sym, ap, ap₂, ◌∙◌, subst, arith, ⊎_elim, append_assoc, append-nil, length-take-le, take_all, IsCharBoundary, sum_by, le-leb, lt-ltb, le-ltb, encode_utf8_all, string_bytes, string_len, Some, Ok}
+use Rattle.std.proofs.Common.{ℕ, suc, ◌≡◌, ◌+◌, ◌-◌, ◌<◌, ◌≤◌, ◌⊎◌, true, false, nat_lt, List, [], ◌∷◌, ◌++◌, length, map, take, drop, get_or, refl, sym, ap, ap₂, ◌∙◌, subst, arith, append_assoc, append-nil, length-take-le, take_all, IsCharBoundary, sum_by, le-leb, lt-ltb, encode_utf8_all, string_bytes, string_len, Some, Ok}
 use Rattle.std.specs.Str.{chars, IsUtf8}
-use Rattle.std.proofs.lemmas.Bool.{or_from, or_left, or_right}
+use Rattle.std.proofs.lemmas.Bool.{or_left, or_right}
 use Rattle.std.proofs.lemmas.List.{drop_more, drop_all, map-append, length-map, length-drop, take-map, drop-map}
 use Rattle.std.proofs.lemmas.Str.{IsUtf8-string_bytes, chars_from_encodes, encodes-chars, is_utf8-from_IsUtf8}
 use Rattle.lsp_text.specs.declared.position.Position.{Position}
@@ -117,12 +117,6 @@ module _ (units : ℕ → ℕ) (old : List ℕ) (low high : ℕ) (text : List �
   pub gap_some : (low < high) ⊎ (0 < length text) → is_changed (gap_at low high text) ≡ true
   gap_some some =
       grind (arith, common_steps, or_left, nat_lt, lt-ltb, or_right)
-
-  pub gap_none : (changes : List Change) → high ≤ low → length text ≡ 0
-      → map content_change changes ≡ map content_change changes
-      ++ change_at units old (gap_at low high text)
-  gap_none changes falls none =
-      grind (arith, common_steps, or_from, nat_lt, le-ltb, append-nil)
 
   pub gap_one : (changes : List Change) (change : Change) (start stop : Position) → (low < high) ⊎ (0 < length text)
       → change.range ≡ Some (record { start = start; stop = stop }) → string_bytes change.text ≡ encode_utf8_all text

@@ -1,11 +1,11 @@
 -- The ranges of edits, one after another: the first faulty one is that of the list.
-use Rattle.std.proofs.Common.{ℕ, suc, ◌≡◌, ◌+◌, List, [], ◌∷◌, Result, Ok, Err, refl, ap, sym, ◌∙◌, subst, arith}
+use Rattle.std.proofs.Common.{ℕ, suc, ◌≡◌, ◌+◌, List, ◌∷◌, Result, Ok, Err, refl, ap, arith}
 use Rattle.std.specs.Prelude.{IsOk, string_bytes}
 use Rattle.std.specs.Str.{chars}
 use Rattle.lsp_edit.specs.declared.fault.EditFault.{EditFault}
 use Rattle.lsp_edit.specs.declared.text_edits.TextEdit.{TextEdit}
 use Rattle.lsp_edit.specs.Batch.{Fault, ends_of}
-use Rattle.lsp_edit.specs.Faults.{fault_at, places_at}
+use Rattle.lsp_edit.specs.Faults.{places_at}
 use Rattle.lsp_edit.specs.TextEdits.{HasRangeFault, LocatedEdit, fault_of, located, located_first}
 use Rattle.std.proofs.lemmas.Grind.{common_steps}
 
@@ -14,9 +14,6 @@ pub record Ranging (units : ℕ → ℕ) (old : List ℕ) (edits : List TextEdit
     0 where
   pub ok : IsOk (located units old number rest) → IsOk (located units old 0 edits)
   pub error : (fault : ℕ × Fault) → located units old number rest ≡ Err fault → located units old 0 edits ≡ Err fault
-
-pub ranging_first : (units : ℕ → ℕ) (old : List ℕ) (edits : List TextEdit) → Ranging units old edits 0 edits
-ranging_first units old edits = record { ok = λ is. is; error = λ fault is. is }
 
 ok_first : (number : ℕ) (text : List ℕ) (ends : ℕ × ℕ) (others : Result (List LocatedEdit) (ℕ × Fault)) → IsOk others
     → IsOk (located_first number text (Ok ends) others)
@@ -57,8 +54,3 @@ module _ (units : ℕ → ℕ) (old : List ℕ) (edits : List TextEdit) (number 
           grind (arith, common_steps)
       by_ends (Err why) e =
           grind (arith, common_steps)
-
-pub ranging_all : (units : ℕ → ℕ) (old : List ℕ) (edits : List TextEdit) (number : ℕ) (rest : List TextEdit)
-    → Ranging units old edits number rest → rest ≡ [] → IsOk (located units old 0 edits)
-ranging_all units old edits number rest ranging none =
-    ranging.ok (subst (λ (es : List TextEdit). IsOk (located units old number es)) (sym none) refl)

@@ -7,12 +7,10 @@ use Rattle.std.proofs.lemmas.Str.{encodes-chars, chars_from_encodes, IsUtf8-appe
 use Rattle.std.specs.List.{replace_range}
 use Rattle.std.specs.Str.{IsUtf8, IsCharBoundary, chars}
 use Rattle.lsp_text.specs.declared.position.Range.{Range}
-use Rattle.lsp_text.specs.Positions.{denoted}
 use Rattle.lsp_buffer.proofs.Changes.ChangeLemmas.{replaced_length}
 use Rattle.lsp_edit.specs.declared.change.Change.{Change}
 use Rattle.lsp_edit.specs.declared.fault.EditFault.{EditFault}
 use Rattle.lsp_edit.specs.declared.fault.EditFault.TheVariants.{NoMemory}
-use Rattle.lsp_edit.specs.declared.indexed.fault.BatchFault.{BatchFault}
 use Rattle.lsp_edit.specs.declared.indexed.fault.BatchFault.TheVariants.{TooLong, NoMemory as OutOfMemory}
 use Rattle.lsp_edit.specs.Items.{Item, plain, text_of}
 use Rattle.lsp_edit.specs.Batch.{ContentChange, Fault, changed_in, items_after, after_changes, continue_with, meaning, ends_of}
@@ -198,9 +196,6 @@ module _ (units : ℕ → ℕ) (left : Result (List ℕ) (ℕ × Fault)) (AreAll
       (text_after_change units (chars draft) (content_change change)) ≡ left
   same_here = rw is at drafting.same
 
-  pub draft_room : length draft + string_len change.text ≤ 2147483648
-  draft_room = grind (arith, common_steps, texts_len, sum_by-cons, string_len)
-
   pub drafting_on : (next : List ℕ) (end : ℕ × ℕ) (all : List (ℕ × ℕ))
       → text_after_change units (chars draft) (content_change change) ≡ Ok (chars next)
       → AreEndsIn units (chars draft) (content_change change) end → all ≡ found ++ end ∷ []
@@ -231,23 +226,3 @@ ends_items units old items (change ∷ batch) (end ∷ ends) are = (
   λ next made. ends_items units old next batch ends (are.1 (text_of old next)
       (change_text units old items change.text change.range ∙ ap (text_result old) made)),
 )
-
--- The ends that were found for a range.
-pub ends_at : (units : ℕ → ℕ) (number : ℕ) (text new : List ℕ) (range : Range) (start stop : ℕ)
-    → Ok (start, stop) ≡ places_at number text (ends_of units text range)
-    → AreEndsIn units text (record { range = Some range; text = new }) (start, stop)
-ends_at units number text new range start stop found other is =
-    grind (arith, common_steps, places_any)
-
--- A batch that begins with a whole text has the same ends in every text.
-pub any_ends : (units : ℕ → ℕ) (text other new : List ℕ) (batch : List ContentChange) (ends : List (ℕ × ℕ))
-    → AreTextEnds units text (record { range = None; text = new } ∷ batch) ends
-    → AreTextEnds units other (record { range = None; text = new } ∷ batch) ends
-any_ends units text other new batch [] are = are
-any_ends units text other new batch (end ∷ ends) are = (λ range is. absurd (cc), are.1)
-
--- A batch that begins with a whole text leaves the same of every text.
-pub any_text : (units : ℕ → ℕ) (text other new : List ℕ) (batch : List ContentChange)
-    → text_after_changes units 0 text (record { range = None; text = new } ∷ batch) ≡ text_after_changes units 0 other
-    (record { range = None; text = new } ∷ batch)
-any_text units text other new batch = refl

@@ -1,5 +1,5 @@
 -- The gaps of items are those between kept characters; and what their ends are where the items keep each CRLF whole.
-use Rattle.std.proofs.Common.{ℕ, suc, ◌≡◌, ◌<◌, true, false, nat_lt, List, [], ◌∷◌, ◌++◌, length, map, ⊎_elim, refl, sym, ap, ap₂, ◌∙◌, arith, append_assoc, append-nil, ltb-true}
+use Rattle.std.proofs.Common.{ℕ, suc, ◌≡◌, ◌<◌, true, false, nat_lt, List, [], ◌∷◌, ◌++◌, length, map, refl, sym, ap, ap₂, arith, append_assoc, append-nil, ltb-true}
 use Rattle.std.proofs.lemmas.Bool.{or_cases}
 use Rattle.lsp_text.specs.TextLines.{splits_crlf}
 use Rattle.lsp_text.proofs.TextLines.LineLemmas.{splits_none_past}

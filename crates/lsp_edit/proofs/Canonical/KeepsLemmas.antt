@@ -1,5 +1,5 @@
 -- What a batch means keeps both characters of each CRLF of the old text, or neither.
-use Rattle.std.proofs.Common.{ℕ, zero, suc, ◌≡◌, ◌+◌, ◌-◌, ◌≤◌, true, false, List, [], ◌∷◌, ◌++◌, length, map, take, drop, nat_le, Option, Some, None, Result, Ok, Err, ⊎_elim, inl, inr, refl, sym, ap, ◌∙◌, subst, arith, take-append-drop, take-add, length-take-le, leb-true}
+use Rattle.std.proofs.Common.{ℕ, zero, suc, ◌≡◌, ◌+◌, ◌-◌, ◌≤◌, true, false, List, [], ◌∷◌, ◌++◌, length, map, take, drop, nat_le, Option, Some, None, Result, Ok, Err, ⊎_elim, inl, inr, refl, sym, subst, arith, take-append-drop, take-add, length-take-le, leb-true}
 use Rattle.std.proofs.lemmas.Bool.{cases_Bool}
 use Rattle.std.proofs.lemmas.List.{length-map}
 use Rattle.lsp_text.specs.declared.position.Range.{Range}

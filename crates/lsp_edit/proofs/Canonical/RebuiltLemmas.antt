@@ -1,7 +1,7 @@
 -- The canonical batch of items makes them of the old text again, and each of its ranges denotes in the text that it
 -- meets what it
 -- denotes in the old text.
-use Rattle.std.proofs.Common.{ℕ, zero, suc, ◌≡◌, ◌+◌, ◌-◌, ◌<◌, ◌≤◌, true, false, nat_lt, cond, List, [], ◌∷◌, ◌++◌, length, map, reverse, filter, take, drop, slice_index, Some, Ok, ⊎_elim, refl, sym, ap, ◌∙◌, subst, arith, append_assoc, append-nil, take_at, drop_at, take-take, drop-cons, length-take-le, le-leb}
+use Rattle.std.proofs.Common.{ℕ, zero, suc, ◌≡◌, ◌+◌, ◌-◌, ◌≤◌, true, false, nat_lt, cond, List, [], ◌∷◌, ◌++◌, length, map, reverse, filter, take, drop, slice_index, Some, Ok, ⊎_elim, refl, sym, ap, ◌∙◌, subst, arith, append_assoc, append-nil, take_at, drop_at, take-take, drop-cons, length-take-le, le-leb}
 use Rattle.std.proofs.lemmas.Bool.{cases_Bool, cases_eq, or_parts, ltb-false}
 use Rattle.std.proofs.lemmas.List.{nil_from_length, get_or-append-add, map-append, length-map, length-append, get_or_past, reverse-append}
 use Rattle.lsp_text.specs.TextLines.{numbers_from, splits_crlf}

@@ -1,11 +1,11 @@
 -- The texts of a canonical batch are together the new characters, so they are no longer than the final text, whatever a
 -- character
 -- weighs.
-use Rattle.std.proofs.Common.{ℕ, suc, ◌≡◌, ◌+◌, ◌≤◌, true, false, nat_lt, List, [], ◌∷◌, ◌++◌, length, map, reverse, filter, sum_by, ⊎_elim, refl, ap, ◌∙◌, arith}
+use Rattle.std.proofs.Common.{ℕ, suc, ◌≡◌, ◌+◌, ◌≤◌, nat_lt, List, [], ◌∷◌, ◌++◌, length, map, reverse, filter, sum_by, refl, arith}
 use Rattle.std.proofs.lemmas.Bool.{cases_Bool, or_parts, ltb-false}
 use Rattle.std.proofs.lemmas.List.{reverse-append, nil_from_length}
 use Rattle.std.proofs.lemmas.List.Sums.{sum_by-cons, sum_by-append}
-use Rattle.lsp_edit.specs.Items.{Item, Old, New, character_of, text_of}
+use Rattle.lsp_edit.specs.Items.{Item, Old, New, text_of}
 use Rattle.lsp_edit.specs.Batch.{ContentChange}
 use Rattle.lsp_edit.specs.Canonical.{Gap, gaps_from, gaps, is_changed, change_of_gap, canonical}
 use Rattle.lsp_edit.proofs.Canonical.GapLemmas.{gap}

@@ -1,14 +1,13 @@
 -- The fields of pieces: what they are at first, and what they tell.
-use Rattle.std.proofs.Common.{ℕ, ◌≡◌, ◌-◌, ◌≤◌, true, false, List, [], ◌∷◌, length, map, ◌==◌, eqb-true, refl, sym, ap, ap₂, ◌∙◌, subst, arith, append-nil, take_all, encode_utf8_all, ⊎_elim, inr, Result}
+use Rattle.std.proofs.Common.{ℕ, ◌≡◌, ◌-◌, ◌≤◌, true, false, List, [], ◌∷◌, length, ◌==◌, eqb-true, refl, sym, ap, ap₂, ◌∙◌, subst, arith, append-nil, take_all, encode_utf8_all, ⊎_elim, inr, Result}
 use Rattle.std.specs.Str.{chars, IsUtf8}
 use Rattle.std.proofs.lemmas.Bool.{cases_Bool, eqb-false}
 use Rattle.std.proofs.lemmas.List.{nil_from_length}
 use Rattle.std.proofs.lemmas.Str.{encodes-chars, is_utf8-from_IsUtf8, IsUtf8-from_is_utf8, chars-nil, chars_from_encodes, IsCharBoundary-start, IsCharBoundary-end}
 use Rattle.lsp_text.specs.Text.{place_of}
-use Rattle.lsp_text.specs.TextLines.{numbers_from}
 use Rattle.lsp_text.proofs.Positions.PlaceLemmas.{place_end}
-use Rattle.lsp_edit.specs.Items.{Item, Old, plain, text_of}
-use Rattle.lsp_edit.specs.Parts.{Part, OldPart, index_of, items_in, items_of, bytes_of, AreParts, NoneTouch}
+use Rattle.lsp_edit.specs.Items.{plain, text_of}
+use Rattle.lsp_edit.specs.Parts.{Part, OldPart, index_of, items_of, bytes_of, AreParts, NoneTouch}
 use Rattle.lsp_edit.specs.inside.Parts.{whole_parts}
 use Rattle.lsp_edit.specs.Keeps.{Keeps}
 use Rattle.lsp_edit.specs.Edited.{ArePieces, PlainData, edited_text, edited_bytes}
@@ -64,11 +63,6 @@ whole_is before utf8 =
     (λ (e : (length before == 0) ≡ true). rw e (whole_none before (eqb-true (length before) 0 e)))
     (λ (e : (length before == 0) ≡ false). rw e (whole_some before utf8 (eqb-false (length before) 0 e)))
     (cases_Bool (length before == 0))
-
--- The one part has the bytes of the text.
-pub whole_bytes : (before : List ℕ) → IsUtf8 before → bytes_of before (whole_parts before) ≡ before
-whole_bytes before utf8 =
-    grind (arith, common_steps, parts_bytes, encode_utf8_all, plain_text, encodes-chars)
 
 -- What the fields are at first.
 pub begun : (before : List ℕ) (parts : List Part) → IsUtf8 before → length before ≤ 2147483648 → IsWhole before parts

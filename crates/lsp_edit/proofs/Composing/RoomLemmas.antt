@@ -1,5 +1,5 @@
 -- How long a text gets by a batch: each change adds its own text at most.
-use Rattle.std.proofs.Common.{ℕ, suc, ◌≡◌, ◌+◌, ◌-◌, ◌<◌, ◌≤◌, true, false, List, ◌∷◌, ◌++◌, length, map, take, drop, nat_le, sym, ap, ◌∙◌, subst, arith, drop-drop, encode_utf8_all, ⊎_elim, inl, inr, leb-true, Option, Some, None, Result, Ok, Err, sum_by, string_len, string_bytes}
+use Rattle.std.proofs.Common.{ℕ, suc, ◌≡◌, ◌+◌, ◌-◌, ◌<◌, ◌≤◌, true, false, List, ◌∷◌, ◌++◌, length, map, take, drop, nat_le, sym, ap, ◌∙◌, subst, arith, drop-drop, encode_utf8_all, ⊎_elim, leb-true, Option, Some, None, Result, Ok, Err, sum_by, string_len, string_bytes}
 use Rattle.std.specs.Str.{chars}
 use Rattle.std.proofs.lemmas.Bool.{cases_Bool}
 use Rattle.std.proofs.lemmas.List.{length-append}
@@ -8,11 +8,9 @@ use Rattle.std.proofs.lemmas.Str.{encodes-append, encodes-chars, IsUtf8-string_b
 use Rattle.lsp_text.specs.declared.position.Range.{Range}
 use Rattle.lsp_text.specs.Positions.{denoted}
 use Rattle.lsp_edit.specs.declared.change.Change.{Change}
-use Rattle.lsp_edit.specs.declared.fault.EditFault.{EditFault}
 use Rattle.lsp_edit.specs.Items.{Item, New, text_of}
 use Rattle.lsp_edit.specs.Batch.{ContentChange, Fault, Reversed, changed_in, items_after, after_changes, continue_with}
 use Rattle.lsp_edit.specs.inside.Batch.{replaced}
-use Rattle.lsp_edit.specs.Faults.{IsFaultOfChange, IsFaultOfChanges, fault_at}
 use Rattle.lsp_edit.specs.Edited.{Applied, PlainData, content_change, edited_bytes}
 use Rattle.lsp_edit.proofs.Parts.CutLemmas.{text_of-new}
 use Rattle.lsp_edit.proofs.Composing.AppliedLemmas.{bytes_split, text_put}
@@ -85,9 +83,6 @@ module _ (units : ℕ → ℕ) (before : List ℕ) (meant : Result (List Item) (
       edited.changes (items_after units before edited.items (content_change change)) ≡ meant
   left_here = rw is at applying.left
 
-  pub room_here : length (edited_bytes edited) + string_len change.text ≤ 2147483648
-  room_here = omega (arith, applying.room, ap texts_len is, sum_by-cons (λ (c : Change). string_len c.text) change more)
-
   pub applying_on : (next : PlainData) → done < 18446744073709551615 → Applied units edited (content_change change) next
       → Applying units before meant (done + 1) more next
   applying_on next small applied =
@@ -110,9 +105,3 @@ module _ (units : ℕ → ℕ) (before : List ℕ) (meant : Result (List Item) (
         counted = omega (arith, n, applying.counted);
         room = grind (arith, common_steps, sum_by-cons, string_len, encode_utf8_all);
       }
-
-  pub faulted : (fault : EditFault)
-      → IsFaultOfChange edited.changes (items_after units edited.before edited.items (content_change change)) fault
-      → IsFaultOfChanges meant fault
-  faulted fault error =
-      grind (arith, common_steps, inl, left_here, inr)

@@ -1,5 +1,5 @@
 -- What was resolved once, read again.
-use Rattle.std.proofs.Common.{ℕ, ◌≡◌, ◌+◌, ◌-◌, ◌<◌, ◌≤◌, true, false, List, ◌∷◌, length, map, drop, refl, sym, ap, ap₂, ◌∙◌, subst, arith, encode_utf8_all, ⊎_elim, nat_lt, Some, Result, Ok, Err}
+use Rattle.std.proofs.Common.{ℕ, ◌≡◌, ◌+◌, ◌-◌, ◌<◌, ◌≤◌, List, ◌∷◌, length, map, drop, refl, sym, ap, ap₂, ◌∙◌, subst, arith, encode_utf8_all, nat_lt, Some, Result, Ok, Err}
 use Rattle.std.proofs.lemmas.Bool.{cases_Bool, cases_lt, ltb-false}
 use Rattle.std.proofs.lemmas.List.{drop_all}
 use Rattle.std.specs.List.{replace_range}
@@ -11,8 +11,6 @@ use Rattle.lsp_edit.specs.declared.change.Change.{Change}
 use Rattle.lsp_edit.specs.declared.delta.Delta.{Delta}
 use Rattle.lsp_edit.specs.declared.delta.Delta.TheVariants.{Put, Left}
 use Rattle.lsp_edit.specs.declared.fault.EditFault.{EditFault}
-use Rattle.lsp_edit.specs.declared.indexed.fault.BatchFault.{BatchFault}
-use Rattle.lsp_edit.specs.declared.indexed.fault.BatchFault.TheVariants.{TooLong}
 use Rattle.lsp_edit.specs.Items.{Item, plain, text_of}
 use Rattle.lsp_edit.specs.Batch.{ContentChange, Fault, items_after, continue_with, ends_of, meaning}
 use Rattle.lsp_edit.specs.Canonical.{canonical}
@@ -122,13 +120,6 @@ has_batch before (Left left) on = record {
 on_utf8 : (before : List ℕ) (delta : Delta) → IsOn before delta → IsUtf8 before
 on_utf8 before (Put put) on = on.utf8
 on_utf8 before (Left left) on = on.utf8
-
--- The canonical batch of items is that of what is meant.
-pub same_canonical : (units : ℕ → ℕ) (text old : List ℕ) (meant : Result (List Item) (ℕ × Fault)) (made : List Item)
-    (answered : List ContentChange) → old ≡ text → meant ≡ Ok made → answered ≡ canonical units old made
-    → (items : List Item) → meant ≡ Ok items → answered ≡ canonical units text items
-same_canonical units text old meant made answered old_is made_is is items items_are =
-    let e : made ≡ items = cc in is ∙ ap₂ (canonical units) old_is e
 
 -- The canonical batch of a delta is that of its batch.
 pub canonical_is : (encoding : Encoding) (max_len : ℕ) (before : List ℕ) (batch answered : List ContentChange)

@@ -1,12 +1,10 @@
 -- Layers that are joined, and how they are folded into one row.
-use Rattle.std.proofs.Common.{ℕ, ◌≡◌, ◌+◌, ◌<◌, ◌≤◌, true, List, [], ◌∷◌, ◌++◌, length, map, drop, get_or, refl, sym, ap, ◌∙◌, subst, arith, ⊎_elim, nat_lt, false, encode_utf8_all, Result, Ok, Err}
+use Rattle.std.proofs.Common.{ℕ, ◌≡◌, ◌+◌, ◌<◌, List, [], ◌∷◌, ◌++◌, length, map, drop, get_or, refl, sym, ap, ◌∙◌, subst, arith, nat_lt, encode_utf8_all, Ok}
 use Rattle.std.specs.Str.{chars, IsUtf8}
 use Rattle.std.proofs.lemmas.Bool.{cases_Bool}
-use Rattle.std.proofs.lemmas.List.{drop_more, drop_all, map-append}
+use Rattle.std.proofs.lemmas.List.{drop_more, map-append}
 use Rattle.std.proofs.lemmas.Str.{chars_from_encodes, IsUtf8-append, IsUtf8-between, IsUtf8-nil, IsUtf8-from_is_utf8, IsCharBoundary-start}
 use Rattle.lsp_edit.specs.declared.joined.layer.Layer.{Layer}
-use Rattle.lsp_edit.specs.declared.indexed.fault.BatchFault.{BatchFault}
-use Rattle.lsp_edit.specs.declared.indexed.fault.BatchFault.TheVariants.{TooLong}
 use Rattle.lsp_edit.specs.Items.{Item, plain, text_of}
 use Rattle.lsp_edit.specs.Batch.{ContentChange, meaning}
 use Rattle.lsp_edit.specs.Compose.{then_items}
@@ -160,12 +158,6 @@ folded_start text before layers parts joined utf8 same view all is =
     subst (λ (j : JoinedData). IsFolded j.before parts (map layer_parts layers) j.items) view
     (folded_first before (map layer_parts layers) parts (items_over (chars before) (plain (chars before))
     (map layer_parts layers)) (subst IsUtf8 same utf8) (is ∙ ap whole_parts same) all refl)
-
-pub folded_end : (before : List ℕ) (parts : List Part) (layers : List Layer) (i : ℕ) (items : List Item)
-    → length layers ≤ i → IsFolded before parts (map layer_parts (drop i layers)) items → items_of (chars before) parts
-    ≡ items
-folded_end before parts layers i items past f =
-    grind (arith, common_steps, drop_all)
 
 module _ (before : List ℕ) (parts row : List Part) (rows : List (List Part)) (items : List Item)
     (f : IsFolded before parts (row ∷ rows) items) where

@@ -1,5 +1,5 @@
 -- Spans that own their texts, and rows of them over one another.
-use Rattle.std.proofs.Common.{ℕ, ◌≡◌, ◌+◌, ◌-◌, ◌<◌, ◌≤◌, List, [], ◌∷◌, ◌++◌, length, map, take, drop, get_or, refl, sym, ap, ap₂, ◌∙◌, subst, arith, append_assoc, append-nil, encode_utf8_all, Result, Ok}
+use Rattle.std.proofs.Common.{ℕ, ◌≡◌, ◌+◌, ◌-◌, ◌≤◌, List, [], ◌∷◌, ◌++◌, length, map, take, get_or, refl, sym, ap, ap₂, ◌∙◌, subst, arith, append_assoc, append-nil, encode_utf8_all, Result}
 use Rattle.std.specs.Str.{chars, IsUtf8}
 use Rattle.std.proofs.lemmas.List.{drop_more, drop_all, map-append, take-append-drop}
 use Rattle.std.proofs.lemmas.List.Concat.{flat_map-append}
@@ -10,7 +10,7 @@ use Rattle.lsp_edit.specs.declared.joined.layer.OwnedSpan.TheVariants.{Old as Ol
 use Rattle.lsp_edit.specs.Items.{Item, New, text_of}
 use Rattle.lsp_edit.specs.Batch.{Fault}
 use Rattle.lsp_edit.specs.Compose.{then_items}
-use Rattle.lsp_edit.specs.Layers.{AllOver, layer_parts, IsOver, items_over, owned_part, owned_parts}
+use Rattle.lsp_edit.specs.Layers.{AllOver, layer_parts, IsOver, items_over, owned_parts}
 use Rattle.lsp_edit.specs.inside.Layers.{AreSameItems, IsLayer}
 use Rattle.lsp_edit.specs.Edited.{PlainData, Means, before_bytes}
 use Rattle.lsp_edit.specs.Keeps.{Keeps}
@@ -21,14 +21,6 @@ use Rattle.lsp_edit.proofs.Composing.EditedLemmas.{index_first}
 use Rattle.lsp_edit.proofs.Parts.PutLemmas.{new_items}
 use Rattle.lsp_edit.proofs.Parts.ThroughLemmas.{are_through, ascending, through_items}
 use Rattle.std.proofs.lemmas.Grind.{common_steps}
-
--- the owned spans from an index on
-pub owned_rest : (spans : List OwnedSpan) (i : ℕ) (default : OwnedSpan) → i < length spans → owned_parts (drop i spans)
-    ≡ owned_part (get_or spans i default) ∷ owned_parts (drop (i + 1) spans)
-owned_rest spans i default within = ap owned_parts (drop_more spans i default within)
-
-pub owned_none : (spans : List OwnedSpan) (i : ℕ) → length spans ≤ i → owned_parts (drop i spans) ≡ []
-owned_none spans i past = ap owned_parts (drop_all i spans past)
 
 -- ---- parts of a text in two lists
 
@@ -48,9 +40,6 @@ pub items_both : (old : List ℕ) (parts more : List Part) → items_of (chars o
 items_both old parts more = flat_map-append (items_in (chars old)) parts more
 
 -- ---- texts that are copied, neighbours as one
-
-pub same_begins : (whole : List Part) → AreSameItems ([] ++ (new_parts [] ++ whole)) whole
-same_begins whole old are = (are, refl)
 
 pub same_old : (whole done : List Part) (text : List ℕ) (part : Part) (rest : List Part)
     → AreSameItems (done ++ (new_parts text ++ (part ∷ rest))) whole

@@ -1,11 +1,10 @@
 -- A batch that is joined series by series.
-use Rattle.std.proofs.Common.{ℕ, ◌≡◌, ◌≤◌, List, [], ◌++◌, length, refl, sym, ap, ◌∙◌, append_assoc, append-nil, Ok}
+use Rattle.std.proofs.Common.{ℕ, ◌≡◌, ◌≤◌, List, ◌++◌, length, sym, ap, ◌∙◌, append_assoc, Ok}
 use Rattle.std.specs.Str.{chars}
-use Rattle.lsp_edit.specs.Items.{plain, text_of}
+use Rattle.lsp_edit.specs.Items.{text_of}
 use Rattle.lsp_edit.specs.Batch.{ContentChange, meaning}
 use Rattle.lsp_edit.specs.Indexed.{text_within}
 use Rattle.lsp_edit.specs.Joined.{IsJoined, IsReached, JoinedData, joined_text}
-use Rattle.lsp_edit.specs.inside.Joined.{IsWhole}
 use Rattle.lsp_edit.proofs.Batches.ComposeLemmas.{then_means}
 use Rattle.lsp_edit.proofs.Deltas.DeltaLemmas.{within_fits}
 
@@ -19,20 +18,6 @@ pub record IsSeries (units : ℕ → ℕ) (before : List ℕ) (batch : List Cont
   pub means : meaning units (chars before) done ≡ Ok joined.items
   pub at : IsReached joined reached
   pub short : length reached ≤ 1073741824
-
-pub series_begins : (units : ℕ → ℕ) (before : List ℕ) (batch : List ContentChange) (joined : JoinedData)
-    (reached : List ℕ)
-    → joined ≡ record { before = before; items = plain (chars before) } → IsReached joined reached
-    → length reached ≤ 1073741824
-    → IsSeries units before batch joined reached batch
-series_begins units before batch joined reached is at short = record {
-  done = [];
-  all = refl;
-  same = ap (λ (j : JoinedData). j.before) is;
-  means = sym (ap (λ (j : JoinedData). Ok j.items) is);
-  at = at;
-  short = short;
-}
 
 module _ (units : ℕ → ℕ) (before : List ℕ) (batch : List ContentChange) where
   pub series_next : (joined new : JoinedData) (reached left : List ℕ) (series rest more : List ContentChange)
@@ -53,10 +38,3 @@ module _ (units : ℕ → ℕ) (before : List ℕ) (batch : List ContentChange) 
         at = at;
         short = within_fits 1073741824 reached (meaning units (chars reached) series) left within;
       }
-
-  pub series_ends : (joined : JoinedData) (reached : List ℕ) (rest : List ContentChange)
-      → IsSeries units before batch joined reached rest → rest ≡ [] → IsWhole units before batch joined
-  series_ends joined reached rest is none =
-      let done : is.done ≡ batch =
-      sym (append-nil is.done) ∙ (ap (λ (r : List ContentChange). is.done ++ r) (sym none) ∙ is.all) in
-      record { same = is.same; means = ap (meaning units (chars before)) (sym done) ∙ is.means }

@@ -1,15 +1,14 @@
 -- What a batch of one whole text leaves, and how a batch of one change is taken apart.
-use Rattle.std.proofs.Common.{ℕ, ◌≡◌, ◌<◌, ◌≤◌, List, length, map, ap, sym, subst, ◌∙◌, Bool, if◌then◌else◌, nat_lt, Option, Some, None, Result, Ok, Err, encode_utf8_all}
+use Rattle.std.proofs.Common.{ℕ, ◌≡◌, ◌<◌, ◌≤◌, List, length, map, ap, sym, subst, ◌∙◌, Bool, if◌then◌else◌, nat_lt, None, Result, Ok, Err, encode_utf8_all}
 use Rattle.std.specs.Prelude.{IsOk, is_ok}
 use Rattle.std.proofs.lemmas.Bool.{lt-ltb, le-ltb}
 use Rattle.std.proofs.lemmas.Str.{encodes-chars}
 use Rattle.std.specs.Str.{IsUtf8, chars}
-use Rattle.lsp_text.specs.declared.position.Range.{Range}
 use Rattle.lsp_edit.specs.declared.indexed.fault.BatchFault.{BatchFault}
 use Rattle.lsp_edit.specs.declared.indexed.fault.BatchFault.TheVariants.{TooLong}
 use Rattle.lsp_edit.specs.Items.{New}
 use Rattle.lsp_edit.specs.Batch.{ContentChange, meaning}
-use Rattle.lsp_edit.specs.Indexed.{alone, bytes_left, one_change, text_within}
+use Rattle.lsp_edit.specs.Indexed.{bytes_left, one_change, text_within}
 use Rattle.lsp_edit.proofs.Parts.CutLemmas.{text_of-new}
 
 module _ (units : ℕ → ℕ) (max_len : ℕ) (before new : List ℕ) (utf8 : IsUtf8 new) where
@@ -46,11 +45,3 @@ module _ (max_len : ℕ) (new : List ℕ) (utf8 : IsUtf8 new) (batch : List Cont
   batch_too_long above =
       subst (λ (b : List ContentChange). text_within max_len before (meaning units (chars before) b) ≡ Err TooLong)
       (sym is) (whole_too_long units max_len before new utf8 above)
-
--- A batch of one change is one with a range, or a whole text.
-pub either_change : (P : Type 0) (batch : List ContentChange)
-    → ((range : Range) (text : List ℕ) → batch ≡ alone range text → ⊥)
-    → ((text : List ℕ) → batch ≡ one_change None text → P)
-    → (range : Option Range) (text : List ℕ) → batch ≡ one_change range text → P
-either_change P batch ranged whole None text is = whole text is
-either_change P batch ranged whole (Some range) text is = absurd (ranged range text is)

@@ -6,7 +6,7 @@ use Rattle.std.proofs.lemmas.List.{map-append, length-append, take-append-le, dr
 use Rattle.std.proofs.lemmas.Str.{encodes-append}
 use Rattle.lsp_text.specs.Text.{place_of}
 use Rattle.lsp_text.proofs.Positions.PlaceLemmas.{place_add}
-use Rattle.lsp_edit.specs.Items.{Item, character_of, text_of}
+use Rattle.lsp_edit.specs.Items.{Item, text_of}
 use Rattle.lsp_edit.specs.Parts.{Part, items_in, items_of, bytes_of, part_len, IsPartOf, AreParts}
 use Rattle.lsp_edit.specs.inside.Parts.{front_part, back_part, front_parts, back_parts, AreCut}
 use Rattle.lsp_edit.proofs.Parts.CutLemmas.{part_bytes, part_length, front_items, back_items, place_above, place_below, text_long, front_is, back_is, part_cut, part_ordered}

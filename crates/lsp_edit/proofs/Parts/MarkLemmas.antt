@@ -1,5 +1,5 @@
 -- A place in a row of spans, from which a walk over them goes on.
-use Rattle.std.proofs.Common.{ℕ, zero, suc, ◌≡◌, ◌+◌, ◌-◌, ◌<◌, ◌≤◌, List, length, take, drop, get_or, sum_by, refl, sym, ap, ◌∙◌, subst, arith}
+use Rattle.std.proofs.Common.{ℕ, zero, suc, ◌≡◌, ◌+◌, ◌<◌, ◌≤◌, List, length, take, drop, get_or, sum_by, refl, sym, ap, ◌∙◌, subst, arith}
 use Rattle.std.proofs.lemmas.List.{take_more}
 use Rattle.std.proofs.lemmas.List.Sums.{sum_by_push}
 use Rattle.lsp_edit.specs.declared.pieces.span.Span.{Span}
@@ -15,18 +15,6 @@ before_more : (spans : List Span) (index : ℕ) (default : Span) → index < len
     + span_len (get_or spans index default)
 before_more spans index default within = ap (sum_by span_len) (take_more spans index default within)
     ∙ sum_by_push span_len (take index spans) (get_or spans index default)
-
--- The place of the next span, and of the one before.
-pub mark_next : (spans : List Span) (index place : ℕ) (default : Span) (len : ℕ) → index < length spans
-    → len ≡ span_len (get_or spans index default) → IsMark spans index place → IsMark spans (index + 1) (place + len)
-mark_next spans index place default len within is mark =
-    (omega (arith, within), omega (arith, is, mark.1, before_more spans index default within))
-
-pub mark_before : (spans : List Span) (index place : ℕ) (default : Span) (len : ℕ) → 0 < index
-    → len ≡ span_len (get_or spans (index - 1) default) → IsMark spans index place → (len ≤ place)
-    × IsMark spans (index - 1) (place - len)
-mark_before spans index place default len some is mark =
-    grind (arith, common_steps, sum_by, before_more)
 
 passing_at : (spans : List Span) (low index : ℕ) → index ≤ length spans → sum_by span_len (take index spans) ≤ low
     → AreOrdered (parts_of spans)

@@ -3,7 +3,7 @@ use Rattle.std.proofs.Common.{ℕ, suc, ◌≡◌, ◌+◌, ◌-◌, ◌<◌, �
 use Rattle.std.proofs.lemmas.Bool.{cases_eq, cases_lt}
 use Rattle.std.proofs.lemmas.List.{length-drop}
 use Rattle.lsp_edit.specs.Parts.{new_parts, Part, OldPart, NewPart, part_len, Ascend}
-use Rattle.lsp_edit.specs.inside.Parts.{EndAfter, first_front, put_first_back, replaced_parts, front_part, back_part, front_parts, back_parts, IsCutAt, AreCut, put_part, put_parts, between_parts, put_through, through_parts, AreThrough, ArePassed}
+use Rattle.lsp_edit.specs.inside.Parts.{EndAfter, first_front, put_first_back, replaced_parts, back_part, front_parts, back_parts, IsCutAt, AreCut, put_part, put_parts, between_parts, put_through, through_parts, AreThrough, ArePassed}
 use Rattle.lsp_edit.proofs.Parts.PutLemmas.{put_all_few, back_fewer, cut_adds}
 use Rattle.lsp_edit.proofs.Parts.PassingLemmas.{none_passed, passed_later, more_passed}
 use Rattle.std.proofs.lemmas.Grind.{common_steps}

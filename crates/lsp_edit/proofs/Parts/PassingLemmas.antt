@@ -6,7 +6,6 @@ use Rattle.std.proofs.lemmas.Str.{IsCharBoundary-end}
 use Rattle.lsp_edit.specs.Parts.{Part, OldPart, NewPart, part_of, parts_of, part_len}
 use Rattle.lsp_edit.specs.inside.Parts.{AreBefore, AreOrdered, EndAfter, IsFirstCut, first_front, front_part, front_parts, back_parts, IsOrdered, IsCutAt, AreCut, ArePassed}
 use Rattle.lsp_edit.specs.declared.pieces.span.Span.{Span}
-use Rattle.lsp_edit.proofs.Canonical.WalkLemmas.{rest_is}
 use Rattle.std.proofs.lemmas.Grind.{common_steps}
 
 pub none_passed : (parts : List Part) → ArePassed parts parts 0 0
@@ -100,10 +99,6 @@ cut_to_end : (part : Part) (parts : List Part) (place : ℕ) → AreCut (part �
     → IsCutAt part place
 cut_to_end part parts place cut fits =
     grind (arith, common_steps, cut_end, cases_lt)
-
-pub first_cut : (rest : List Part) (place : ℕ) → AreCut rest place → EndAfter rest place → IsFirstCut rest place
-first_cut [] place cut rest_after = tt
-first_cut (part ∷ parts) place cut rest_after = cut.1 rest_after
 
 -- The first parts, up to a place that lies behind those passed.
 pub record AreEnded (parts front rest : List Part) (passed place : ℕ) : Type 0 where

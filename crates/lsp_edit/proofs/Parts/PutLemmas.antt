@@ -1,5 +1,5 @@
 -- Parts with the bytes between two places replaced: what they stand for, and how many they are.
-use Rattle.std.proofs.Common.{ℕ, suc, ◌≡◌, ◌+◌, ◌-◌, ◌<◌, ◌≤◌, true, false, List, [], ◌∷◌, ◌++◌, length, map, take, drop, ◌==◌, refl, sym, ap, ap₂, ◌∙◌, arith, append_assoc, append-nil, lt-ltb, le-ltb, ne_eqb, eq-eqb, eqb-true, ⊎_elim}
+use Rattle.std.proofs.Common.{ℕ, suc, ◌≡◌, ◌+◌, ◌-◌, ◌≤◌, true, false, List, [], ◌∷◌, ◌++◌, length, map, take, drop, ◌==◌, sym, ap, ap₂, ◌∙◌, arith, append_assoc, append-nil, lt-ltb, le-ltb, ne_eqb, eq-eqb, eqb-true, ⊎_elim}
 use Rattle.std.specs.Str.{chars, IsUtf8, is_utf8}
 use Rattle.std.proofs.lemmas.Bool.{cases_eq, cases_lt, cases_Bool}
 use Rattle.std.proofs.lemmas.List.{map-append, length-append, nil_from_length}

@@ -1,8 +1,7 @@
 -- Spans with some of their bytes replaced, in place.
-use Rattle.std.proofs.Common.{ℕ, ◌≡◌, ◌+◌, ◌-◌, ◌<◌, ◌≤◌, List, [], ◌∷◌, ◌++◌, length, take, drop, sum_by, min, drop-drop, sym, ap, ap₂, ◌∙◌, arith, ⊎_elim}
+use Rattle.std.proofs.Common.{ℕ, ◌≡◌, ◌+◌, ◌-◌, ◌≤◌, List, [], ◌∷◌, ◌++◌, length, take, drop, min, drop-drop, sym, ap, ap₂, ◌∙◌, arith}
 use Rattle.std.proofs.lemmas.Bool.{cases_lt}
-use Rattle.std.proofs.lemmas.List.{drop_all, drop-map, length-append, length-take-le, map-append, map-id}
-use Rattle.std.proofs.Math.Seq.{take-append_seam}
+use Rattle.std.proofs.lemmas.List.{drop_all, drop-map, map-append, map-id}
 use Rattle.std.specs.declared.vec.IntoIter.{IntoIter}
 use Rattle.std.specs.Vec.Iter.{into_iter_items, into_iter_len, into_iter_steps}
 use Rattle.std.specs.Iterator.{Drains}
@@ -10,7 +9,7 @@ use Rattle.std.proofs.lemmas.Iterator.{items_from_drains}
 use Rattle.std.proofs.lemmas.Iterator.Adapters.{YieldsList-from_vec}
 use Rattle.lsp_edit.specs.declared.pieces.span.Span.{Span}
 use Rattle.lsp_edit.specs.Parts.{Part, part_of, parts_of, new_parts}
-use Rattle.lsp_edit.specs.inside.Parts.{span_len, front_parts, first_front, IsMark, put_first_back, replaced_parts, ArePassed, EndAfter}
+use Rattle.lsp_edit.specs.inside.Parts.{front_parts, first_front, put_first_back, replaced_parts, ArePassed, EndAfter}
 use Rattle.lsp_edit.proofs.Parts.PassedLemmas.{replaced_is}
 use Rattle.std.proofs.lemmas.Grind.{common_steps}
 
@@ -57,9 +56,3 @@ replaced_spans old now made first last passed more start stop past text order no
     ∙ ap (λ (ps : List Part). parts_of (take first old) ++ ps) (map-append part_of made (drop past old))) in
     all
     ∙ (grind (arith, common_steps, ap₂, replaced_is, none_after))
-
--- The spans before a change stay where they are.
-pub mark_stays : (old now made rest_after : List Span) (first passed : ℕ) → IsMark old first passed
-    → now ≡ take first old ++ (made ++ rest_after) → IsMark now first passed
-mark_stays old now made rest_after first passed is now_is =
-    grind (arith, common_steps, length-take-le, take-append_seam, length-append, sum_by)

@@ -1,5 +1,5 @@
 -- A delivery to the server, over plain values.
-use Rattle.std.proofs.Common.{ℕ, ◌≡◌, ◌≢◌, ◌<◌, Bool, true, false, List, [], ◌∷◌, ◌++◌, length, map, get_or, Vec, Ok, Err, refl, sym, ap, subst, arith}
+use Rattle.std.proofs.Common.{ℕ, ◌≡◌, ◌≢◌, ◌<◌, Bool, true, false, List, [], ◌∷◌, ◌++◌, length, map, get_or, Vec, Ok, Err, refl, sym, subst, arith}
 use Rattle.std.specs.Prelude.{if◌then◌else◌}
 use Rattle.std.specs.declared.alloc.Global.{Global}
 use Rattle.lsp_frame.specs.Limits.{LimitsData}
@@ -44,10 +44,6 @@ pub first_there : (P : List ℕ → Type 0) (items : List (Vec ℕ Global)) (fir
     → first ≡ get_or items 0 first → HoldsOfFirst (frames items) P → P first.items
 first_there P [] first some is holds = absurd (omega arith)
 first_there P (x ∷ xs) first some is holds = subst (λ (v : Vec ℕ Global). P v.items) (sym is) holds
-
-pub some_wait : (items : List (Vec ℕ Global)) → 0 < length items → frames items ≢ []
-some_wait [] some = absurd (omega arith)
-some_wait (x ∷ xs) some = λ none. absurd (omega (arith, ap length none))
 
 pub serve_is : (c : client.ClientData) (s new : server.ServerData) (limits : LimitsData)
     (items rest : List (Vec ℕ Global)) (back next : List (List ℕ)) (first : Vec ℕ Global) (body buffered : List ℕ)

@@ -46,9 +46,6 @@ module _ (setting : Setting) (sound : IsFitting setting) (w : World) (ok : World
   abbrev kind : SyncKind
   kind = the_kind setting
 
-  table_now : List DocumentItem
-  table_now = (client_of setting w).table
-
   -- ---- a call
 
   -- the queue when the client said one message more

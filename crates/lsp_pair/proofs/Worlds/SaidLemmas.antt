@@ -152,14 +152,6 @@ module _ (small great : LimitsData) (encoding : Encoding) (table : List Document
 
 -- ---- what a server does at a command
 
--- a server whose session is running, with these limits, this encoding and this table
-pub record IsServing (great : LimitsData) (encoding : Encoding) (table : List DocumentItem) (s : ServerData) : Type
-    0 where
-  pub limits_are : s.config.limits ≡ great
-  pub running : s.phase ≡ Running
-  pub counts : s.encoding ≡ Some encoding
-  pub table_is : s.table ≡ table
-
 -- it did the command
 abbrev pub done_by : ServerData → List DocumentItem → Step
 done_by s next = record { answer = answer.changed; state = record s { table = next } }

@@ -12,11 +12,11 @@ use Rattle.lsp_edit.proofs.Batches.LawLemmas.{canonical_law, units_some}
 use Rattle.lsp_edit.proofs.Deltas.DeltaLemmas.{within_told}
 use Rattle.lsp_message.proofs.ReadBack.{body_of-unique, is_read_back, reading-body_of}
 use Rattle.lsp_store.specs.declared.store.plan.Plan.{Plan}
-use Rattle.lsp_store.specs.Message.{AreTexts, DoAlike, IsCanonicalOf, IsCanonicalOn, IsReadAgain, canonical_batch, canonical_frame, message_refusal}
+use Rattle.lsp_store.specs.Message.{AreTexts, DoAlike, IsCanonicalOf, IsReadAgain, canonical_batch, canonical_frame, message_refusal}
 use Rattle.lsp_store.specs.Opened.{StoreData}
 use Rattle.lsp_store.specs.Plan.{IsPlanOf}
 use Rattle.lsp_store.specs.Table.{change_refusal, entry_refusal}
-use Rattle.lsp_store.proofs.Messages.MessageLemmas.{accepts, canonical_on, exactly_alike, is_read, settles}
+use Rattle.lsp_store.proofs.Messages.MessageLemmas.{accepts, exactly_alike, is_read, settles}
 use Rattle.lsp_store.proofs.Tables.PlanLemmas.{on_short, on_utf8}
 
 module _ (kept : StoreData) (uri : List ℕ) (version : ℤ) (encoding : Encoding) (batch : List ContentChange)
@@ -28,9 +28,6 @@ module _ (kept : StoreData) (uri : List ℕ) (version : ℤ) (encoding : Encodin
 
   may : entry_refusal kept.limits (units_in encoding) q.on.entry version batch ≡ None
   may = rw q.is_open at q.accepted
-
-  pub plan_canonical : IsCanonicalOn (units_in encoding) kept.table uri batch
-  plan_canonical = canonical_on kept.limits encoding kept.table uri version q.on.entry q.is_open laws batch may
 
   abbrev meant : List Item
   meant = (accepts kept.limits encoding kept.table uri version q.on.entry q.is_open laws batch may).items

@@ -27,10 +27,6 @@ pub passed_whole : (units : ℕ → ℕ) (text : List ℕ) (offset left count : 
     → IsPassed units text count offset left
 passed_whole units text offset left count h = record { rest = []; passed = h; few = tt }
 
-pub passed_before : (units : ℕ → ℕ) (text rest : List ℕ) (c offset left count : ℕ)
-    → HasPassed units text (c ∷ rest) offset left count → left < units c → IsPassed units text count offset left
-passed_before units text rest c offset left count h few = record { rest = c ∷ rest; passed = h; few = few }
-
 pub passed_end : (units : ℕ → ℕ) (text : List ℕ) (offset left count : ℕ) → length text ≤ offset
     → HasPassed units (chars text) (chars (drop offset text)) offset left count
     → IsPassed units (chars text) count offset left

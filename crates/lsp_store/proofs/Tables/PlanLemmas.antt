@@ -79,29 +79,12 @@ pub record HasEntry (es : List (String Global × Stored)) (index : ℕ) (stored 
   pub key : String Global
   pub at : slice_get es index ≡ Some (key, stored)
 
-pub record IsThere (es : List (String Global × Stored)) (index : ℕ) : Type 0 where
-  pub found : String Global × Stored
-  pub at : slice_get es index ≡ Some found
-
-there_from : (es : List (String Global × Stored)) (index : ℕ) (entry : DocumentItem)
-    → option_map entry_of (slice_get es index) ≡ Some entry → IsThere es index
-there_from [] index entry at = absurd (cc)
-there_from (e ∷ es) zero entry at = record { found = e; at = refl }
-there_from (e ∷ es) (suc index) entry at = let rest = there_from es index entry at in
-    record { found = rest.found; at = rest.at }
-
 pub entry_there : (es : List (String Global × Stored)) (index : ℕ) (stored : Stored) → Some stored
     ≡ slice_get (map (λ e. e.1) es) index → HasEntry es index stored
 entry_there [] index stored found = absurd (cc)
 entry_there (e ∷ es) zero stored found = let same : stored ≡ e.1 = cc in record { key = e.0; at = rw same refl }
 entry_there (e ∷ es) (suc index) stored found = let rest = entry_there es index stored found in
     record { key = rest.key; at = rest.at }
-
-pub nothing_there : (es : List (String Global × Stored)) (index : ℕ) → None ≡ slice_get (map (λ e. e.1) es) index
-    → {e : String Global × Stored} → slice_get es index ≡ Some e → ⊥
-nothing_there [] index none at = absurd (cc)
-nothing_there (e ∷ es) zero none at = absurd (cc)
-nothing_there (e ∷ es) (suc index) none at = nothing_there es index none at
 
 pub put_planned : (es : List (String Global × Stored)) (index : ℕ) (key : String Global) (stored new : Stored)
     (version : ℤ) (delta : Delta) → slice_get es index ≡ Some (key, stored)
@@ -205,12 +188,6 @@ module _ (limits : LimitsData) (es : List (String Global × Stored)) (kept : Sto
       where
         there : entry_at (map entry_of es) uri ≡ Some (entry_under (string_bytes key) stored)
         there = sym (get_found limits es (seen limits es) refl uri key stored at_key found)
-
-  -- the entry that a plan is of
-  pub plan_entry : (plan : Plan) → IsPlanOn kept plan → IsThere es plan.index
-  plan_entry plan p =
-      there_from es plan.index p.entry (sym (slice_get-map entry_of es plan.index)
-      ∙ (ap (λ (d : StoreData). slice_get d.table plan.index) view ∙ p.at))
 
   -- the document that a plan is of
   module _ (plan : Plan) (p : IsPlanOn kept plan) (stored : Stored) (h : HasEntry es plan.index stored) where

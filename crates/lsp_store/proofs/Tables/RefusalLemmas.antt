@@ -14,7 +14,7 @@ use Rattle.lsp_edit.specs.Items.{Item}
 use Rattle.lsp_edit.specs.Indexed.{text_within}
 use Rattle.lsp_edit.specs.Batch.{ContentChange, Fault, meaning}
 use Rattle.lsp_edit.specs.Edited.{content_change}
-use Rattle.lsp_store.specs.declared.fault.StoreFault.TheVariants.{NoMemory, StaleVersion, TooManyChanges}
+use Rattle.lsp_store.specs.declared.fault.StoreFault.TheVariants.{NoMemory, TooManyChanges}
 use Rattle.lsp_store.specs.Faults.{refusal_fault, store_fault_of, IsRefusal}
 use Rattle.lsp_message.specs.Params.{DocumentItem}
 use Rattle.lsp_store.specs.Table.{too_many_changes, batch_bytes, greatest_batch, is_stale, entry_refusal, meaning_refusal, meant_text}
@@ -41,11 +41,6 @@ module _ (limits : LimitsData) (units : ℕ → ℕ) (entry : DocumentItem) (ver
       → entry_refusal limits units entry version batch ≡ meaning_refusal limits entry.text
       (meaning units (chars entry.text) batch)
   refused_meaning few = rw (newer, few) refl
-
-pub stale_refused : (limits : LimitsData) (units : ℕ → ℕ) (entry : DocumentItem) (version given held : ℤ)
-    (batch : List ContentChange) → given ≡ version → held ≡ entry.version → is_stale limits given entry.version ≡ true
-    → option_map refusal_fault (entry_refusal limits units entry version batch) ≡ Some (StaleVersion held)
-stale_refused limits units entry version given held batch same current stale = rw (rw same at stale, current) refl
 
 -- ---- the same, of the changes that a call was given
 

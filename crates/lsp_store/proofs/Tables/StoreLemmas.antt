@@ -10,7 +10,7 @@ use Rattle.lsp_text.specs.declared.encoding.Encoding.{Encoding}
 use Rattle.lsp_text.specs.Units.{units_in}
 use Rattle.lsp_edit.specs.Batch.{ContentChange}
 use Rattle.lsp_store.specs.declared.fault.StoreFault.{StoreFault}
-use Rattle.lsp_store.specs.declared.fault.StoreFault.TheVariants.{AlreadyOpen, TooManyDocuments, TextTooLong, NotOpen}
+use Rattle.lsp_store.specs.declared.fault.StoreFault.TheVariants.{TooManyDocuments, TextTooLong, NotOpen}
 use Rattle.lsp_store.specs.declared.store.stored.Stored.{Stored}
 use Rattle.lsp_store.specs.Faults.{refusal_fault, IsRefusal}
 use Rattle.lsp_message.specs.Params.{DocumentItem}
@@ -26,10 +26,6 @@ seen limits es = record { limits = limits; table = map entry_of es }
 -- ---- whether a document may be opened
 
 module _ (limits : LimitsData) (table : List DocumentItem) (entry : DocumentItem) where
-  pub taken_refused : is_taken limits table entry.uri ≡ true
-      → option_map refusal_fault (open_refusal limits table entry) ≡ Some AlreadyOpen
-  taken_refused taken = rw taken refl
-
   module _ (free : is_taken limits table entry.uri ≡ false) where
     pub many_refused : limits.max_docs ≤ length (after_close table entry.uri)
         → option_map refusal_fault (open_refusal limits table entry) ≡ Some TooManyDocuments
@@ -79,10 +75,6 @@ module _ (limits : LimitsData) (es : List (String Global × Stored)) (kept : Sto
   pub taken_strict : (uri : List ℕ) → limits.lenient ≡ false → is_some (lookup (at_uri uri) es)
       ≡ is_taken kept.limits kept.table uri
   taken_strict uri strict = ap (λ (lenient : Bool). not lenient && is_some (lookup (at_uri uri) es)) (sym strict)
-      ∙ taken_is uri
-
-  pub taken_never : (uri : List ℕ) → limits.lenient ≡ true → false ≡ is_taken kept.limits kept.table uri
-  taken_never uri lenient = ap (λ (lenient : Bool). not lenient && is_some (lookup (at_uri uri) es)) (sym lenient)
       ∙ taken_is uri
 
   others_seen : (uri : List ℕ) (count : ℕ) → length (after_close (map entry_of es) uri) ≡ count

@@ -1,7 +1,7 @@
 -- Units counted block by block.
 use Rattle.std.proofs.Common.{◌≡◌, ℕ, ◌+◌, ◌-◌, ◌*◌, ◌≤◌, false, List, [], ◌∷◌, ◌++◌, length, take, drop, sum_by, Option, option_map, nat_lt, sym, ap, ◌∙◌, arith, le-ltb}
 use Rattle.std.proofs.Math.Seq.{take-add}
-use Rattle.std.proofs.lemmas.List.{length-drop, length-take, length-take-le, take-append-drop, drop-drop, take_rest}
+use Rattle.std.proofs.lemmas.List.{length-drop, length-take-le, take-append-drop, drop-drop, take_rest}
 use Rattle.std.proofs.lemmas.List.Sums.{sum_by-append, sum_by-cons, sum_by-take-drop}
 use Rattle.lsp_text.specs.inside.Leads.{byte_place}
 use Rattle.lsp_text.proofs.Counting.LeadLemmas.{map_twice, map_none}
@@ -59,7 +59,3 @@ module _ (lead : ℕ → ℕ) where
       ≡ sum_by lead bytes
   blocks_all bytes block blocks units rest same before rest_after =
       grind (arith, common_steps, sum_by, sum_by-take-drop, take_rest)
-
-pub part_few : (bytes : List ℕ) (from rest : ℕ) → rest ≤ 4 * length (take (length bytes - from) (drop from bytes))
-    → rest ≤ 4 * length bytes
-part_few bytes from rest few = grind (arith, common_steps, length-take, length-drop)

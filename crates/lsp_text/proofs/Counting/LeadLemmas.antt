@@ -1,5 +1,5 @@
 -- Units counted byte by byte are those counted character by character.
-use Rattle.std.proofs.Common.{◌≡◌, ℕ, zero, suc, ◌+◌, ◌-◌, ◌/◌, ◌%◌, ◌≤◌, ◌<◌, Bool, true, false, cond, ltb, List, [], ◌∷◌, ◌++◌, length, get_or, sum_by, Option, Some, None, option_map, nat_lt, ◌==◌, refl, sym, ap, ◌∙◌, arith, ⊎_elim, leb, ◌&&◌, lt-ltb, le-ltb}
+use Rattle.std.proofs.Common.{◌≡◌, ℕ, zero, suc, ◌+◌, ◌-◌, ◌≤◌, ◌<◌, Bool, true, false, cond, ltb, List, [], ◌∷◌, ◌++◌, length, get_or, sum_by, Option, Some, None, option_map, nat_lt, ◌==◌, refl, sym, ap, ◌∙◌, arith, ⊎_elim, leb, ◌&&◌, lt-ltb, le-ltb}
 use Rattle.std.specs.Prelude.{encode_utf8_all}
 use Rattle.std.specs.Char.{len_utf8}
 use Rattle.std.proofs.Math.Utf8.{encode}
@@ -9,7 +9,6 @@ use Rattle.std.proofs.lemmas.Bool.{cases_lt, cond_both}
 use Rattle.std.proofs.lemmas.Bool.Decides.{nat_tests}
 use Rattle.std.proofs.lemmas.Str.{length-encode, len_utf8_bounds, encodes-chars}
 use Rattle.std.specs.Str.{IsUtf8, chars}
-use borrow.Author.Tests.{ltb-true, ltb-false}
 use Rattle.lsp_text.specs.Units.{units_in}
 use Rattle.lsp_text.specs.declared.encoding.Encoding.TheVariants.{Utf16}
 use Rattle.lsp_text.specs.Leads.{lead_units_utf16, lead_units_utf32}

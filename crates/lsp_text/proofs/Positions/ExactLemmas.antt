@@ -1,5 +1,5 @@
 -- The exact position of a place, by the line starts and the bytes of its line.
-use Rattle.std.proofs.Common.{◌≡◌, ℕ, zero, suc, ◌-◌, ◌≤◌, ◌<◌, List, [], ◌∷◌, length, drop, slice_index, sum_by, Some, option_map, refl, sym, ap, ◌∙◌, arith, ⊎_elim, subst}
+use Rattle.std.proofs.Common.{◌≡◌, ℕ, zero, suc, ◌-◌, ◌≤◌, ◌<◌, List, [], ◌∷◌, length, slice_index, sum_by, Some, option_map, refl, sym, ap, ◌∙◌, arith, ⊎_elim, subst}
 use Rattle.std.specs.Char.{len_utf8}
 use Rattle.std.specs.Str.{chars, IsUtf8}
 use Rattle.std.proofs.lemmas.Bool.{cases_lt}
@@ -85,16 +85,6 @@ pub front_from : (bytes lines : List ℕ) (place line k : ℕ) → AreLinesOf li
     → k ≤ length (chars bytes) → place_of (chars bytes) k ≡ place → IsFront bytes (slice_index lines line) place k
 front_from bytes lines place line k indexes found within at =
     grind (arith, common_steps, indexes_start, indexes_line, line_found)
-
-pub front_order : (bytes : List ℕ) (start place k : ℕ) → IsFront bytes start place k → start ≤ place
-front_order bytes start place k front =
-    let text = chars bytes in
-    omega (
-      arith,
-      front.start_is,
-      front.place_is,
-      place_rises text (line_start text (line_at text k)) k (start_before text k front.within) front.within,
-    )
 
 pub front_within : (bytes : List ℕ) (start place k : ℕ) → IsUtf8 bytes → IsFront bytes start place k
     → place ≤ length bytes

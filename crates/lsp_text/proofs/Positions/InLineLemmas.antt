@@ -6,7 +6,7 @@ use Rattle.std.proofs.lemmas.List.{take-take, get_or-drop}
 use Rattle.std.proofs.lemmas.List.Sums.{sum_by-cons, prefix_len_is}
 use Rattle.std.specs.List.{prefix_len}
 use Rattle.lsp_text.specs.declared.position.Position.{Position}
-use Rattle.lsp_text.specs.TextLines.{line_feed, carriage_return, starts_line, splits_crlf, line_at, line_ends, is_in_content, line_content, line_start, line_stop}
+use Rattle.lsp_text.specs.TextLines.{line_feed, carriage_return, splits_crlf, line_at, line_ends, is_in_content, line_content, line_start, line_stop}
 use Rattle.lsp_text.specs.Units.{units_between}
 use Rattle.lsp_text.specs.Positions.{denoted}
 use Rattle.lsp_text.proofs.TextLines.RowLemmas.{find_none}

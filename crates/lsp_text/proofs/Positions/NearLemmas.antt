@@ -1,5 +1,5 @@
 -- Exact positions are local: that of an index goes by the characters before it alone, where the index splits no CRLF.
-use Rattle.std.proofs.Common.{ℕ, zero, suc, ◌≡◌, ◌+◌, ◌-◌, ◌<◌, ◌≤◌, true, false, ◌||◌, List, length, take, drop, get_or, slice_index, sum_by, ◌==◌, ⊎_elim, refl, sym, ap, ◌∙◌, arith, get_or-take}
+use Rattle.std.proofs.Common.{ℕ, zero, suc, ◌≡◌, ◌+◌, ◌-◌, ◌<◌, ◌≤◌, true, false, ◌||◌, List, length, take, drop, slice_index, sum_by, ◌==◌, ⊎_elim, refl, sym, ap, ◌∙◌, arith, get_or-take}
 use Rattle.std.proofs.lemmas.Bool.{cases_eq, cases_Bool, and_cases}
 use Rattle.std.proofs.lemmas.List.{drop-take}
 use Rattle.lsp_text.specs.TextLines.{line_feed, carriage_return, starts_line, splits_crlf, line_at, is_in_content, line_start}

@@ -1,6 +1,6 @@
 -- Positions: an exact position denotes its index, and whatever a position denotes is an index of the text that splits
 -- no CRLF.
-use Rattle.std.proofs.Common.{ℕ, suc, ◌≡◌, ◌<◌, ◌≤◌, true, false, cond, List, length, ◌==◌, nat_lt, nat_le, Some, find, ⊎_elim, refl, sym, ap, ◌∙◌, arith, eqb-true, eq-eqb, le-ltb, ltb-false, le-leb}
+use Rattle.std.proofs.Common.{ℕ, suc, ◌≡◌, ◌<◌, ◌≤◌, true, false, cond, List, length, ◌==◌, nat_lt, nat_le, Some, find, ⊎_elim, refl, ap, arith, eqb-true, eq-eqb, le-ltb, ltb-false, le-leb}
 use Rattle.std.proofs.lemmas.Bool.{cases_Bool, cases_eq, lt-leb, leb-true}
 use Rattle.lsp_text.specs.declared.position.Position.{Position}
 use Rattle.lsp_text.specs.TextLines.{splits_crlf, line_at, line_ends, is_in_content, line_content, line_start, line_stop}

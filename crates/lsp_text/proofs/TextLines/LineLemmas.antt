@@ -1,8 +1,8 @@
 -- Lines: what an index's line is, where its content begins and ends, and which indexes split no CRLF.
-use Rattle.std.proofs.Common.{ℕ, zero, suc, ◌≡◌, ◌≤◌, true, false, not, ◌&&◌, List, length, slice_index, ◌==◌, ⊎_elim, refl, arith, eqb-true, eq-eqb}
+use Rattle.std.proofs.Common.{ℕ, zero, suc, ◌≡◌, ◌≤◌, true, false, not, List, length, ◌==◌, ⊎_elim, refl, arith, eqb-true, eq-eqb}
 use Rattle.std.proofs.lemmas.Bool.{cases_Bool, cases_eq, and_parts, and_from, and_right, or_cases, not-true, not_from_false}
 use Rattle.std.proofs.lemmas.List.{get_or_past}
-use Rattle.lsp_text.specs.TextLines.{line_feed, carriage_return, starts_line, splits_crlf, line_at, line_ends, is_in_content, line_start, line_stop}
+use Rattle.lsp_text.specs.TextLines.{starts_line, splits_crlf, line_at, line_ends, is_in_content, line_start, line_stop}
 use Rattle.lsp_text.proofs.TextLines.RowLemmas.{IsFirst, IsLast, first_passes, last_passes}
 use Rattle.std.proofs.lemmas.Grind.{common_steps}
 

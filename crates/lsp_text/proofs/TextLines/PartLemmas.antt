@@ -4,7 +4,7 @@ use Rattle.std.proofs.Math.Seq.{drop-cons}
 use Rattle.std.specs.List.{prefix_len}
 use Rattle.std.proofs.lemmas.List.{get_or-drop, length-take, length-drop}
 use Rattle.std.proofs.lemmas.List.Sums.{prefix_len_passes}
-use Rattle.std.proofs.lemmas.Bool.{cases_Bool, and_parts, or_cases, not-true, false≢true}
+use Rattle.std.proofs.lemmas.Bool.{cases_Bool, and_parts, or_cases, not-true}
 use Rattle.lsp_text.specs.TextLines.{line_feed, carriage_return, starts_line, splits_crlf, line_ends, line_start, line_stop}
 use Rattle.lsp_text.specs.laws.Lines.{IsLineEnd, line_end_of, LinesPart}
 use Rattle.lsp_text.proofs.TextLines.LineLemmas.{line_rises}

@@ -1,6 +1,6 @@
 -- The line starts of a text in which some bytes were replaced: those before stay, those behind move, and those between
 -- are found anew.
-use Rattle.std.proofs.Common.{◌≡◌, ℕ, zero, suc, ◌+◌, ◌-◌, ◌≤◌, ◌<◌, ◌^◌, Bool, true, false, not, ◌&&◌, ◌||◌, ◌==◌, cond, List, [], ◌∷◌, ◌++◌, length, take, drop, map, get_or, slice_index, filter, refl, sym, ap, ◌∙◌, arith, ⊎_elim, subst}
+use Rattle.std.proofs.Common.{◌≡◌, ℕ, zero, suc, ◌+◌, ◌-◌, ◌≤◌, ◌<◌, ◌^◌, Bool, true, false, not, ◌&&◌, ◌||◌, ◌==◌, List, [], ◌∷◌, ◌++◌, length, take, drop, map, get_or, slice_index, filter, refl, sym, ap, ◌∙◌, arith, ⊎_elim, subst}
 use Rattle.std.proofs.lemmas.List.{length-append, length-drop, length-take, get_or-take, get_or-drop, get_or-append_right, get_or_append_left, take_at, drop_at, append_assoc, map-id}
 use Rattle.std.proofs.lemmas.List.Elements.{filter-append}
 use Rattle.std.proofs.lemmas.Bool.{cases_lt, cases_Bool}
@@ -212,9 +212,6 @@ module _ (old bytes starts found now : List ℕ) (from to len keep past : ℕ)
   now_behind : drop (keep + length found) now ≡ drop past starts
   now_behind = ap (drop (keep + length found)) grouped ∙ drop_at (take keep starts ++ found) (drop past starts)
       (keep + length found) front_length
-
-  pub placed_first : keep + length found ≤ length now
-  placed_first = grind (arith, common_steps, grouped, length-append, front_length)
 
   behind_at : (k : ℕ) → keep + length found ≤ k → k < length now → (to < get_or now k 0) × (get_or now k 0 ≤ length old)
   behind_at k low high =

@@ -7,7 +7,6 @@ use Rattle.std.proofs.Math.Utf8.{encode}
 use Rattle.std.proofs.Math.Seq.{drop-cons}
 use Rattle.std.proofs.lemmas.List.{get_or-drop, map-id, drop_all}
 use Rattle.std.proofs.lemmas.Bool.{cases_lt, cond_both}
-use borrow.Author.Tests.{ltb-true}
 use Rattle.std.proofs.lemmas.Bool.Decides.{nat_tests}
 use Rattle.std.proofs.lemmas.Str.{encode_ascii, length-encode, len_utf8_ascii, len_utf8_bounds, encodes-chars}
 use Rattle.lsp_text.specs.Text.{place_of}

@@ -1,4 +1,4 @@
-use Rattle.std.proofs.Common.{◌≡◌, suc, true, false, sym, ap, ◌∙◌, length, find, arith}
+use Rattle.std.proofs.Common.{◌≡◌, suc, true, false, sym, ◌∙◌, length, find, arith}
 use Rattle.lsp_text.specs.TextLines.{is_in_content}
 use Rattle.lsp_text.specs.Units.{units_in}
 use Rattle.lsp_text.proofs.PlainLemmas.{row_on, find_here, find_on, has_units, has_them, has_others, denoted_found}

@@ -1,5 +1,4 @@
-use Rattle.std.proofs.Common.{◌≡◌, suc, false, sym, ap, ◌∙◌, length, arith}
-use Rattle.lsp_text.specs.TextLines.{is_in_content, first_or}
+use Rattle.std.proofs.Common.{arith}
 use Rattle.lsp_text.proofs.PlainLemmas.{row_on}
 use Rattle.lsp_text.proofs.plain.line_start.Goals as goal
 use Rattle.std.proofs.lemmas.Grind.{common_steps}

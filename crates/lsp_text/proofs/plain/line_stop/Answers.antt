@@ -1,5 +1,5 @@
-use Rattle.std.proofs.Common.{◌≡◌, suc, true, false, sym, ap, ◌∙◌, length, arith}
-use Rattle.lsp_text.specs.TextLines.{is_in_content, last_or}
+use Rattle.std.proofs.Common.{suc, length, arith}
+use Rattle.lsp_text.specs.TextLines.{is_in_content}
 use Rattle.lsp_text.proofs.PlainLemmas.{row_on, last_on}
 use Rattle.lsp_text.proofs.plain.line_stop.Goals as goal
 use Rattle.lsp_text.proofs.plain.line_stop.Goals.{then-is_in_content, else-is_in_content}

@@ -1,8 +1,4 @@
-use Rattle.std.proofs.Common.{List, ℕ, ap, arith, length, subst, sym}
-use Rattle.std.specs.List.{replace_range}
-use Rattle.std.specs.Str.{IsCharBoundary}
-use Rattle.lsp_text.specs.Units.{units_in}
-use Rattle.lsp_edit.specs.Delta.{IsOn, IsPut}
+use Rattle.std.proofs.Common.{arith}
 use Rattle.lsp_edit.proofs.Deltas.DeltaLemmas.{put_len, put_order, put_start, put_stop}
 use Rattle.lsp_edit.proofs.indexed.IndexedText.apply.Goals as goal
 use Rattle.std.proofs.lemmas.Grind.{common_steps}

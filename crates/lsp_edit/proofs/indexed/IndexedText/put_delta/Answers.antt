@@ -1,4 +1,4 @@
-use Rattle.std.proofs.Common.{◌≡◌, refl, length, IsUtf8, ap, inr, subst, arith, Ok}
+use Rattle.std.proofs.Common.{◌≡◌, refl, IsUtf8, inr, subst, arith, Ok}
 use Rattle.std.proofs.lemmas.Result.{err_from_is_err_and}
 use Rattle.std.specs.Str.{chars}
 use Rattle.lsp_text.specs.Units.{units_in}

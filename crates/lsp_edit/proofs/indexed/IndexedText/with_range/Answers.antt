@@ -3,7 +3,7 @@ use Rattle.std.proofs.lemmas.Result.{err_from_is_err_and}
 use Rattle.std.specs.List.{replace_range}
 use Rattle.std.specs.Str.{IsCharBoundary, chars}
 use Rattle.lsp_text.specs.Units.{units_in}
-use Rattle.lsp_edit.proofs.Batches.TextBatchLemmas.{ends_at, is_ranged, range_faulted}
+use Rattle.lsp_edit.proofs.Batches.TextBatchLemmas.{is_ranged, range_faulted}
 use Rattle.lsp_edit.proofs.Composing.AppliedLemmas.{places_seen}
 use Rattle.lsp_edit.proofs.indexed.IndexedText.with_range.Goals as goal
 

@@ -1,7 +1,7 @@
 use Rattle.std.proofs.Common.{ap, ◌∙◌}
 use Rattle.lsp_edit.specs.Joined.{JoinedData}
 use Rattle.lsp_edit.specs.Parts.{parts_of}
-use Rattle.lsp_edit.proofs.Deltas.LayerLemmas.{folded_end, folded_next, folded_order, folded_start, folded_through, rows_rest}
+use Rattle.lsp_edit.proofs.Deltas.LayerLemmas.{folded_next, folded_order, folded_start, folded_through, rows_rest}
 use Rattle.lsp_edit.proofs.Canonical.GapLemmas.{ends_exact}
 use Rattle.lsp_edit.proofs.joined.Joined.canonical.Goals as goal
 

@@ -1,15 +1,14 @@
-use Rattle.std.proofs.Common.{◌≡◌, ◌+◌, ℕ, List, Ok, length, map, sum_by, string_len, sym, ap, subst, ◌∙◌, arith, rules}
+use Rattle.std.proofs.Common.{◌≡◌, ◌+◌, ℕ, List, Ok, map, sum_by, string_len, sym, ap, ◌∙◌, arith}
 use Rattle.std.specs.Slice.Iter.{chunks_rest}
 use Rattle.std.specs.Str.{chars}
-use Rattle.std.proofs.lemmas.List.{map-append, nil_from_length}
+use Rattle.std.proofs.lemmas.List.{map-append}
 use Rattle.std.proofs.lemmas.List.Sums.{sum_by-append}
 use Rattle.lsp_text.specs.Units.{units_in}
 use Rattle.lsp_edit.specs.declared.change.Change.{Change}
 use Rattle.lsp_edit.specs.Batch.{ContentChange, meaning}
 use Rattle.lsp_edit.specs.Edited.{content_change}
 use Rattle.lsp_edit.specs.Indexed.{text_within}
-use Rattle.lsp_edit.specs.Joined.{IsReached}
-use Rattle.lsp_edit.proofs.Deltas.SeriesLemmas.{IsSeries, series_begins, series_ends, series_next}
+use Rattle.lsp_edit.proofs.Deltas.SeriesLemmas.{series_next}
 use Rattle.lsp_edit.proofs.joined.Joined.of_batch.Goals as goal
 
 pub loop-series-preserved : goal.loop-series-preserved

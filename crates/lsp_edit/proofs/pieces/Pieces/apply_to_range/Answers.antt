@@ -1,13 +1,12 @@
 use Rattle.std.proofs.Common.{◌≡◌, ℕ, Some, Result, Ok, subst, sym}
 use Rattle.std.specs.Str.{chars}
-use Rattle.std.proofs.lemmas.Result.{err_from_is_err_and}
 use Rattle.lsp_text.specs.Units.{units_in}
 use Rattle.lsp_edit.specs.declared.fault.EditFault.{EditFault}
 use Rattle.lsp_edit.specs.Batch.{ends_of}
 use Rattle.lsp_edit.specs.Edited.{Applied, PiecesData, edited_text}
 use Rattle.lsp_edit.specs.Faults.{places_at}
 use Rattle.lsp_edit.specs.inside.Faults.{HasRange}
-use Rattle.lsp_edit.proofs.Composing.AppliedLemmas.{fault_told, places_found}
+use Rattle.lsp_edit.proofs.Composing.AppliedLemmas.{places_found}
 use Rattle.lsp_edit.proofs.pieces.Pieces.apply_to_range.Goals as goal
 
 pub put-requires-clause-ends : goal.put-requires-clause-ends

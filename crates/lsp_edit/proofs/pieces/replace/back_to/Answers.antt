@@ -1,5 +1,5 @@
 use Rattle.std.proofs.Common.{◌-◌, arith}
-use Rattle.lsp_edit.proofs.Parts.MarkLemmas.{mark_before, span_ordered}
+use Rattle.lsp_edit.proofs.Parts.MarkLemmas.{span_ordered}
 use Rattle.lsp_edit.proofs.pieces.replace.back_to.Goals as goal
 use Rattle.std.proofs.lemmas.Grind.{common_steps}
 

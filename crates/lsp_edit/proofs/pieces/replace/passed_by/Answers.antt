@@ -1,6 +1,5 @@
-use Rattle.std.proofs.Common.{◌-◌, arith}
-use Rattle.lsp_edit.proofs.Parts.PassingLemmas.{span_passing}
-use Rattle.lsp_edit.proofs.Parts.MarkLemmas.{behind_at, mark_next, mark_passing, span_ordered}
+use Rattle.std.proofs.Common.{◌-◌}
+use Rattle.lsp_edit.proofs.Parts.MarkLemmas.{mark_passing}
 use Rattle.lsp_edit.proofs.pieces.replace.passed_by.Goals as goal
 
 pub loop-next-init : goal.loop-next-init

@@ -1,6 +1,6 @@
 use Rattle.std.proofs.Common.{ℕ, ◌++◌, ◌-◌, ◌+◌, take, drop, ap, ◌∙◌, arith}
-use Rattle.lsp_edit.proofs.Parts.PassingLemmas.{rest_all, drop_ordered, first_cut}
-use Rattle.lsp_edit.proofs.Parts.SpansLemmas.{drained_is, mark_stays, replaced_spans}
+use Rattle.lsp_edit.proofs.Parts.PassingLemmas.{rest_all, drop_ordered}
+use Rattle.lsp_edit.proofs.Parts.SpansLemmas.{drained_is, replaced_spans}
 use Rattle.lsp_edit.proofs.pieces.replace.replace.Goals as goal
 use Rattle.std.proofs.lemmas.Grind.{common_steps}
 

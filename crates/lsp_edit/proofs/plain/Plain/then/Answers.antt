@@ -4,7 +4,7 @@ use Rattle.lsp_edit.specs.Batch.{meaning}
 use Rattle.lsp_edit.specs.Compose.{then_items}
 use Rattle.lsp_edit.specs.Plain.{ArePlain, items_in_order}
 use Rattle.lsp_edit.proofs.Batches.ComposeLemmas.{then_means, then_associative}
-use Rattle.lsp_edit.proofs.Batches.PlainLemmas.{over_plain, then_plain, then_told}
+use Rattle.lsp_edit.proofs.Batches.PlainLemmas.{over_plain, then_plain}
 use Rattle.lsp_edit.proofs.plain.Plain.then.Goals as goal
 
 pub invariant_of-result : goal.invariant_of-result

@@ -1,4 +1,4 @@
-use Rattle.std.proofs.Common.{◌≡◌, ◌+◌, take, length, ap, arith}
+use Rattle.std.proofs.Common.{◌≡◌, ◌+◌, take, length, arith}
 use Rattle.std.proofs.lemmas.List.{length-take}
 use Rattle.lsp_frame.proofs.FrameLemmas.{body_frame}
 use Rattle.lsp_frame.proofs.WrittenHeaderLemmas.{written_in_body}

@@ -1,4 +1,4 @@
-use Rattle.std.proofs.Common.{ap, length, arith}
+use Rattle.std.proofs.Common.{arith}
 use Rattle.lsp_text.proofs.TextLines.IndexesLemmas.{indexes_count}
 use Rattle.lsp_text.proofs.lines.Lines.count.Goals as goal
 use Rattle.std.proofs.lemmas.Grind.{common_steps}

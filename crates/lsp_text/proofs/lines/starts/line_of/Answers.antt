@@ -1,4 +1,4 @@
-use Rattle.std.proofs.Common.{◌∙◌, arith, ℕ, ◌<◌, ◌^◌, length}
+use Rattle.std.proofs.Common.{◌∙◌, arith}
 use Rattle.lsp_text.proofs.TextLines.SearchLemmas.{looks_one, looked_low, looked_high}
 use Rattle.lsp_text.proofs.lines.starts.line_of.Goals as goal
 use Rattle.std.proofs.lemmas.Grind.{common_steps}

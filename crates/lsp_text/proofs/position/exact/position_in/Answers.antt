@@ -1,5 +1,5 @@
-use Rattle.std.proofs.Common.{length, slice_index, ap, arith}
-use Rattle.lsp_text.proofs.Positions.ExactLemmas.{indexes_are, indexes_few, front_found, front_order, front_within, front_utf8, front_few, part_short, exact_is, exact_resolves}
+use Rattle.std.proofs.Common.{slice_index, arith}
+use Rattle.lsp_text.proofs.Positions.ExactLemmas.{indexes_are, indexes_few, front_found, front_within, front_utf8, front_few, part_short, exact_is, exact_resolves}
 use Rattle.std.specs.Str.{chars}
 use Rattle.lsp_text.proofs.position.exact.position_in.Goals as goal
 use Rattle.std.proofs.lemmas.Grind.{common_steps}

@@ -1,5 +1,5 @@
-use Rattle.std.proofs.Common.{◌≡◌, ◌/◌, length, arith}
-use Rattle.lsp_text.proofs.Counting.BlockLemmas.{block_more, blocks_all, part_few}
+use Rattle.std.proofs.Common.{arith}
+use Rattle.lsp_text.proofs.Counting.BlockLemmas.{block_more, blocks_all}
 use Rattle.lsp_text.proofs.position.in_line.units_of_bytes.Goals as goal
 use Rattle.std.proofs.lemmas.Grind.{common_steps}
 

@@ -1,4 +1,4 @@
-use Rattle.std.proofs.Common.{◌∙◌, arith}
+use Rattle.std.proofs.Common.{arith}
 use Rattle.lsp_text.proofs.TextLines.IndexesLemmas.{indexes_line, indexes_start, indexes_last, indexes_next}
 use Rattle.lsp_text.proofs.position.resolve.content.Goals as goal
 use Rattle.std.proofs.lemmas.Grind.{common_steps}
