@@ -1,13 +1,9 @@
-use Rattle.std.proofs.Common.{◌≡◌, ◌∙◌, ap, sym, rules, w32, to_z, of_z, Err}
+use Rattle.std.proofs.Common.{◌≡◌, ◌∙◌, ap, sym, rules, w32, to_z, of_z}
 use Rattle.std.proofs.lemmas.Int.{to_z-of_z}
 use Rattle.std.proofs.lemmas.Result.{err_from_is_err_and}
 use Rattle.lsp_client.specs.Step.{ClientData}
 use Rattle.lsp_client.specs.Seen.{open_order}
 use Rattle.lsp_client.proofs.SentLemmas.{order_fault}
-use Rattle.lsp_store.specs.declared.fault.StoreFault.TheVariants as store_faults
-use Rattle.lsp_client.specs.declared.fault.ClientFault.TheVariants.{NoMemory}
-use Rattle.lsp_client.specs.Seen.{client_fault}
-use Rattle.lsp_client.proofs.OrderLemmas.{client_no_memory}
 use Rattle.lsp_client.proofs.client.Client.open.Goals as goal
 
 pub returns-in_err-send_open-in-Ready-clause-error : goal.returns-in_err-send_open-in-Ready-clause-error
@@ -18,16 +14,3 @@ returns-in_err-send_open-in-Ready-clause-error c =
     (order_fault c.args.self.now (open_order c.args.uri c.args.language c.args.version c.args.text)
     c.in_err-send_open-in-Ready.field-0.0 (sym (ap (λ (x : ClientData). x.phase) c.self.view_is) ∙ c.in-Ready.is)
     (rw version at c.in_err-send_open-in-Ready.ensures.error))
-
-pub returns-in_err-send_open-in-Ready-clause-memory : goal.returns-in_err-send_open-in-Ready-clause-memory
-returns-in_err-send_open-in-Ready-clause-memory c = λ e.
-    let version : to_z w32 (of_z w32 c.args.version) ≡ c.args.version = to_z-of_z w32 c.args.version (search rules) in
-    let p = err_from_is_err_and c.from_residual.result c.from_residual.ensures.1 in
-    let converted = p.1 in
-    let same = p.2 in
-    let was = c.in_err-send_open-in-Ready.was in
-    let given : client_fault c.in_err-send_open-in-Ready.field-0.0 ≡ NoMemory = cc in
-    let fault : c.in_err-send_open-in-Ready.field-0.0 ≡ store_faults.NoMemory =
-    client_no_memory c.in_err-send_open-in-Ready.field-0.0 given in
-    let no_memory : c.send_open.result ≡ Err store_faults.NoMemory = cc in
-    (sym (ap (λ (x : ClientData). x.phase) c.self.view_is) ∙ c.in-Ready.is, c.send_open.ensures.memory no_memory)

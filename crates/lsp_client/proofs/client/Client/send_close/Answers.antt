@@ -30,21 +30,3 @@ returns-clause-ok c =
     c.self.view_is c.in_ok-close.ensures.taken
     (body_within c.limits.result s.limits _ _ limits body c.in_ok-frame.ensures.within)
     (c.in_ok-frame.ensures.ok ∙ ap frame body)
-
-pub returns-in_err-from_str-clause-memory : goal.returns-in_err-from_str-clause-memory
-returns-in_err-from_str-clause-memory c = λ e.
-    let s : ClientData = c.args.self.now in
-    may_close s.limits s.table c.args.uri.now c.in-Some.field-0 (sym c.in-Some.is ∙ c.get.ensures
-    ∙ ap (λ (x : ClientData). entry_at x.table c.args.uri.now) c.self.view_is)
-
-pub returns-in_err-frame-clause-memory : goal.returns-in_err-frame-clause-memory
-returns-in_err-frame-clause-memory c = λ e.
-    let s : ClientData = c.args.self.now in
-    may_close s.limits s.table c.args.uri.now c.in-Some.field-0 (sym c.in-Some.is ∙ c.get.ensures
-    ∙ ap (λ (x : ClientData). entry_at x.table c.args.uri.now) c.self.view_is)
-
-pub returns-in_err-close-clause-memory : goal.returns-in_err-close-clause-memory
-returns-in_err-close-clause-memory c = λ e.
-    let s : ClientData = c.args.self.now in
-    may_close s.limits s.table c.args.uri.now c.in-Some.field-0 (sym c.in-Some.is ∙ c.get.ensures
-    ∙ ap (λ (x : ClientData). entry_at x.table c.args.uri.now) c.self.view_is)

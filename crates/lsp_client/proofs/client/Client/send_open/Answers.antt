@@ -1,4 +1,4 @@
-use Rattle.std.proofs.Common.{◌≡◌, ◌∙◌, ap, sym, None, string_bytes, rules, w32, to_z, of_z, inr, refl, Err}
+use Rattle.std.proofs.Common.{◌≡◌, ◌∙◌, ap, sym, None, string_bytes, rules, w32, to_z, of_z, inr, refl}
 use Rattle.std.proofs.lemmas.Int.{to_z-of_z}
 use Rattle.std.proofs.lemmas.Result.{err_from_is_err_and}
 use Rattle.lsp_frame.specs.Frame.{frame}
@@ -10,7 +10,6 @@ use Rattle.lsp_store.specs.Table.{Command, command_refusal}
 use Rattle.lsp_client.specs.Step.{ClientData, agreement}
 use Rattle.lsp_client.proofs.OrderLemmas.{refused_first, some_same}
 use Rattle.lsp_client.proofs.SentLemmas.{order_sent, open_sent, long_refused, body_within}
-use Rattle.lsp_store.specs.declared.fault.StoreFault.TheVariants as store_faults
 use Rattle.lsp_client.proofs.client.Client.send_open.Goals as goal
 
 pub returns-in_err-check_open-clause-error : goal.returns-in_err-check_open-clause-error
@@ -85,26 +84,8 @@ returns-clause-ok c =
     (body_within c.limits.result s.limits _ _ limits body (rw version at c.in_ok-frame.ensures.within))
     ((rw version at c.in_ok-frame.ensures.ok) ∙ ap frame body)
 
-pub returns-in_err-check_open-clause-memory : goal.returns-in_err-check_open-clause-memory
-returns-in_err-check_open-clause-memory c = λ e.
-    let p = err_from_is_err_and c.from_residual.result c.from_residual.ensures.1 in
-    let converted = p.1 in
-    let same = p.2 in
-    let was = c.in_err-check_open.was in
-    let no_memory : c.check_open.result ≡ Err store_faults.NoMemory = cc in
-    absurd (c.check_open.ensures.memory no_memory)
-
 pub returns-in_err-frame-clause-memory : goal.returns-in_err-frame-clause-memory
 returns-in_err-frame-clause-memory c = λ e.
-    rw (
-      c.deref.ensures,
-      c.deref-2.ensures,
-      ap (λ (x : ClientData). x.limits) c.self.view_is,
-      ap (λ (x : ClientData). x.table) c.self.view_is,
-    ) at (c.in_ok-check_open.ensures.may (string_bytes c.args.language) c.args.version)
-
-pub returns-in_err-open-clause-memory : goal.returns-in_err-open-clause-memory
-returns-in_err-open-clause-memory c = λ e.
     rw (
       c.deref.ensures,
       c.deref-2.ensures,

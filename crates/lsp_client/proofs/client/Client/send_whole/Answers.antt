@@ -1,4 +1,4 @@
-use Rattle.std.proofs.Common.{◌≡◌, ◌∙◌, ap, map, rules, w32, to_z, of_z, string_bytes, None, Err}
+use Rattle.std.proofs.Common.{◌≡◌, ◌∙◌, ap, map, rules, w32, to_z, of_z, string_bytes, None}
 use Rattle.std.proofs.lemmas.Int.{to_z-of_z}
 use Rattle.std.proofs.lemmas.Result.{err_from_is_err_and}
 use Rattle.lsp_frame.specs.Frame.{frame}
@@ -10,7 +10,6 @@ use Rattle.lsp_client.specs.inside.Orders.{whole_change}
 use Rattle.lsp_client.proofs.OrderLemmas.{refused_first}
 use Rattle.lsp_client.proofs.WholeLemmas.{planned_whole}
 use Rattle.lsp_client.proofs.SentLemmas.{order_sent, long_refused, body_within, whole_sent}
-use Rattle.lsp_store.specs.declared.fault.StoreFault.TheVariants as store_faults
 use Rattle.lsp_client.proofs.client.Client.send_whole.Goals as goal
 
 pub returns-in_err-plan-clause-error : goal.returns-in_err-plan-clause-error
@@ -71,39 +70,3 @@ returns-clause-ok c =
     (body_within c.limits.result s.limits _ _ (c.limits.ensures ∙ limits) body
     (rw version at c.in_ok-frame.ensures.within))
     ((rw version at c.in_ok-frame.ensures.ok) ∙ ap frame body)
-
-pub returns-in_err-plan-clause-memory : goal.returns-in_err-plan-clause-memory
-returns-in_err-plan-clause-memory c = λ e.
-    let version : to_z w32 (of_z w32 c.args.version) ≡ c.args.version = to_z-of_z w32 c.args.version (search rules) in
-    let limits = ap (λ (x : ClientData). x.limits) c.self.view_is in
-    let table = ap (λ (x : ClientData). x.table) c.self.view_is in
-    let p = err_from_is_err_and c.from_residual.result c.from_residual.ensures.1 in
-    let converted = p.1 in
-    let same = p.2 in
-    let was = c.in_err-plan.was in
-    let no_memory : c.plan.result ≡ Err store_faults.NoMemory = cc in
-    rw (version, limits, table) at (c.plan.ensures.memory no_memory)
-
-pub returns-in_err-text-clause-memory : goal.returns-in_err-text-clause-memory
-returns-in_err-text-clause-memory c = λ e.
-    let version : to_z w32 (of_z w32 c.args.version) ≡ c.args.version = to_z-of_z w32 c.args.version (search rules) in
-    let limits = ap (λ (x : ClientData). x.limits) c.self.view_is in
-    let table = ap (λ (x : ClientData). x.table) c.self.view_is in
-    let left = c.in_ok-plan.ensures.planned.left in
-    rw (version, limits, table) at left
-
-pub returns-in_err-frame-clause-memory : goal.returns-in_err-frame-clause-memory
-returns-in_err-frame-clause-memory c = λ e.
-    let version : to_z w32 (of_z w32 c.args.version) ≡ c.args.version = to_z-of_z w32 c.args.version (search rules) in
-    let limits = ap (λ (x : ClientData). x.limits) c.self.view_is in
-    let table = ap (λ (x : ClientData). x.table) c.self.view_is in
-    let left = c.in_ok-plan.ensures.planned.left in
-    rw (version, limits, table) at left
-
-pub returns-in_err-apply-clause-memory : goal.returns-in_err-apply-clause-memory
-returns-in_err-apply-clause-memory c = λ e.
-    let version : to_z w32 (of_z w32 c.args.version) ≡ c.args.version = to_z-of_z w32 c.args.version (search rules) in
-    let limits = ap (λ (x : ClientData). x.limits) c.self.view_is in
-    let table = ap (λ (x : ClientData). x.table) c.self.view_is in
-    let left = c.in_ok-plan.ensures.planned.left in
-    rw (version, limits, table) at left
