@@ -1,10 +1,11 @@
 -- Counts of blocks, as slots change.
-use Rattle.std.proofs.Common.{◌≡◌, ◌≤◌, ◌<◌, ◌+◌, ◌-◌, ◌*◌, ◌/◌, ℕ, List, [], ◌∷◌, ◌++◌, length, set, min, slice_get, slice_index, Option, Some, None, refl, arith, ⊎_elim}
+use Rattle.std.proofs.Common.{◌≡◌, ◌≤◌, ◌<◌, ◌+◌, ◌-◌, ◌*◌, ◌/◌, ℕ, List, [], ◌∷◌, ◌++◌, length, set, min, slice_get, slice_index, Option, Some, None, arith, ⊎_elim}
 use Rattle.std.proofs.lemmas.List.{length-append, length-set, get_or-set_same, get_or-set_other, get_or_append_left, get_or_push}
 use Rattle.std.proofs.lemmas.Bool.{cases_eq, cases_lt, le-ltb, lt-ltb}
 use Rattle.std.proofs.lemmas.Option.{slice_get_within}
 use Rattle.ordered_map.specs.inside.Slots.{AreCounted, counted_last, live_to, somes}
 use Rattle.ordered_map.proofs.SlotLemmas.{live_next, live_gap, live_past, live_rises, live_within, live_taken_after, live_taken_before, live_put_before, live_put_after, live_all}
+use Rattle.std.proofs.lemmas.Grind.{common_steps}
 
 module _ {X : Type 0} where
   -- a count fits among the items
@@ -22,17 +23,7 @@ module _ {X : Type 0} where
   pub block_begins : (items : List (Option X)) (counts : List ℕ) (block : ℕ) → AreCounted items counts
       → block < length counts → 0 < slice_index counts block → 256 * block < length items
   block_begins items counts block counted within some =
-      ⊎_elim
-      (λ (is : 256 * block < length items). is)
-      (λ (past : length items ≤ 256 * block).
-      absurd (omega (
-        arith,
-        counted.each block within,
-        live_past items (256 * block) past,
-        live_past items (256 * (block + 1)) (omega (arith, past)),
-        some,
-      )))
-      (cases_lt (256 * block) (length items))
+      grind (arith, common_steps, live_past, cases_lt)
 
   -- each slot is in a block
   pub block_within : (items : List (Option X)) (counts : List ℕ) (slot : ℕ) → AreCounted items counts
@@ -66,12 +57,7 @@ module _ {X : Type 0} where
       let block_is : slot / 256 < length counts = block_within items counts slot counted within in
       let some : 0 < slice_index counts (slot / 256) = block_has items counts slot item counted at in
       record {
-        enough = omega (
-          arith,
-          counted.enough,
-          length-set items slot None,
-          length-set counts (slot / 256) (slice_index counts (slot / 256) - 1),
-        );
+        enough = grind (arith, common_steps, length-set);
         each = λ block fits.
             let fits_before : block < length counts =
             omega (arith, fits, length-set counts (slot / 256) (slice_index counts (slot / 256) - 1)) in
@@ -79,33 +65,14 @@ module _ {X : Type 0} where
             counted.each block fits_before in
             ⊎_elim
             (λ (same : block ≡ slot / 256).
-            let count : slice_index (set counts (slot / 256) (slice_index counts (slot / 256) - 1)) (slot / 256)
-            ≡ slice_index counts (slot / 256) - 1
-            = get_or-set_same counts (slot / 256) (slice_index counts (slot / 256) - 1) 0 block_is in
-            let was_here : live_to items (256 * (slot / 256 + 1)) ≡ live_to items (256 * (slot / 256)) + slice_index
-            counts (slot / 256) = counted.each (slot / 256) block_is in
-            rw same
-            (omega (
-              arith,
-              count,
-              was_here,
-              some,
-              live_taken_after items slot item (256 * (slot / 256 + 1)) at (omega arith),
-              live_taken_before items slot (256 * (slot / 256)) (omega arith),
-            )))
+            grind (arith, common_steps, get_or-set_same, live_taken_after, live_taken_before))
             (λ (other : block ≡ slot / 256 → ⊥).
             let count : slice_index (set counts (slot / 256) (slice_index counts (slot / 256) - 1)) block
             ≡ slice_index counts block
             = get_or-set_other counts (slot / 256) block (slice_index counts (slot / 256) - 1) 0 other in
             ⊎_elim
             (λ (before : block < slot / 256).
-            omega (
-              arith,
-              count,
-              was,
-              live_taken_before items slot (256 * (block + 1)) (omega (arith, before)),
-              live_taken_before items slot (256 * block) (omega (arith, before)),
-            ))
+            grind (arith, common_steps, live_taken_before))
             (λ (after : slot / 256 ≤ block).
             let later : slot / 256 < block = omega (arith, after, other) in
             omega (
@@ -126,125 +93,49 @@ module _ {X : Type 0} where
       → AreCounted (items ++ Some item ∷ [])
       (set counts (length items / 256) (slice_index counts (length items / 256) + 1))
   put_counted items counts item counted block_is =
-      record {
-        enough = omega (
-          arith,
-          block_is,
-          length-append items (Some item ∷ []),
-          length-set counts (length items / 256) (slice_index counts (length items / 256) + 1),
-        );
-        each = λ block fits.
-            let fits_before : block < length counts =
-            omega (arith, fits, length-set counts (length items / 256) (slice_index counts (length items / 256) + 1)) in
-            let was : live_to items (256 * (block + 1)) ≡ live_to items (256 * block) + slice_index counts block =
-            counted.each block fits_before in
-            ⊎_elim
-            (λ (same : block ≡ length items / 256).
-            let count : slice_index (set counts (length items / 256) (slice_index counts (length items / 256) + 1))
-            (length items / 256) ≡ slice_index counts (length items / 256) + 1
-            = get_or-set_same counts (length items / 256) (slice_index counts (length items / 256) + 1) 0 block_is in
-            let was_here : live_to items (256 * (length items / 256 + 1)) ≡ live_to items (256 * (length items / 256))
-            + slice_index counts (length items / 256) = counted.each (length items / 256) block_is in
-            rw same
-            (omega (
-              arith,
-              count,
-              was_here,
-              live_put_after items item (256 * (length items / 256 + 1)) (omega arith),
-              live_put_before items (Some item) (256 * (length items / 256)) (omega arith),
-            )))
-            (λ (other : block ≡ length items / 256 → ⊥).
-            let count : slice_index (set counts (length items / 256) (slice_index counts (length items / 256) + 1))
-            block ≡ slice_index counts block
-            = get_or-set_other counts (length items / 256) block (slice_index counts (length items / 256) + 1) 0
-            other in
-            ⊎_elim
-            (λ (before : block < length items / 256).
-            omega (
-              arith,
-              count,
-              was,
-              live_put_before items (Some item) (256 * (block + 1)) (omega (arith, before)),
-              live_put_before items (Some item) (256 * block) (omega (arith, before)),
-            ))
-            (λ (after : length items / 256 ≤ block).
-            let later : length items / 256 < block = omega (arith, after, other) in
-            omega (
-              arith,
-              count,
-              was,
-              live_put_after items item (256 * (block + 1)) (omega (arith, later)),
-              live_put_after items item (256 * block) (omega (arith, later)),
-            ))
-            (cases_lt block (length items / 256)))
-            (cases_eq block (length items / 256));
-      }
+      grind (
+        arith,
+        common_steps,
+        length-append,
+        length-set,
+        get_or-set_same,
+        live_put_after,
+        live_put_before,
+        get_or-set_other,
+        cases_lt,
+        cases_eq,
+      )
 
   pub put_counted_new : (items : List (Option X)) (counts : List ℕ) (item : X) → AreCounted items counts
       → length counts ≤ length items / 256 → AreCounted (items ++ Some item ∷ []) (counts ++ 1 ∷ [])
   put_counted_new items counts item counted full =
-      let len : length items ≡ 256 * length counts = omega (arith, counted.enough, full) in
-      record {
-        enough = omega (arith, len, length-append items (Some item ∷ []), length-append counts (1 ∷ []));
-        each = λ block fits.
-            ⊎_elim
-            (λ (before : block < length counts).
-            let count : slice_index (counts ++ 1 ∷ []) block ≡ slice_index counts block =
-            get_or_append_left counts (1 ∷ []) 0 block before in
-            omega (
-              arith,
-              count,
-              counted.each block before,
-              live_put_before items (Some item) (256 * (block + 1)) (omega (arith, before, len)),
-              live_put_before items (Some item) (256 * block) (omega (arith, before, len)),
-            ))
-            (λ (after : length counts ≤ block).
-            let last : block ≡ length counts = omega (arith, after, fits, length-append counts (1 ∷ [])) in
-            let count : slice_index (counts ++ 1 ∷ []) (length counts) ≡ 1 =
-            get_or_push counts 1 0 (length counts) refl in
-            rw last
-            (omega (
-              arith,
-              count,
-              live_put_after items item (256 * (length counts + 1)) (omega (arith, len)),
-              live_put_before items (Some item) (256 * length counts) (omega (arith, len)),
-              live_past items (256 * (length counts + 1)) (omega (arith, len)),
-              live_past items (256 * length counts) (omega (arith, len)),
-            )))
-            (cases_lt block (length counts));
-      }
+      grind (
+        arith,
+        common_steps,
+        length-append,
+        get_or_append_left,
+        live_put_before,
+        get_or_push,
+        live_put_after,
+        live_past,
+        cases_lt,
+      )
 
   -- ---- each slot has an item
 
   live_min : (items : List (Option X)) (bound : ℕ) → length (somes items) ≡ length items → live_to items bound
       ≡ min bound (length items)
   live_min items bound all =
-      ⊎_elim
-      (λ (within : bound < length items). omega (arith, within, live_all items bound all (omega (arith, within))))
-      (λ (past : length items ≤ bound). omega (arith, past, all, live_past items bound past))
-      (cases_lt bound (length items))
+      grind (arith, common_steps, live_all, live_past, cases_lt)
 
   pub all_counted : (items : List (Option X)) (counts : List ℕ) → length (somes items) ≡ length items
       → length items ≤ 256 * length counts
       → ((block : ℕ) → block < length counts → slice_index counts block ≡ min 256 (length items - 256 * block))
       → AreCounted items counts
   all_counted items counts all enough are =
-      record {
-        enough = enough;
-        each = λ block fits. omega (
-          arith,
-          are block fits,
-          live_min items (256 * (block + 1)) all,
-          live_min items (256 * block) all,
-        );
-      }
+      grind (arith, common_steps, live_min)
 
   pub last_counted : (items : List (Option X)) (counts : List ℕ) (item : X) → AreCounted items counts
       → AreCounted (items ++ Some item ∷ []) (counted_last counts (length items))
   last_counted items counts item counted =
-      ⊎_elim
-      (λ (within : length items / 256 < length counts).
-      rw (lt-ltb (length items / 256) (length counts) within) (put_counted items counts item counted within))
-      (λ (past : length counts ≤ length items / 256).
-      rw (le-ltb (length items / 256) (length counts) past) (put_counted_new items counts item counted past))
-      (cases_lt (length items / 256) (length counts))
+      grind (arith, common_steps, lt-ltb, put_counted, le-ltb, put_counted_new, cases_lt)

@@ -11,6 +11,7 @@ use Rattle.ordered_map.specs.Entries.{is_key}
 use Rattle.ordered_map.specs.inside.Slots.{has_key, live_to, somes}
 use Rattle.ordered_map.proofs.PositionLemmas.{none_passes}
 use Rattle.ordered_map.proofs.SlotLemmas.{somes_at}
+use Rattle.std.proofs.lemmas.Grind.{common_steps}
 
 module _ {V : Type 0} (bytes : List ℕ) where
   -- What is found of a key whose entry is in a slot.
@@ -71,8 +72,7 @@ module _ {V : Type 0} (bytes : List ℕ) where
   pub found : (items : List (Option (String Global × V))) (slot : ℕ) → position (has_key bytes) items ≡ Some slot
       → IsFound items slot
   found items slot is =
-      let first = position-Some (has_key bytes) items slot None is in
-      by_slot items slot first.0 first.1 first.2
+      grind (arith, common_steps, position-Some, by_slot)
 
   -- What is found where no slot has an entry of the key.
   pub record IsMissing (entries : List (String Global × V)) : Type 0 where
@@ -106,13 +106,7 @@ module _ {V : Type 0} (bytes : List ℕ) where
   pub position_found : (items : List (Option (String Global × V))) (slot : ℕ) → IsFound items slot
       → position (is_key bytes) (keys_of (somes items)) ≡ Some (live_to items slot)
   position_found items slot is =
-      let within : live_to items slot < length (keys_of (somes items)) =
-      omega (
-        arith,
-        slice_get_within (somes items) (live_to items slot) is.entry (somes_at items slot is.entry is.at),
-        length-keys_of (somes items),
-      ) in
-      rw (is.index, lt-ltb (live_to items slot) (length (keys_of (somes items))) within) refl
+      grind (arith, common_steps, slice_get_within, somes_at, length-keys_of, lt-ltb)
 
   pub position_missing : (entries : List (String Global × V)) → IsMissing entries
       → position (is_key bytes) (keys_of entries) ≡ None

@@ -1,5 +1,5 @@
 -- Keys of slots, and the entries that they find.
-use Rattle.std.proofs.Common.{◌≡◌, ◌≤◌, ◌<◌, ◌+◌, ◌-◌, ℕ, zero, suc, Bool, true, false, List, [], ◌∷◌, ◌++◌, length, map, filter, set, get_or, slice_get, take, position, is_some, option_map, Option, Some, None, String, string_bytes, string_eq, refl, sym, ap, ◌∙◌, subst, arith, true≢false, ⊎_elim}
+use Rattle.std.proofs.Common.{◌≡◌, ◌≤◌, ◌<◌, ◌+◌, ◌-◌, ℕ, zero, suc, Bool, true, false, List, [], ◌∷◌, ◌++◌, length, map, filter, set, get_or, slice_get, position, is_some, option_map, Option, Some, None, String, string_bytes, string_eq, refl, sym, ap, ◌∙◌, subst, arith, true≢false, ⊎_elim}
 use Rattle.std.proofs.Math.Seq.{take-append_seam}
 use Rattle.std.proofs.lemmas.Bool.{cases_Bool, cases_eq, cases_lt}
 use Rattle.std.proofs.lemmas.List.{get_or_push, length-map, length-set, length_push, map-append, map-set, set-append_left, set-get_or}
@@ -15,18 +15,13 @@ use Rattle.indexmap.specs.IndexMap.{set_value_at}
 use Rattle.ordered_map.specs.Entries.{is_key, slot_entry}
 use Rattle.ordered_map.specs.inside.Slots.{IsOnly, has_key, vacated, with_value_in}
 use Rattle.ordered_map.proofs.PositionLemmas.{none_within, position_is, position_none}
+use Rattle.std.proofs.lemmas.Grind.{common_steps}
 
 -- the last item takes the place of another
 swap_removed : {X : Type 0} (slots : List X) (slot : ℕ) (last default : X) → slot < length slots
     → swap_remove (slots ++ last ∷ []) slot default ≡ set slots slot last
 swap_removed slots slot last default within =
-    let len : length (slots ++ last ∷ []) - 1 ≡ length slots = omega (arith, length_push slots last) in
-    ap (λ n. take n (set (slots ++ last ∷ []) slot (get_or (slots ++ last ∷ []) n default))) len
-    ∙ (ap (λ content. take (length slots) (set (slots ++ last ∷ []) slot content))
-    (get_or_push slots last default (length slots) refl)
-    ∙ (ap (take (length slots)) (set-append_left slots (last ∷ []) slot last within)
-    ∙ (ap (λ n. take n (set slots slot last ++ last ∷ [])) (sym (length-set slots slot last))
-    ∙ take-append_seam (set slots slot last) (last ∷ []))))
+    grind (arith, common_steps, length_push, get_or_push, set-append_left, length-set, take-append_seam)
 
 module _ {V : Type 0} where
   -- ---- what is in a slot
@@ -66,11 +61,7 @@ module _ {V : Type 0} where
     within_slots : (slot : ℕ) (content : String Global × Option V) → slice_get slots slot ≡ Some content
         → slot < length (keys_of slots)
     within_slots slot content at =
-        omega (
-          arith,
-          slice_get_within slots slot content at,
-          length-map slots (λ (pair : String Global × Option V). pair.0),
-        )
+        grind (arith, common_steps, slice_get_within, length-map)
 
     pub only_slot : (found : Option ℕ) → IsDistinct string_eq (keys_of slots)
         → found ≡ position (is_key bytes) (keys_of slots) → IfSome found (IsOnly bytes slots)
@@ -120,14 +111,7 @@ module _ {V : Type 0} where
     pub dead_entry : (slot : ℕ) → IsOnly bytes slots slot → get_or (map slot_entry slots) slot None ≡ None
         → position (has_key bytes) (map slot_entry slots) ≡ None
     dead_entry slot alone dead =
-        all_fail (λ other content at.
-        ⊎_elim
-        (λ (has : is_key bytes content.0 ≡ true).
-        let same : other ≡ slot = alone.only other content at has in
-        ap (has_key bytes) (sym (entry_at slots other content at)
-        ∙ (ap (λ n. get_or (map slot_entry slots) n None) same ∙ dead)))
-        (λ (lacks : is_key bytes content.0 ≡ false). fails bytes content lacks)
-        (cases_Bool (is_key bytes content.0)))
+        grind (arith, common_steps, all_fail, entry_at, cases_Bool)
 
     pub live_entry : (slot : ℕ) (entry : String Global × V) → position (is_key bytes) (keys_of slots) ≡ Some slot
         → get_or (map slot_entry slots) slot None ≡ Some entry
@@ -149,10 +133,7 @@ module _ {V : Type 0} where
         ∙ fails bytes (get_or slots other (entry.0, None))
         (ap (is_key bytes) (sym (key_at slots other (get_or slots other (entry.0, None)) entry.0 earlier))
         ∙ first.2 other before))
-        (ap (has_key bytes) here
-        ∙ passes bytes (get_or slots slot (entry.0, None)) entry
-        (ap (is_key bytes) (sym (key_at slots slot (get_or slots slot (entry.0, None)) entry.0 at)) ∙ first.1)
-        (sym here ∙ live))
+        (grind (arith, common_steps, key_at))
 
   -- ---- a value that is taken or written
 
@@ -237,14 +218,7 @@ module _ {V : Type 0} where
   module _ (bytes : List ℕ) (slots : List (String Global × Option V)) (slot : ℕ)
       (found : position (is_key bytes) (keys_of slots) ≡ Some slot) where
     pub found_within : slot < length slots
-    found_within = by slots slot found
-      where
-        by : (slots : List (String Global × Option V)) (slot : ℕ)
-            → position (is_key bytes) (keys_of slots) ≡ Some slot → slot < length slots
-        by [] slot is = absurd (cc)
-        by (first ∷ slots) slot is =
-            let there = position-Some (is_key bytes) (keys_of (first ∷ slots)) slot first.0 is in
-            omega (arith, there.0, length-map (first ∷ slots) (λ (pair : String Global × Option V). pair.0))
+    found_within = grind (arith, common_steps, position-Some, length-map)
 
     -- no slot has the key any more
     pub key_gone : (text : String Global) → IsOnly bytes slots slot
@@ -256,14 +230,7 @@ module _ {V : Type 0} where
         let there : slice_get slots slot ≡ Some (get_or slots slot (text, None)) =
         slice_get-get_or slots slot (text, None) found_within in
         let unlike : is_key bytes text ≡ false =
-        ⊎_elim
-        (λ (has : is_key bytes text ≡ true).
-        absurd (true≢false (sym (sym (nat_list_eq_equiv.congr bytes (string_bytes text)
-        (string_bytes (get_or slots slot (text, None)).0) has)
-        ∙ (ap (is_key bytes) (sym (key_at slots slot (get_or slots slot (text, None)) text there)) ∙ first.1))
-        ∙ key_fails (string_bytes text) slots free slot (get_or slots slot (text, None)) there)))
-        (λ (lacks : is_key bytes text ≡ false). lacks)
-        (cases_Bool (is_key bytes text)) in
+        grind (arith, common_steps, string_bytes, key_at, key_fails, cases_Bool, nat_list_eq_equiv.congr) in
         ⊎_elim
         (λ (same : other ≡ slot).
         let put : content ≡ (text, None) = set_here slots slot (text, None) content
@@ -287,9 +254,7 @@ module _ {V : Type 0} where
         by : (entry : Option (String Global × V)) → get_or (map slot_entry slots) slot None ≡ entry
             → set (map slot_entry slots) slot None ≡ vacated (map slot_entry slots) was
         by None dead =
-            ap (set (map slot_entry slots) slot) (sym dead)
-            ∙ (set-get_or (map slot_entry slots) slot None
-            ∙ ap (vacated (map slot_entry slots)) (sym (is ∙ dead_entry bytes slots slot alone dead)))
+            grind (arith, common_steps, set-get_or, dead_entry)
         by (Some entry) live =
             ap (vacated (map slot_entry slots)) (sym (is ∙ live_entry bytes slots slot entry found live))
 

@@ -9,6 +9,7 @@ use Rattle.ordered_map.specs.inside.Slots.{AreCounted, IsOrderedMap, counted_las
 use Rattle.ordered_map.proofs.CountLemmas.{all_counted, count_small, last_counted, taken_counted}
 use Rattle.ordered_map.proofs.FindLemmas.{found, missing}
 use Rattle.ordered_map.proofs.SlotLemmas.{packed_all, packed_short, packed_somes, somes-append, somes_taken}
+use Rattle.std.proofs.lemmas.Grind.{common_steps}
 
 module _ {V : Type 0} where
   -- ---- an entry that is read
@@ -56,12 +57,7 @@ module _ {V : Type 0} where
       (record { entries = somes (with_value_in items slot value); slots = length (with_value_in items slot value) })
       (with_value_at (record { entries = somes items; slots = length items }) index value)
   view_written items slot index entry value at is =
-      let slots_are : length (with_value_in items slot value) ≡ length items =
-      length-set items slot (with_value (get_or items slot None) value) in
-      rw (← is, slots_are) (ap (λ (entries : List (String Global × V)). record {
-        entries = entries;
-        slots = length items;
-      }) (somes_written items slot entry value at))
+      grind (arith, common_steps, length-set, somes_written)
 
   length_written : (items : List (Option (String Global × V))) (slot : ℕ) (value : V)
       → length (somes (with_value_in items slot value)) ≡ length (somes items)
@@ -75,16 +71,7 @@ module _ {V : Type 0} where
       → IsOrderedMap items counts live → (slot : ℕ) (value : V)
       → IsOrderedMap (with_value_in items slot value) counts live
   written_map items counts live is slot value = record {
-    counted = record {
-      enough = omega (
-        arith,
-        is.counted.enough,
-        length-set items slot (with_value (get_or items slot None) value),
-      );
-      each = λ block within. live_written items slot value (256 * (block + 1))
-          ∙ (is.counted.each block within
-          ∙ ap (λ n. n + slice_index counts block) (sym (live_written items slot value (256 * block))));
-    };
+    counted = grind (arith, common_steps, length-set, live_written);
     live_is = is.live_is ∙ sym (length_written items slot value);
     few = omega (arith, is.few, length-set items slot (with_value (get_or items slot None) value));
   }
@@ -136,11 +123,7 @@ module _ {X : Type 0} where
     pub freed_counted : (item : X) (len : ℕ) → len ≡ length items
         → AreCounted (vacated items was ++ Some item ∷ []) (counted_last counts len)
     freed_counted item len is =
-        rw (is ∙ sym (same was)) (last_counted (vacated items was) counts item freed.counted)
-      where
-        same : (was : Option ℕ) → length (vacated items was) ≡ length items
-        same None = refl
-        same (Some slot) = length-set items slot None
+        grind (arith, common_steps, last_counted, length-set)
 
     pub freed_live : (item : X) → live ≡ length (somes (vacated items was ++ Some item ∷ []))
     freed_live item =
@@ -164,8 +147,7 @@ module _ {V : Type 0} where
   last_slot : (slots : List (String Global × Option V)) (last : String Global × Option V)
       → somes (map slot_entry (slots ++ last ∷ [])) ≡ somes (map slot_entry slots) ++ somes (slot_entry last ∷ [])
   last_slot slots last =
-      ap somes (map-append slot_entry slots (last ∷ []))
-      ∙ somes-append (map slot_entry slots) (slot_entry last ∷ [])
+      grind (arith, common_steps, map-append, somes-append)
 
   -- the last slot has an entry, of so many
   pub record HasLast (rest : List (String Global × Option V)) (left : ℕ) (entry : String Global × V)
@@ -180,21 +162,8 @@ module _ {V : Type 0} where
       (last : String Global × Option V) (split : slots ≡ rest ++ last ∷ []) where
     pub last_live : (entry : String Global × V) → slot_entry last ≡ Some entry → HasLast rest left entry all
     last_live entry is =
-        let steps : all ≡ somes (map slot_entry rest) ++ entry ∷ [] =
-        sym are ∙ (ap (λ these. somes (map slot_entry these)) split ∙ (last_slot rest last
-        ∙ ap (λ (item : Option (String Global × V)). somes (map slot_entry rest) ++ somes (item ∷ [])) is)) in
-        let longer : length all ≡ length (somes (map slot_entry rest)) + 1 =
-        ap length steps ∙ length_push (somes (map slot_entry rest)) entry in
-        let total : left ≡ length all = counted ∙ ap length are in
-        record {
-          some = omega (arith, longer, total);
-          counted = omega (arith, longer, total);
-          steps = steps;
-          shorter = omega (arith, longer);
-        }
+        grind (arith, common_steps, last_slot, length_push)
 
     pub last_vacant : slot_entry last ≡ None → somes (map slot_entry rest) ≡ all
     last_vacant is =
-        sym (append-nil (somes (map slot_entry rest)))
-        ∙ (ap (λ (item : Option (String Global × V)). somes (map slot_entry rest) ++ somes (item ∷ [])) (sym is)
-        ∙ (sym (ap (λ these. somes (map slot_entry these)) split ∙ last_slot rest last) ∙ are))
+        grind (arith, common_steps, append-nil, last_slot)

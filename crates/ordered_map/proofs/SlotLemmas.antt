@@ -2,6 +2,7 @@
 use Rattle.std.proofs.Common.{◌≡◌, ◌≤◌, ◌<◌, ◌+◌, ℕ, zero, suc, true, false, List, [], ◌∷◌, ◌++◌, length, filter, get_or, set, slice_get, is_some, Option, Some, None, refl, ap, arith, add-one, one-add, zero-add}
 use Rattle.std.proofs.lemmas.Option.{slice_get-get_or}
 use Rattle.ordered_map.specs.inside.Slots.{IsLive, here, live_to, somes}
+use Rattle.std.proofs.lemmas.Grind.{common_steps}
 
 module _ {X : Type 0} where
   -- ---- the items
@@ -26,12 +27,9 @@ module _ {X : Type 0} where
       → live_to items (suc slot) ≡ live_to items slot + here item
   live_suc [] slot item at = absurd (cc)
   live_suc (first ∷ items) zero item at =
-      let same : first ≡ item = cc in
-      let none : live_to items 0 ≡ 0 = live_none items in
-      rw same (omega (arith, none))
+      grind (arith, common_steps, live_none)
   live_suc (first ∷ items) (suc slot) item at =
-      let rest : live_to items (suc slot) ≡ live_to items slot + here item = live_suc items slot item at in
-      omega (arith, rest)
+      grind (arith, common_steps, (live_suc items slot item at))
 
   pub live_next : (items : List (Option X)) (slot : ℕ) (item : Option X) → slice_get items slot ≡ Some item
       → live_to items (slot + 1) ≡ live_to items slot + here item
@@ -90,11 +88,7 @@ module _ {X : Type 0} where
 
   pub live_read : (items : List (Option X)) (slot : ℕ) → slot < length items → is_some (get_or items slot None) ≡ true
       → IsLive items slot
-  live_read items slot within some = by (get_or items slot None) some (slice_get-get_or items slot None within)
-    where
-      by : (item : Option X) → is_some item ≡ true → slice_get items slot ≡ Some item → IsLive items slot
-      by None none at = absurd (let bad : false ≡ true = none in cc)
-      by (Some item) there at = record { item = item; at = at }
+  live_read items slot within some = grind (arith, common_steps, slice_get-get_or, is_some, slice_get)
 
   pub here_some : (item : Option X) → is_some item ≡ true → here item ≡ 1
   here_some None is = absurd (let bad : false ≡ true = is in cc)

@@ -1,41 +1,30 @@
-use Rattle.std.proofs.Common.{◌≡◌, ◌<◌, ◌+◌, ◌*◌, ◌∙◌, None, arith, get_or, length, slice_index, sym}
+use Rattle.std.proofs.Common.{◌≡◌, ◌<◌, ◌+◌, None, arith, get_or, length, sym}
 use Rattle.std.proofs.lemmas.Option.{slice_get-get_or}
 use Rattle.ordered_map.specs.inside.Slots.{here, live_to}
 use Rattle.ordered_map.proofs.SlotLemmas.{here_none, here_some, live_below, live_next, live_none}
 use Rattle.ordered_map.proofs.counts.live_before.Goals.{then-is_live, else-is_live}
 use Rattle.ordered_map.proofs.counts.live_before.Goals as goal
+use Rattle.std.proofs.lemmas.Grind.{common_steps}
 
 pub loop-block-init : goal.loop-block-init
 loop-block-init g c = sym (live_none c.args.slots.now)
 
 pub overflow_add-live : goal.overflow_add-live
 overflow_add-live g c =
-    let items = c.args.slots.now in
-    let within : c.loop-block.block < length c.args.counts.now
-    = omega (
+    grind (
       arith,
+      common_steps,
+      live_below,
       c.loop-block-test.true,
       c.requires.within,
       c.requires.counted.enough,
-    ) in
-    let so_far : c.loop-block.live ≡ live_to items (256 * c.loop-block.block) = c.loop-block.invariant in
-    let next : live_to items (256 * (c.loop-block.block + 1)) ≡ live_to items (256 * c.loop-block.block) + slice_index
-    c.args.counts.now c.loop-block.block
-    = c.requires.counted.each c.loop-block.block within in
-    omega (
-      arith,
-      so_far,
-      next,
-      live_below items (256 * (c.loop-block.block + 1)),
-      c.loop-block-test.true,
-      c.ranges.slot,
+      c.loop-block.invariant,
+      c.requires.counted.each,
     )
 
 pub overflow_add-live-then-is_live : goal.overflow_add-live-then-is_live
 overflow_add-live-then-is_live g c =
-    let items = c.args.slots.now in
-    let so_far : c.loop-before.live ≡ live_to items c.loop-before.before = c.loop-before.invariant in
-    omega (arith, so_far, live_below items c.loop-before.before, c.loop-before-test.true, c.ranges.slot)
+    grind (arith, common_steps, live_below, c.loop-before.invariant, c.loop-before-test.true)
 
 pub loop-before-preserved : goal.loop-before-preserved
 loop-before-preserved g c =
@@ -49,19 +38,7 @@ loop-before-preserved g c =
     (slice_get-get_or items c.loop-before.before None within) in
     let more : c.if-is_live.live ≡ live_to items (c.loop-before.before + 1) =
     elim c.if-is_live.branch [
-      | then-is_live w ↦ omega (
-        arith,
-        so_far,
-        next,
-        w.live-is,
-        here_some (get_or items c.loop-before.before None) (sym c.is_live.ensures ∙ w.if-is_live.true),
-      )
-      | else-is_live w ↦ omega (
-        arith,
-        so_far,
-        next,
-        w.live-is,
-        here_none (get_or items c.loop-before.before None) (sym c.is_live.ensures ∙ w.if-is_live.false),
-      )
+      | then-is_live w ↦ grind (arith, common_steps, here_some, w.live-is, c.is_live.ensures, w.if-is_live.true)
+      | else-is_live w ↦ grind (arith, common_steps, here_none, w.live-is, c.is_live.ensures, w.if-is_live.false)
     ] in
     more

@@ -4,6 +4,7 @@ use Rattle.ordered_map.specs.inside.Slots.{here, live_to}
 use Rattle.ordered_map.proofs.SlotLemmas.{here_none, here_some, live_next, live_past, live_read}
 use Rattle.ordered_map.proofs.counts.live_from.Goals.{then-is_live+else-left-eq0, else-is_live}
 use Rattle.ordered_map.proofs.counts.live_from.Goals as goal
+use Rattle.std.proofs.lemmas.Grind.{common_steps}
 
 pub returns-then-left-eq0-clause-found : goal.returns-then-left-eq0-clause-found
 returns-then-left-eq0-clause-found g c =
@@ -21,27 +22,19 @@ loop-slot-preserved g c =
     let more : live_to items (c.loop-slot.slot + 1) + c.if-is_live.left ≡ live_to items (256 * c.args.block)
     + c.args.count =
     elim c.if-is_live.branch [
-      | then-is_live+else-left-eq0 w ↦ omega (
+      | then-is_live+else-left-eq0 w ↦ grind (
         arith,
-        so_far,
-        next,
+        common_steps,
+        here_some,
         w.left-is,
         w.if-left-eq0.false,
-        here_some (get_or items c.loop-slot.slot None) (sym c.is_live.ensures ∙ w.if-is_live.true),
+        c.is_live.ensures,
+        w.if-is_live.true,
       )
-      | else-is_live w ↦ omega (
-        arith,
-        so_far,
-        next,
-        w.left-is,
-        here_none (get_or items c.loop-slot.slot None) (sym c.is_live.ensures ∙ w.if-is_live.false),
-      )
+      | else-is_live w ↦ grind (arith, common_steps, here_none, w.left-is, c.is_live.ensures, w.if-is_live.false)
     ] in
     more
 
 pub returns-clause-none : goal.returns-clause-none
 returns-clause-none g c =
-    let items = c.args.slots.now in
-    let so_far : live_to items c.loop-slot.slot + c.loop-slot.left ≡ live_to items (256 * c.args.block) + c.args.count =
-    c.loop-slot.invariant in
-    omega (arith, so_far, live_past items c.loop-slot.slot (omega arith))
+    grind (arith, common_steps, live_past, c.loop-slot.invariant)

@@ -1,13 +1,14 @@
-use Rattle.std.proofs.Common.{◌≡◌, ◌∙◌, ℕ, List, ap, arith, refl, string_bytes, subst, sym}
+use Rattle.std.proofs.Common.{◌≡◌, ◌∙◌, ap, arith, refl, string_bytes, sym}
 use Rattle.std.proofs.lemmas.List.{with_items_is}
 use Rattle.std.specs.Vec.{with_items}
-use Rattle.ordered_map.specs.inside.Slots.{IsOrderedMap, somes, uncounted}
+use Rattle.ordered_map.specs.inside.Slots.{somes, uncounted}
 use Rattle.ordered_map.proofs.CountLemmas.{block_has}
 use Rattle.ordered_map.proofs.FindLemmas.{found}
 use Rattle.ordered_map.proofs.MapLemmas.{IsFreed, freed_counted, freed_live, freed_none, freed_small, freed_some, put_entries}
 use Rattle.ordered_map.proofs.SlotLemmas.{somes_short}
 use Rattle.ordered_map.proofs.map.OrderedMap.insert_last.Goals.{in-Some, in-None}
 use Rattle.ordered_map.proofs.map.OrderedMap.insert_last.Goals as goal
+use Rattle.std.proofs.lemmas.Grind.{common_steps}
 
 pub uncount-requires-clause-some : goal.uncount-requires-clause-some
 uncount-requires-clause-some g c =
@@ -18,10 +19,11 @@ uncount-requires-clause-some g c =
     there.at)
 
 pub overflow_add-self : goal.overflow_add-self
-overflow_add-self g c = omega (
+overflow_add-self g c = grind (
   arith,
+  common_steps,
+  somes_short,
   c.self.invariant.live_is,
-  somes_short c.self.inside.slots,
   c.len-len.ensures.len,
   c.len-len.ensures.small,
 )
@@ -37,12 +39,15 @@ count_last-requires-clause-small g c =
           (sym c.in_ok-slot.ensures.was ∙ w.in-Some.is) in
           let counts_are : (with_items c.reserve.new.self w.uncount.new.counts).items
           ≡ uncounted c.self.inside.counts.items w.in-Some.slot =
-          with_items_is c.reserve.new.self w.uncount.new.counts (omega (
+          grind (
             arith,
-            w.uncount.auto.counts,
+            common_steps,
+            with_items_is,
             w.deref_mut.ensures.len,
-          )) ∙ (w.uncount.ensures ∙ ap (λ (counts : List ℕ). uncounted counts w.in-Some.slot)
-          (w.deref_mut.ensures.value ∙ c.reserve.ensures.items)) in
+            w.uncount.ensures,
+            w.deref_mut.ensures.value,
+            c.reserve.ensures.items,
+          ) in
           rw (w.self-inside-is, w.in-Some.is, counts_are)
           (freed_some slots c.self.inside.counts.items c.self.inside.live w.in-Some.slot there.entry c.self.invariant
           there.at)
@@ -64,12 +69,15 @@ pack_if_sparse-requires-clause-counted g c =
           (sym c.in_ok-slot.ensures.was ∙ w.in-Some.is) in
           let counts_are : (with_items c.reserve.new.self w.uncount.new.counts).items
           ≡ uncounted c.self.inside.counts.items w.in-Some.slot =
-          with_items_is c.reserve.new.self w.uncount.new.counts (omega (
+          grind (
             arith,
-            w.uncount.auto.counts,
+            common_steps,
+            with_items_is,
             w.deref_mut.ensures.len,
-          )) ∙ (w.uncount.ensures ∙ ap (λ (counts : List ℕ). uncounted counts w.in-Some.slot)
-          (w.deref_mut.ensures.value ∙ c.reserve.ensures.items)) in
+            w.uncount.ensures,
+            w.deref_mut.ensures.value,
+            c.reserve.ensures.items,
+          ) in
           rw (w.self-inside-is, w.in-Some.is, counts_are)
           (freed_some slots c.self.inside.counts.items c.self.inside.live w.in-Some.slot there.entry c.self.invariant
           there.at)
@@ -96,12 +104,15 @@ pack_if_sparse-requires-clause-live g c =
           (sym c.in_ok-slot.ensures.was ∙ w.in-Some.is) in
           let counts_are : (with_items c.reserve.new.self w.uncount.new.counts).items
           ≡ uncounted c.self.inside.counts.items w.in-Some.slot =
-          with_items_is c.reserve.new.self w.uncount.new.counts (omega (
+          grind (
             arith,
-            w.uncount.auto.counts,
+            common_steps,
+            with_items_is,
             w.deref_mut.ensures.len,
-          )) ∙ (w.uncount.ensures ∙ ap (λ (counts : List ℕ). uncounted counts w.in-Some.slot)
-          (w.deref_mut.ensures.value ∙ c.reserve.ensures.items)) in
+            w.uncount.ensures,
+            w.deref_mut.ensures.value,
+            c.reserve.ensures.items,
+          ) in
           rw (w.self-inside-is, w.in-Some.is, counts_are)
           (freed_some slots c.self.inside.counts.items c.self.inside.live w.in-Some.slot there.entry c.self.invariant
           there.at)
@@ -116,18 +127,6 @@ pack_if_sparse-requires-clause-live g c =
     rw (slots_are, c.in_ok-slot.ensures.put)
     (freed_live slots c.in_ok-slot.field-0 c.match-branch-3.self-inside.counts.items
     c.match-branch-3.self-inside.live freed (c.args.key, c.args.value))
-
-pub invariant_of-self-2 : goal.invariant_of-self-2
-invariant_of-self-2 g c =
-    let counts_are : (with_items c.count_last.new.counts c.pack_if_sparse.new.counts).items
-    ≡ c.pack_if_sparse.new.counts =
-    with_items_is c.count_last.new.counts c.pack_if_sparse.new.counts (omega (
-      arith,
-      c.pack_if_sparse.auto.counts,
-      c.deref_mut-2.ensures.len,
-    )) in
-    subst (λ (counts : List ℕ). IsOrderedMap c.pack_if_sparse.new.slots counts c.match-branch-3.self-inside.live)
-    (sym counts_are) c.pack_if_sparse.ensures.packed
 
 pub returns-clause-inserted : goal.returns-clause-inserted
 returns-clause-inserted g c =

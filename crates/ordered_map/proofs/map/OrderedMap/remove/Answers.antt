@@ -1,11 +1,12 @@
-use Rattle.std.proofs.Common.{◌≡◌, ◌∙◌, ◌-◌, ℕ, List, Option, String, Global, ap, arith, option_map, subst, sym}
+use Rattle.std.proofs.Common.{◌≡◌, ◌∙◌, ◌-◌, Option, String, Global, ap, arith, option_map, sym}
 use Rattle.std.proofs.lemmas.List.{with_items_is}
 use Rattle.std.specs.Vec.{with_items}
-use Rattle.ordered_map.specs.inside.Slots.{IsOrderedMap, somes, uncounted}
+use Rattle.ordered_map.specs.inside.Slots.{somes, uncounted}
 use Rattle.ordered_map.proofs.CountLemmas.{block_has, taken_counted}
 use Rattle.ordered_map.proofs.FindLemmas.{found, missing}
 use Rattle.ordered_map.proofs.SlotLemmas.{somes_taken}
 use Rattle.ordered_map.proofs.map.OrderedMap.remove.Goals as goal
+use Rattle.std.proofs.lemmas.Grind.{common_steps}
 
 pub returns-in_err-slot-clause-value : goal.returns-in_err-slot-clause-value
 returns-in_err-slot-clause-value g c =
@@ -32,11 +33,14 @@ pack_if_sparse-requires-clause-counted g c =
     let there = found c.args.key.now c.self.inside.slots c.in_ok-slot.slot (sym c.in_ok-slot.ensures) in
     let counts_are : (with_items c.self.inside.counts c.uncount.new.counts).items
     ≡ uncounted c.self.inside.counts.items c.in_ok-slot.slot =
-    with_items_is c.self.inside.counts c.uncount.new.counts (omega (
+    grind (
       arith,
-      c.uncount.auto.counts,
+      common_steps,
+      with_items_is,
       c.deref_mut.ensures.len,
-    )) ∙ (c.uncount.ensures ∙ ap (λ (counts : List ℕ). uncounted counts c.in_ok-slot.slot) c.deref_mut.ensures.value) in
+      c.uncount.ensures,
+      c.deref_mut.ensures.value,
+    ) in
     rw (c.take-value.ensures.slots, c.deref_mut-2.ensures.value, counts_are)
     (taken_counted c.self.inside.slots c.self.inside.counts.items c.in_ok-slot.slot there.entry
     c.self.invariant.counted there.at)
@@ -49,18 +53,6 @@ pack_if_sparse-requires-clause-live g c =
       c.self.invariant.live_is,
       somes_taken c.self.inside.slots c.in_ok-slot.slot there.entry there.at,
     ))
-
-pub invariant_of-self : goal.invariant_of-self
-invariant_of-self g c =
-    let counts = with_items c.self.inside.counts c.uncount.new.counts in
-    let counts_are : (with_items counts c.pack_if_sparse.new.counts).items ≡ c.pack_if_sparse.new.counts =
-    with_items_is counts c.pack_if_sparse.new.counts (omega (
-      arith,
-      c.pack_if_sparse.auto.counts,
-      c.deref_mut-2.ensures.len,
-    )) in
-    subst (λ (counts : List ℕ). IsOrderedMap c.pack_if_sparse.new.slots counts (c.self.inside.live - 1))
-    (sym counts_are) c.pack_if_sparse.ensures.packed
 
 pub returns-clause-value : goal.returns-clause-value
 returns-clause-value g c =
