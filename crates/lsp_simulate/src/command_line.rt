@@ -3,7 +3,7 @@
 //! `options` is the program as `clap` sees it, and `help` has the texts of help.
 //!
 //! What words mean is said by `clap`'s definitions, of a program with the options of `program_app`.
-//! The parse returns an `Option`, since `clap` has no law that values which it checked are there.
+//! The parse returns an `Option`: that `clap` finds each value which it checked isn't proved here.
 
 ghost use Rattle.std.specs.Prelude.{◌≡◌, IfSome, IsSome, codes, false, map, ℕ};
 ghost use Rattle.lsp_frame.specs.Limits.{LimitsData};
@@ -33,9 +33,9 @@ pub struct Setting {
     pub config: Config,
 }
 
-/// Reads the words of the command line. An error is a usage fault, a text of help or the version, or
-/// out of memory. There is no setting only where an option with its value is missing. Tests show
-/// that `clap` refuses such words before.
+/// Reads the words of the command line. An error is a usage fault, a text of help or the version,
+/// or out of memory. There is no setting only where what `clap` found names none. No words are
+/// known to do that: it refuses a faulty value, and has a default for each that is needed.
 pub fn parse<'a>(alloc: Global, words: &'a [&'a str]) -> Result<Option<Setting>, Error>
     ensures { AreWordsReadAs (map (λ word. word.now) words.entry.now) result }
 {
