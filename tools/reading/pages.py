@@ -151,7 +151,7 @@ class Pages:
         edits = self.edits_in("must-fail")
         counts = {
             r"each of (\S+) mistakes in the code": len(edits),
-            r"in each of (\S+) crates": len({it.partition("/")[0] for it in edits}),
+            r"in the code of (\S+) crates": len({it.partition("/")[0] for it in edits}),
         }
         if self.repository.kit:
             kit_lines = lambda name: sum(it.size for it in self.closure_of(self.page_of(name)).kit_definitions)

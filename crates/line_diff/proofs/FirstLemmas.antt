@@ -1,26 +1,24 @@
 -- The first of several numbers with a property, as a loop finds it.
-use Rattle.std.proofs.Common.{◌≡◌, ℕ, suc, ◌+◌, ◌-◌, ◌<◌, Bool, true, false, List, Option, Some, None, length, refl, add-one, arith}
+use Rattle.std.proofs.Common.{◌≡◌, ℕ, ◌+◌, ◌-◌, ◌<◌, Bool, true, false, List, Option, Some, None, length, refl, add-one, arith}
 use Rattle.std.specs.Prelude.{◌==◌, not, slice_get}
 use Rattle.std.proofs.lemmas.Bool.{eq-eqb}
 use Rattle.std.proofs.lemmas.Option.{slice_get_within}
 use Rattle.line_diff.specs.Common.{are_equal, first_with}
+use Rattle.std.proofs.lemmas.Grind.{common_steps}
 
 pub first_passed : (property : ℕ → Bool) (n i : ℕ) → i < n → property i ≡ false
     → first_with property (n - i) i ≡ first_with property (n - (i + 1)) (i + 1)
 first_passed property n i within missed =
-    let more : n - i ≡ suc (n - (i + 1)) = omega arith in
-    rw (more, missed, add-one) refl
+    grind (arith, common_steps, add-one)
 
 pub first_found : (property : ℕ → Bool) (n i : ℕ) → i < n → property i ≡ true
     → first_with property (n - i) i ≡ i
 first_found property n i within hit =
-    let more : n - i ≡ suc (n - (i + 1)) = omega arith in
-    rw (more, hit) refl
+    grind (arith, common_steps)
 
 pub first_missing : (property : ℕ → Bool) (n i : ℕ) → i ≡ n → first_with property (n - i) i ≡ n
 first_missing property n i end =
-    let none : n - i ≡ 0 = omega arith in
-    rw none end
+    grind (arith, common_steps)
 
 pub same_number : (a b : ℕ) → a ≡ b → not (a == b) ≡ false
 same_number a b same = rw (eq-eqb a b same) refl

@@ -3,6 +3,7 @@ use Rattle.std.proofs.Common.{◌≡◌, ℕ, zero, suc, ◌+◌, ◌-◌, ◌<�
 use Rattle.std.proofs.lemmas.List.{drop-drop, length-drop}
 use Rattle.line_diff.specs.declared.hunks.Gap.{Gap}
 use Rattle.line_diff.specs.Hunks.{hunk_before, hunks_from, last_hunk, next_gap, unless_empty}
+use Rattle.std.proofs.lemmas.Grind.{common_steps}
 
 dropped : (start more : ℕ) (lines : List (List ℕ))
     → drop (suc more) (drop start lines) ≡ drop (start + (more + 1)) lines
@@ -15,9 +16,7 @@ pub rest_is : (start other_start : ℕ) (lines others : List (List ℕ)) (n m : 
     → unless_empty (record { start = start; end = n; other_start = other_start; other_end = m })
     ≡ last_hunk start other_start (drop start lines) (drop other_start others)
 rest_is start other_start lines others n m lines_are others_are within within_others =
-    let end : start + (n - start) ≡ n = omega arith in
-    let other_end : other_start + (m - other_start) ≡ m = omega arith in
-    rw (length-drop start lines, length-drop other_start others, lines_are, others_are, end, other_end) refl
+    grind (arith, common_steps, length-drop)
 
 module _ (farthest start other_start : ℕ) (lines others : List (List ℕ)) where
   pub hunk_step : (n step : ℕ) (gap : Gap) → step < n
@@ -42,5 +41,4 @@ module _ (farthest start other_start : ℕ) (lines others : List (List ℕ)) whe
       → last_hunk start other_start (drop start lines) (drop other_start others)
       ≡ hunks_from (n - step) farthest start other_start (drop start lines) (drop other_start others)
   none_left n step end =
-      let none : n - step ≡ 0 = omega arith in
-      rw none refl
+      grind (arith, common_steps)

@@ -4,6 +4,7 @@ use Rattle.std.specs.Prelude.{◌==◌}
 use Rattle.std.specs.Char.{encode_utf8}
 use Rattle.std.proofs.lemmas.Bool.Decides.{Decides-eqb, nat_tests}
 use Rattle.line_diff.specs.Shown.{shown_char, sign_of, unless_nil}
+use Rattle.std.proofs.lemmas.Grind.{common_steps}
 
 unless_none : (bytes other : List ℕ) → length bytes ≡ 0 → unless_nil bytes other ≡ other
 unless_none [] other none = refl
@@ -18,8 +19,7 @@ none_of n test is_test hit = (Decides-eqb n 0).0 (sym is_test ∙ hit)
 
 pub some_of : (n : ℕ) (test : Bool) → test ≡ (n == 0) → test ≡ false → 0 < n
 some_of n test is_test missed =
-    let other : (n == 0) ≡ false = sym is_test ∙ missed in
-    grind (arith, nat_tests)
+    grind (arith, common_steps, nat_tests)
 
 pub shown_as_it_is : (character : ℕ) (sign : List ℕ) → sign ≡ sign_of character → length sign ≡ 0
     → shown_char character ≡ encode_utf8 character

@@ -5,6 +5,7 @@ use Rattle.line_diff.specs.Lines.{ends_line}
 use Rattle.line_diff.proofs.LineLemmas.{cut_ended, cut_passed, ends_ascii}
 use Rattle.line_diff.proofs.lines.lines_of.Goals as goal
 use Rattle.line_diff.proofs.lines.lines_of.Goals.{then-ends_line+in_ok-push, else-ends_line}
+use Rattle.std.proofs.lemmas.Grind.{common_steps}
 
 pub loop-index-init : goal.loop-index-init
 loop-index-init c = record {
@@ -38,19 +39,26 @@ loop-index-preserved c =
           rw (w.start-is, w.lines-is) (record {
             order = omega arith;
             boundary = IsCharBoundary-after_ascii text index c.utf8.text within (ends_ascii byte rest hit);
-            cut = rw (
-              w.in_ok-push.ensures.items,
+            cut = grind (
+              arith,
+              common_steps,
               map-append,
               append_assoc,
+              cut_ended,
+              w.in_ok-push.ensures.items,
               w.range.ensures.value,
-              ← cut_ended text start index held.order within hit,
-            ) held.cut;
+              held.order,
+            );
           })
       | else-ends_line w ↦
-          let missed : ends_line byte rest ≡ false = rw same at (sym c.ends_line.ensures ∙ w.if-ends_line.false) in
-          rw (w.start-is, w.lines-is) (record {
-            order = omega arith;
-            boundary = held.boundary;
-            cut = rw (← cut_passed text start index held.order within missed) held.cut;
-          })
+          grind (
+            arith,
+            common_steps,
+            cut_passed,
+            c.ends_line.ensures,
+            w.if-ends_line.false,
+            w.start-is,
+            w.lines-is,
+            held.order,
+          )
     ]

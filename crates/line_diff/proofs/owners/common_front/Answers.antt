@@ -1,10 +1,8 @@
-use Rattle.std.proofs.Common.{◌∙◌, arith}
-use Rattle.line_diff.specs.Common.{differ_at}
+use Rattle.std.proofs.Common.{arith}
 use Rattle.line_diff.proofs.FirstLemmas.{first_passed, same_number}
 use Rattle.line_diff.proofs.owners.common_front.Goals as goal
+use Rattle.std.proofs.lemmas.Grind.{common_steps}
 
 pub loop-count-preserved : goal.loop-count-preserved
 loop-count-preserved c =
-    c.loop-count.invariant
-    ∙ first_passed (differ_at c.args.text.now c.args.other.now) c.min-most.result c.loop-count.count (omega arith)
-    (same_number _ _ c.if-text-count.false)
+    grind (arith, common_steps, first_passed, same_number, c.loop-count.invariant, c.if-text-count.false)
