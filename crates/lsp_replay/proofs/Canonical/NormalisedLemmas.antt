@@ -8,20 +8,21 @@ use Rattle.lsp_frame.specs.Limits.{LimitsData, AreInRange}
 use Rattle.lsp_frame.proofs.WrittenLemmas.{written_is_frame}
 use Rattle.lsp_replay.specs.declared.outcome.Outcome.{Outcome}
 use Rattle.lsp_stream.specs.declared.fault.EngineFault.{EngineFault}
-use Rattle.lsp_stream.specs.declared.fault.EngineFault.TheVariants.{BadLog, BodyTooLong}
+use Rattle.lsp_stream.specs.declared.fault.EngineFault.TheVariants.{BadLog}
 use Rattle.lsp_log.specs.declared.record.Version.{Version}
 use Rattle.lsp_log.specs.declared.record.Version.TheVariants.{One, Two}
 use Rattle.lsp_log.specs.declared.record.Head.{Head}
 use Rattle.lsp_log.specs.Log.{Record, Log, IsRecord, AreRecords, IsVersion, together, record_bytes, mark_of, line_of, version_line, is_line_due}
 use Rattle.lsp_replay.specs.RunOutput.{RunOutput, written_first}
 use Rattle.lsp_replay.specs.Session.{Session, Verdict, answered, recorded, bad, Judged, judge, opened}
-use Rattle.lsp_replay.specs.Commands.{View, RecordOutput, writes, ends, followed_by, unless_bad, normalising, replaying, canonical_output, canonical_of_record, written, front_of, line_if, log_config, canonical_log}
+use Rattle.lsp_replay.specs.Commands.{View, RecordOutput, writes, followed_by, unless_bad, normalising, replaying, canonical_output, canonical_of_record, written, front_of, line_if, log_config, canonical_log}
 use Rattle.lsp_replay.specs.inside.Commands.{run_output_in}
 use Rattle.lsp_replay.specs.Engine.{all_of}
 use Rattle.lsp_replay.specs.laws.Written.{CanonicalLogLaw}
 use Rattle.lsp_replay.proofs.Records.StateLemmas.{IsHeldState}
 use Rattle.lsp_replay.proofs.Converted.LineLemmas.{is_version_one}
 use Rattle.lsp_replay.proofs.Records.JudgeLemmas.{judged_held, judged_again}
+use Rattle.std.proofs.lemmas.Grind.{common_steps}
 
 -- ---- a course, a record at a time
 
@@ -33,8 +34,7 @@ pub command_output : (view : View (Unit {0})) (s : Session) (r : Record) (rs : L
     (out : List ℕ) → judge s r ≡ j → view.record_output tt s r j ≡ writes out
     → run_output_in view s (r ∷ rs) ≡ written_first out (run_output_in view j.session rs)
 command_output view s r rs j out is gives_it =
-    ap (λ (k : Judged). course_by view s r rs k (view.record_output tt s r k)) is
-    ∙ ap (course_by view s r rs j) gives_it
+    grind (arith, common_steps)
 
 pub went_on : (out : List ℕ) (end : Option (Result Outcome EngineFault)) (c : RunOutput)
     → (followed_by out end c).stop ≡ None → (end ≡ None) × (c.stop ≡ None)
@@ -96,13 +96,7 @@ module _ (limits : LimitsData) (ranges : AreInRange limits) where
 
     fits : (body : List ℕ) → (written s.server.config.limits.max_body r (front_of r.head) (Some body)).end ≡ None
         → nat_lt s.server.config.limits.max_body (length body) ≡ false
-    fits body e = by (nat_lt s.server.config.limits.max_body (length body)) e
-      where
-        by : (over : Bool)
-            → (if over then ends [] (Err (BodyTooLong r.head.place)) else writes (front_of r.head ++ frame body)).end
-            ≡ None → over ≡ false
-        by true f = absurd (let bad_one : Some (Err (BodyTooLong r.head.place)) ≡ None = f in cc)
-        by false f = refl
+    fits body e = grind (arith, common_steps, nat_lt)
 
     framed : (q : Record) (body : List ℕ) → nat_lt s.server.config.limits.max_body (length body) ≡ false
         → written s.server.config.limits.max_body q (front_of r.head) (Some body)
@@ -171,9 +165,7 @@ module _ (limits : LimitsData) (ranges : AreInRange limits) where
       (judge s r).session rs qs) where
     front_is : front_of r.head ≡ line_if due ++ mark_of version q.head.side
     front_is =
-        ap (λ b. line_if b ++ mark_of r.head.version r.head.side) is.due
-        ∙ ap (λ v. line_if due ++ mark_of v r.head.side) is.of_version
-        ∙ ap (λ side. line_if due ++ mark_of version side) (sym one.side)
+        grind (arith, common_steps)
 
     first : run_output_in normalising s (r ∷ rs) ≡ written_first (front_of r.head ++ q.raw)
         (run_output_in normalising (judge s r).session rs)
@@ -184,21 +176,9 @@ module _ (limits : LimitsData) (ranges : AreInRange limits) where
 
     one_more : AreWritten at version due s (r ∷ rs) (q ∷ qs)
     one_more = record {
-      are = (
-        record {
-          is_frame_of = one.is_frame_of;
-          side = λ e. one.side ∙ is.side e;
-          of_version = one.same_version ∙ is.of_version;
-          placed = one.place;
-          due = one.due ∙ is.due;
-        },
-        more.are,
-      );
+      are = grind (arith, common_steps);
       out =
-          ap (λ (c : RunOutput). c.out) first ∙ ap (λ z. (front_of r.head ++ q.raw) ++ z)
-          (more.out ∙ ap (λ z. z ++ together version qs []) (front_none rs))
-          ∙ ap (λ z. (z ++ q.raw) ++ together version qs []) front_is ∙ four (line_if due) (mark_of version q.head.side)
-          q.raw (together version qs []);
+          grind (arith, common_steps, front_none, four);
       last = λ line_due. ap (λ (c : RunOutput). c.last line_due) first ∙ more.last line_due;
       again =
           command_output normalising s q qs (judge s r) (front_of r.head ++ q.raw) one.same one.again

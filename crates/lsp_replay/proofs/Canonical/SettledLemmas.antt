@@ -1,5 +1,5 @@
 -- The canonical message of a change that is accepted asks for its canonical batch, which does the same.
-use Rattle.std.proofs.Common.{◌≡◌, ℕ, ℤ, ◌≤◌, List, map, length, Option, Some, None, refl, sym, ap, ◌∙◌, subst, arith}
+use Rattle.std.proofs.Common.{◌≡◌, ℕ, ℤ, ◌≤◌, List, map, length, Some, None, refl, ap, ◌∙◌, arith}
 use Rattle.std.specs.Prelude.{Ok}
 use Rattle.std.specs.Str.{chars}
 use Rattle.std.proofs.lemmas.Str.{scalars-chars}
@@ -15,7 +15,7 @@ use Rattle.lsp_edit.proofs.Batches.LawLemmas.{canonical_law, units_some}
 use Rattle.lsp_message.specs.Message.{reading}
 use Rattle.lsp_message.specs.Params.{DocumentItem, ChangeData}
 use Rattle.lsp_message.proofs.ReadBack.{reading-body_of, is_read_back, body_of-unique}
-use Rattle.lsp_store.specs.Table.{not_open, entry_at, refusal_on, entry_refusal, change_refusal, after_change, unless_refused}
+use Rattle.lsp_store.specs.Table.{entry_at, entry_refusal, change_refusal, after_change}
 use Rattle.lsp_store.specs.Message.{AreTexts, IsCanonicalOf, IsReadAgain, written_content_change, change_body, canonical_batch, canonical_body, body_refusal}
 use Rattle.lsp_store.proofs.Tables.FirstLemmas.{first_none}
 use Rattle.lsp_store.proofs.Messages.MessageLemmas.{Accepts, accepted_parts, body_within, is_settled, is_read}
@@ -25,24 +25,20 @@ use Rattle.lsp_store.proofs.WithinLemmas.{within_at}
 use Rattle.lsp_server.specs.declared.phase.Phase.{Phase}
 use Rattle.lsp_server.specs.declared.phase.Phase.TheVariants.{New, Running, Down, Ended}
 use Rattle.lsp_server.specs.Incoming.{did_change, incoming_of}
-use Rattle.lsp_server.specs.Step.{ServerData, step_in, step_on, result_step, content_change_from_data, session_encoding}
+use Rattle.lsp_server.specs.Step.{ServerData, step_in, step_on, content_change_from_data, session_encoding}
 use Rattle.lsp_server.proofs.EditLemmas.{edits_back}
 use Rattle.lsp_replay.specs.Commands.{canonical_change_body}
 use Rattle.lsp_replay.proofs.Canonical.CanonicalLogLemmas.{within}
 use Rattle.lsp_replay.proofs.Records.AskedLemmas.{IsProperAsked}
 use Rattle.lsp_replay.proofs.Records.StateLemmas.{IsHeldState}
+use Rattle.std.proofs.lemmas.Grind.{common_steps}
 
 -- ---- refusals
 
 open_one : (limits : LimitsData) (units : ℕ → ℕ) (table : List DocumentItem) (uri : List ℕ) (version : ℤ)
     (batch : List ContentChange) → change_refusal limits units table uri version batch ≡ None
     → (entry : DocumentItem) × (entry_at table uri ≡ Some entry)
-open_one limits units table uri version batch e = by (entry_at table uri) refl e
-  where
-    by : (found : Option DocumentItem) → entry_at table uri ≡ found → refusal_on limits units found version batch ≡ None
-        → (entry : DocumentItem) × (entry_at table uri ≡ Some entry)
-    by None is f = absurd (let bad : Some not_open ≡ None = f in cc)
-    by (Some entry) is f = (entry, is)
+open_one limits units table uri version batch e = grind (arith, common_steps)
 
 -- ---- a batch is read back as it was written
 
@@ -74,13 +70,7 @@ same_change server p again New may also same = refl
 same_change server p again Down may also same = refl
 same_change server p again Ended may also same = refl
 same_change server p again Running may also same =
-    ap (λ r. result_step server
-    (unless_refused r (after_change (units_in (session_encoding server)) server.table again.uri again.version
-    (map content_change_from_data again.changes)))) also
-    ∙ ap (λ t. result_step server (unless_refused None t)) same
-    ∙ sym (ap (λ r. result_step server
-    (unless_refused r (after_change (units_in (session_encoding server)) server.table p.uri p.version
-    (map content_change_from_data p.changes)))) may)
+    grind (arith, common_steps)
 
 module _ (server : ServerData) (p : ChangeData) (ranges : AreInRange server.config.limits)
     (received : IsHeldState server.config.limits server) (proper : IsProperAsked p)
@@ -136,9 +126,7 @@ module _ (server : ServerData) (p : ChangeData) (ranges : AreInRange server.conf
 
   settled_texts : AreTexts settled
   settled_texts =
-      subst AreTexts (sym settled_is)
-      (canonical_texts (units_in encoding) (chars entry.text) batch accepts.items
-      (laws batch accepts.items accepts.means) (scalars-chars entry.text text_held.utf8) proper.texts accepts.means)
+      grind (arith, common_steps, settled_is, canonical_texts, laws, scalars-chars, text_held.utf8)
 
   abbrev again_change : ChangeData
   again_change = record { uri = p.uri; version = p.version; changes = map written_content_change settled }

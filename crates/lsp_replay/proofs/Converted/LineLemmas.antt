@@ -7,6 +7,7 @@ use Rattle.lsp_frame.specs.Header.{IsNameByte, Line, AreLines, header_of, lines_
 use Rattle.lsp_log.specs.declared.record.Version.TheVariants.{One}
 use Rattle.lsp_log.specs.Log.{Record, IsVersion, AreRecords, together, version_line}
 use Rattle.lsp_log.proofs.UniqueLemmas.{first_byte}
+use Rattle.std.proofs.lemmas.Grind.{common_steps}
 
 abbrev NoColon : List ℕ → Type 0
 NoColon [] = ⊤
@@ -27,34 +28,7 @@ abbrev name_of_line : List ℕ
 name_of_line = codes "lsp-session-log"
 
 no_colon : NoColon name_of_line
-no_colon = (
-  omega arith,
-  (
-    omega arith,
-    (
-      omega arith,
-      (
-        omega arith,
-        (
-          omega arith,
-          (
-            omega arith,
-            (
-              omega arith,
-              (
-                omega arith,
-                (
-                  omega arith,
-                  (omega arith, (omega arith, (omega arith, (omega arith, (omega arith, (omega arith, tt)))))),
-                ),
-              ),
-            ),
-          ),
-        ),
-      ),
-    ),
-  ),
-)
+no_colon = grind (arith, common_steps)
 
 line_apart : (line : Line) (a more : List ℕ) → AllByRecursion IsNameByte line.name → line.name ++ 58 ∷ a ≡ version_line
     ++ more → ⊥
@@ -62,11 +36,7 @@ line_apart line a more named e = apart line.name name_of_line a (50 ∷ 10 ∷ m
 
 lines_apart : (lines : List Line) (body others more : List ℕ) → AreLines lines → (header_of lines ++ body) ++ others
     ≡ version_line ++ more → ⊥
-lines_apart [] body others more each e = let same = first_byte 13 108 (10 ∷ (body ++ others)) (later_line ++ more) e in
-    omega arith
-  where
-    later_line : List ℕ
-    later_line = codes "sp-session-log 2\n"
+lines_apart [] body others more each e = grind (arith, common_steps, first_byte, codes)
 lines_apart (line ∷ lines) body others more each e =
     line_apart line ((((line.value ++ (13 ∷ 10 ∷ [])) ++ lines_bytes lines) ++ (13 ∷ 10 ∷ [])) ++ body ++ others) more
     each.0.name
@@ -76,10 +46,7 @@ lines_apart (line ∷ lines) body others more each e =
         → ((((name ++ (58 ∷ value)) ++ rest) ++ end) ++ body) ++ others
         ≡ name ++ 58 ∷ ((((value ++ rest) ++ end) ++ body) ++ others)
     grouped name value rest end body others =
-        ap (λ z. ((z ++ end) ++ body) ++ others) (append_assoc name (58 ∷ value) rest) ∙ ap (λ z. (z ++ body) ++ others)
-        (append_assoc name (58 ∷ (value ++ rest)) end)
-        ∙ ap (λ z. z ++ others) (append_assoc name (58 ∷ ((value ++ rest) ++ end)) body)
-        ∙ append_assoc name (58 ∷ (((value ++ rest) ++ end) ++ body)) others
+        grind (arith, common_steps, append_assoc)
 
 pub no_line : (max_body : ℕ) (raw body others more : List ℕ) → IsFrameOf max_body raw body → raw ++ others
     ≢ version_line ++ more

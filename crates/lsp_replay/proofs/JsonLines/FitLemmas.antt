@@ -1,6 +1,6 @@
 -- The numbers of a session fit their types: counts 64 bits, versions 32 bits. A canonical message is JSON.
-use Rattle.std.proofs.Common.{◌≡◌, ℕ, ℤ, zero, suc, ◌^◌, ◌<◌, ◌≤◌, ⊎_elim, Bool, true, false, List, [], ◌∷◌, ◌++◌, length, map, Option, Some, None, refl, sym, ap, ◌∙◌, subst, arith, take, bytes_eq, FitsSigned, IsUtf8}
-use Rattle.std.specs.Prelude.{⊤, codes, if◌then◌else◌, nat_lt, option_and_then, option_map}
+use Rattle.std.proofs.Common.{◌≡◌, ℕ, ℤ, zero, suc, ◌^◌, ◌<◌, ◌≤◌, Bool, true, false, List, [], ◌∷◌, ◌++◌, length, map, Option, Some, None, refl, sym, ap, ◌∙◌, subst, arith, take, bytes_eq, FitsSigned, IsUtf8}
+use Rattle.std.specs.Prelude.{⊤, codes, if◌then◌else◌, option_and_then, option_map}
 use Rattle.std.specs.Int.{w32}
 use Rattle.std.specs.Option.{option_map_or}
 use Rattle.std.specs.Str.{is_utf8}
@@ -36,7 +36,7 @@ use Rattle.lsp_log.specs.declared.record.Sender.TheVariants.{Client, Server}
 use Rattle.lsp_log.specs.declared.record.Version.{Version}
 use Rattle.lsp_log.specs.Log.{Record}
 use Rattle.lsp_replay.specs.Commands.{canonical_change_body, canonical_if, canonical_of_record, change_in}
-use Rattle.lsp_replay.specs.Lines.{Known, is_stale_refusal, known_after, last_in, uri_of}
+use Rattle.lsp_replay.specs.Lines.{Known, known_after, last_in, uri_of}
 use Rattle.lsp_replay.specs.Mentions.{Mention, is_mention, last_for, last_record, mentioned, most_mentions, without}
 use Rattle.lsp_replay.specs.Session.{Session, Verdict, answered, recorded, bad, encoding_for, has_changed, is_change, judge, judge_from}
 use Rattle.lsp_replay.specs.Trace.{id_of, is_json, method_of, within}
@@ -47,6 +47,7 @@ use Rattle.lsp_replay.proofs.Records.AskedLemmas.{IsProperAsked, changed_held, d
 use Rattle.lsp_replay.proofs.Records.JudgeLemmas.{asks_change, judged_again, judged_held, of_incoming, of_server}
 use Rattle.lsp_replay.proofs.Records.ReadLemmas.{IsHeld, MembersAreHeld, OnSome, on_map, on_then}
 use Rattle.lsp_replay.proofs.Records.StateLemmas.{IsHeldState}
+use Rattle.std.proofs.lemmas.Grind.{common_steps}
 
 any : {A : Type 0} (o : Option A) → OnSome (λ (a : A). ⊤) o
 any None = tt
@@ -69,14 +70,7 @@ IsChangeVersion p = VersionFits p.version
 
 open_version : (ms : Members) → OnSome IsOpenVersion (open_by ms)
 open_version ms =
-    on_then (λ uri. ⊤) IsOpenVersion _
-    (λ uri h. on_then (λ language. ⊤) IsOpenVersion _
-    (λ language i. on_then VersionFits IsOpenVersion _
-    (λ version fits. on_then (λ t. ⊤) IsOpenVersion _ (λ t u. fits) (text_in (get_member (codes "text") ms))
-    (any (text_in (get_member (codes "text") ms))))
-    (version_in (get_member (codes "version") ms)) (version_fits (get_member (codes "version") ms)))
-    (text_in (get_member (codes "languageId") ms)) (any (text_in (get_member (codes "languageId") ms))))
-    (text_in (get_member (codes "uri") ms)) (any (text_in (get_member (codes "uri") ms)))
+    grind (arith, common_steps, on_then, version_fits)
 
 opened_version : (params : Option Data) → OnSome IsOpenVersion (open_of params)
 opened_version params =
@@ -112,15 +106,9 @@ either_version false x y p q = q
 
 message_version : (m : MessageData) → HasVersion (incoming_by m)
 message_version (msg.request id method params) =
-    either_version (bytes_eq method (codes "initialize")) _ _ tt
-    (either_version (bytes_eq method (codes "shutdown")) (shutdown id) (other_request id method) tt tt)
+    grind (arith, common_steps, either_version, bytes_eq)
 message_version (msg.notification method params) =
-    either_version (bytes_eq method (codes "exit")) exit _ tt
-    (either_version (bytes_eq method (codes "textDocument/didOpen")) (did_open (open_of params)) _
-    (opened_version params)
-    (either_version (bytes_eq method (codes "textDocument/didChange")) (did_change (change_of params)) _
-    (changed_version params)
-    (either_version (bytes_eq method (codes "textDocument/didClose")) (did_close _) (other_notification method) tt tt)))
+    grind (arith, common_steps, either_version, bytes_eq, opened_version)
 message_version (msg.response id outcome) = tt
 
 reading_version : (r : Reading) → HasVersion (incoming_of r)
@@ -134,16 +122,12 @@ versions_at : (table : List DocumentItem) (uri : List ℕ) → AreVersions table
     → OnSome IsOpenVersion (entry_at table uri)
 versions_at [] uri kept = tt
 versions_at (first ∷ table) uri kept =
-    ⊎_elim (λ (is : bytes_eq uri first.uri ≡ true). rw is kept.0) (λ (not : bytes_eq uri first.uri ≡ false). rw not
-    (versions_at table uri kept.1)) (cases_Bool (bytes_eq uri first.uri))
+    grind (arith, common_steps, bytes_eq, cases_Bool, (versions_at table uri kept.1))
 
 versions_close : (table : List DocumentItem) (uri : List ℕ) → AreVersions table → AreVersions (after_close table uri)
 versions_close [] uri kept = tt
 versions_close (first ∷ table) uri kept =
-    ⊎_elim (λ (is : bytes_eq uri first.uri ≡ true). rw is kept.1) (λ (not : bytes_eq uri first.uri ≡ false). rw not (
-      kept.0,
-      versions_close table uri kept.1,
-    )) (cases_Bool (bytes_eq uri first.uri))
+    grind (arith, common_steps, bytes_eq, cases_Bool, (versions_close table uri kept.1))
 
 versions_last : (table : List DocumentItem) (entry : DocumentItem) → AreVersions table → VersionFits entry.version
     → AreVersions (table ++ entry ∷ [])
@@ -160,12 +144,7 @@ versions_change : (units : ℕ → ℕ) (table : List DocumentItem) (uri : List 
     → AreVersions (after_change units table uri version batch)
 versions_change units [] uri version batch kept fits = tt
 versions_change units (first ∷ table) uri version batch kept fits =
-    ⊎_elim (λ (is : bytes_eq uri first.uri ≡ true). rw is (fits, kept.1))
-    (λ (not : bytes_eq uri first.uri ≡ false). rw not (
-      kept.0,
-      versions_change units table uri version batch kept.1 fits,
-    ))
-    (cases_Bool (bytes_eq uri first.uri))
+    grind (arith, common_steps, bytes_eq, cases_Bool, (versions_change units table uri version batch kept.1 fits))
 
 obeyed_versions : (s : ServerData) (refusal : Option Refusal) (next : List DocumentItem) → AreVersions s.table
     → AreVersions next → AreVersions (result_step s (unless_refused refusal next)).state.table
@@ -233,10 +212,7 @@ AreNumbered (mention ∷ mentions) = IsCount mention.number × AreNumbered menti
 numbered_without : (uri : List ℕ) (mentions : List Mention) → AreNumbered mentions → AreNumbered (without uri mentions)
 numbered_without uri [] are = tt
 numbered_without uri (mention ∷ mentions) are =
-    ⊎_elim (λ (is : bytes_eq mention.uri uri ≡ true). rw is are.1) (λ (not : bytes_eq mention.uri uri ≡ false). rw not (
-      are.0,
-      numbered_without uri mentions are.1,
-    )) (cases_Bool (bytes_eq mention.uri uri))
+    grind (arith, common_steps, bytes_eq, cases_Bool, (numbered_without uri mentions are.1))
 
 numbered_take : (n : ℕ) (mentions : List Mention) → AreNumbered mentions → AreNumbered (take n mentions)
 numbered_take zero mentions are = tt
@@ -254,8 +230,7 @@ numbered_more false uri count mentions is are = are
 last_count : (uri : List ℕ) (mentions : List Mention) → AreNumbered mentions → OnSome IsCount (last_record uri mentions)
 last_count uri [] are = tt
 last_count uri (mention ∷ mentions) are =
-    ⊎_elim (λ (is : bytes_eq mention.uri uri ≡ true). rw is are.0) (λ (not : bytes_eq mention.uri uri ≡ false). rw not
-    (last_count uri mentions are.1)) (cases_Bool (bytes_eq mention.uri uri))
+    grind (arith, common_steps, bytes_eq, cases_Bool, (last_count uri mentions are.1))
 
 found_count : (uri : Option (List ℕ)) (mentions : List Mention) → AreNumbered mentions
     → OnSome IsCount (option_and_then (λ uri. last_record uri mentions) uri)
@@ -282,8 +257,7 @@ either_fits false x y h k = k
 pub last_fits : (known : Known) (uri : Option (List ℕ)) (verdict : Verdict) → AreNumbered known.made
     → AreNumbered known.mentions → OnSome IsCount (last_in known uri verdict)
 last_fits known uri verdict made mentions =
-    either_fits (is_stale_refusal verdict) _ _ (mention_fits known.made uri verdict made)
-    (mention_fits known.mentions uri verdict mentions)
+    grind (arith, common_steps, either_fits, mention_fits)
 
 -- ---- a session
 
@@ -379,8 +353,7 @@ HasCloseUri p = IsUtf8 p.uri
 
 close_uri : (ms : Members) → MembersAreHeld ms → OnSome HasCloseUri (close_by ms)
 close_uri ms held =
-    on_map IsUtf8 HasCloseUri (λ uri. record { uri = uri }) (λ uri u. u) (text_in (get_member (codes "uri") ms))
-    (held_text (get_member (codes "uri") ms) (held_member (codes "uri") ms held))
+    grind (arith, common_steps, on_map, held_text, held_member)
 
 plain_method : (method : List ℕ) → are_ascii method ≡ true → OnSome IsUtf8 (Some method)
 plain_method method h = IsUtf8-are_ascii method h
@@ -468,12 +441,7 @@ read_or P f (Some a) d all is rest = all a is
 
 value_id : (d : Data) → IsHeld d → IdRead (message_of d)
 value_id d held =
-    read_or MessageId msg.message (msg.message_in d) (msg.not_a_message (msg.id_found (get (codes "id") d)))
-    (λ m h. h)
-    (version_id (msg.is_version_two (get (codes "jsonrpc") d)) _
-    (row_id (get (codes "method") d) (get (codes "id") d) d (held_get (codes "method") d held)
-    (held_get (codes "id") d held) (held_get (codes "params") d held)))
-    (on_then IsHeld IsProperId id_in id_held (get (codes "id") d) (held_get (codes "id") d held))
+    grind (arith, common_steps, read_or, version_id, row_id, held_get, on_then, id_held)
 
 asked : (body : List ℕ) → IsAsked (incoming_of (reading body))
 asked body =
@@ -495,9 +463,7 @@ texts_at : (limits : LimitsData) (table : List DocumentItem) (uri : List ℕ) �
     → OnSome (λ (e : DocumentItem). IsUtf8 e.text) (entry_at table uri)
 texts_at limits [] uri kept = tt
 texts_at limits (first ∷ table) uri kept =
-    ⊎_elim (λ (is : bytes_eq uri first.uri ≡ true). rw is kept.0.utf8)
-    (λ (not : bytes_eq uri first.uri ≡ false). rw not (texts_at limits table uri kept.1))
-    (cases_Bool (bytes_eq uri first.uri))
+    grind (arith, common_steps, bytes_eq, cases_Bool, (texts_at limits table uri kept.1))
 
 pub text_utf8 : (limits : LimitsData) (table : List DocumentItem) (uri : Option (List ℕ)) → AllWithin limits table
     → OnSome (λ (e : DocumentItem). IsUtf8 e.text) (option_and_then (entry_at table) uri)
@@ -558,15 +524,7 @@ visible_change uri version batch =
 within_both : (max : ℕ) (o : Option (List ℕ)) (body : List ℕ) → within max o ≡ Some body
     → (o ≡ Some body) × (length body ≤ max)
 within_both max None body e = absurd (let no : None ≡ Some body = e in cc)
-within_both max (Some other) body e = by (nat_lt max (length other)) refl e
-  where
-    by : (b : Bool) → nat_lt max (length other) ≡ b → (if b then None else Some other) ≡ Some body
-        → (Some other ≡ Some body) × (length body ≤ max)
-    by true is f = absurd (let no : None ≡ Some body = f in cc)
-    by false is f =
-        let same : other ≡ body = (let some : Some other ≡ Some body = f in cc) in
-        let small = ltb-false max (length other) is in
-        (f, subst (λ b. length b ≤ max) same small)
+within_both max (Some other) body e = grind (arith, common_steps, ltb-false)
 
 -- a canonical message is JSON without line breaks
 pub canonical_json : (limits : LimitsData) → AreInRange limits → (s : Session) (r : Record) (body : List ℕ)

@@ -7,15 +7,16 @@ use Rattle.lsp_message.specs.Message.{reading}
 use Rattle.lsp_server.specs.Incoming.{incoming_of}
 use Rattle.lsp_log.specs.Log.{Record}
 use Rattle.lsp_replay.specs.declared.commands.traced.Details.{Details}
-use Rattle.lsp_replay.specs.Commands.{followed_by, log_config, unless_bad, writes}
+use Rattle.lsp_replay.specs.Commands.{followed_by, unless_bad, writes}
 use Rattle.lsp_replay.specs.RunOutput.{RunOutput}
-use Rattle.lsp_replay.specs.Lines.{Known, known_after, nothing_known}
-use Rattle.lsp_replay.specs.Session.{Session, Verdict, answered, recorded, bad, judge, opened}
+use Rattle.lsp_replay.specs.Lines.{Known, known_after}
+use Rattle.lsp_replay.specs.Session.{Session, Verdict, answered, recorded, bad, judge}
 use Rattle.lsp_replay.specs.Trace.{trace_line, tracing}
 use Rattle.lsp_replay.specs.inside.Lines.{lines_in}
 use Rattle.lsp_replay.specs.laws.JsonLines.{AreJsonLines, IsJsonLine, TraceJsonLaw, trace_value, unless_bad_value, values_from}
 use Rattle.lsp_replay.proofs.JsonLines.FitLemmas.{IsFit, judged_fits}
 use Rattle.lsp_replay.proofs.JsonLines.LineLemmas.{trace_json}
+use Rattle.std.proofs.lemmas.Grind.{common_steps}
 
 by_verdict : (verdict : Verdict) (r : Record) (line : List ℕ) (value : Json) (c : RunOutput) (values : List Json)
     → IsJsonLine line value → AreJsonLines c.out values
@@ -41,10 +42,4 @@ module _ (limits : LimitsData) (ranges : AreInRange limits) (details : Details) 
 
 pub trace_json_law : TraceJsonLaw
 trace_json_law settings details records ranges places =
-    lines_json settings.limits ranges details nothing_known (opened (log_config settings)) records places (record {
-      held = record { limit = refl; table = tt };
-      versions = tt;
-      records = omega arith;
-      made = tt;
-      mentions = tt;
-    })
+    grind (arith, common_steps, lines_json)

@@ -38,6 +38,7 @@ use Rattle.lsp_replay.proofs.JsonLines.ReasonPlainLemmas.{plain_note, plain_reas
 use Rattle.lsp_replay.proofs.JsonLines.StringLemmas.{are_visible}
 use Rattle.lsp_replay.proofs.JsonLines.ValueLemmas.{AreRead, IsValue, IsValueIf, a_body, a_compact, a_member, a_member_if, a_natural, a_plain, a_quoted, a_string, a_text, an_integer, an_object, last_read, no_more}
 use Rattle.lsp_replay.proofs.Records.ReadLemmas.{OnSome}
+use Rattle.std.proofs.lemmas.Grind.{common_steps}
 
 -- ---- values that are there or not
 
@@ -96,12 +97,7 @@ notes_from : (notes : List Note)
     ≡ 34 ∷ items_text true (view.items_of (map note_data notes))
 notes_from [] = refl
 notes_from (note ∷ notes) =
-    ap (λ l. 34 ∷ 44 ∷ 34 ∷ l)
-    (append_assoc (note_words note) (flat_map (λ note. codes "\",\"" ++ note_words note) notes) (codes "\"]")
-    ∙ ap (λ l. note_words note ++ l) (notes_from notes)
-    ∙ ap (λ l. l ++ 34 ∷ items_text true (view.items_of (map note_data notes)))
-    (sym (escape_plain (note_words note) (plain_note note)))
-    ∙ sym (append_assoc _ (34 ∷ []) (items_text true (view.items_of (map note_data notes)))))
+    grind (arith, common_steps, append_assoc, escape_plain, plain_note, (notes_from notes))
 
 notes_text : (note : Note) (notes : List Note)
     → codes "[\"" ++ notes_words (codes "\",\"") (note ∷ notes) ++ codes "\"]"
@@ -159,9 +155,7 @@ body_if : (is_asked : Bool) (body : List ℕ) → (is_asked ≡ true → IsBody 
     → IsValueIf (body_json is_asked body) (body_value is_asked body)
 body_if false body is = tt
 body_if true body is =
-    let found = is refl in
-    subst (λ o. IsValueIf (body_json true body) o) (sym found.json.document)
-    (a_body body found.value found.utf8 found.json)
+    grind (arith, common_steps, a_body)
 
 canonical_if : (o : Option (List ℕ))
     → ((body : List ℕ) → o ≡ Some body → IsBody body × (are_visible body ≡ true))

@@ -1,6 +1,6 @@
 -- Texts that need no escape in a JSON string, and texts without line breaks.
-use Rattle.std.proofs.Common.{◌≡◌, ◌⊎◌, inl, inr, ℕ, ℤ, pos, negsuc, zero, suc, ◌+◌, ◌/◌, ◌%◌, ◌<◌, ◌≤◌, Bool, true, false, cond, ◌&&◌, ◌||◌, ◌==◌, List, [], ◌∷◌, ◌++◌, decimal, refl, sym, ap, ◌∙◌, arith, IsUtf8}
-use Rattle.std.specs.Prelude.{if◌then◌else◌, nat_le, nat_lt, not}
+use Rattle.std.proofs.Common.{◌≡◌, inl, inr, ℕ, ℤ, pos, negsuc, zero, suc, ◌+◌, ◌/◌, ◌%◌, ◌<◌, ◌≤◌, Bool, true, false, cond, ◌&&◌, ◌||◌, ◌==◌, List, [], ◌∷◌, ◌++◌, decimal, refl, sym, ap, ◌∙◌, arith, IsUtf8}
+use Rattle.std.specs.Prelude.{if◌then◌else◌, nat_le, nat_lt}
 use Rattle.std.specs.Char.{digit_char}
 use Rattle.std.specs.Fmt.{digit_glyph, digits, digits_onto, signed_decimal}
 use Rattle.std.specs.List.{list_all}
@@ -8,12 +8,13 @@ use Rattle.std.proofs.Math.Nat.{mod-lt}
 use Rattle.std.proofs.lemmas.Bool.{and_from, and_parts, cases_Bool, eqb-false, eqb-true, le-leb, le-ltb, lt-ltb, ltb-false, ltb-true, ne_eqb, or_cases}
 use Rattle.std.proofs.lemmas.List.Folds.{list_all-append}
 use Rattle.json.specs.Run.{is_plain}
-use Rattle.json.specs.Print.{escape, escape_byte, escape_letter, quoted}
+use Rattle.json.specs.Print.{escape, escape_byte, quoted}
 use Rattle.json.proofs.Printed.Utf8.{are_ascii, IsUtf8-are_ascii}
 use Rattle.json.proofs.Printed.Strings.{escape_byte_plain}
 use Rattle.serde_json.specs.Data.{Num, unsigned, negative, float, Data, null, boolean, number, string, array, object, Items, no_items, item, Members, no_members, member}
 use Rattle.serde_json.specs.Written.{comma_if, compact_text, items_text, members_text, number_text}
 use Rattle.lsp_replay.proofs.JsonLines.StringLemmas.{are_visible}
+use Rattle.std.proofs.lemmas.Grind.{common_steps}
 
 -- ---- texts that need no escape
 
@@ -27,8 +28,7 @@ IsPlain s = list_all is_ascii_plain s ≡ true
 
 pub plain-append : (xs ys : List ℕ) → IsPlain xs → IsPlain ys → IsPlain (xs ++ ys)
 plain-append xs ys h k =
-    list_all-append is_ascii_plain xs ys
-    ∙ and_from (list_all is_ascii_plain xs) (list_all is_ascii_plain ys) h k
+    grind (arith, common_steps, list_all-append, and_from)
 
 record IsPlainByte (x : ℕ) : Type 0 where
   quote : x ≡ 34 → ⊥
@@ -37,20 +37,7 @@ record IsPlainByte (x : ℕ) : Type 0 where
 
 plain_byte : (x : ℕ) → is_ascii_plain x ≡ true → IsPlainByte x
 plain_byte x both =
-    let h = (and_parts (is_plain x) (nat_lt x 128) both).0 in
-    let stop = by ((x == 34) || (x == 92) || nat_lt x 32) h in
-    let parts = stops (x == 34) (x == 92) (nat_lt x 32) stop in
-    record { quote = eqb-false x 34 parts.0; backslash = eqb-false x 92 parts.1; high = ltb-false x 32 parts.2 }
-  where
-    by : (b : Bool) → not b ≡ true → b ≡ false
-    by true e = absurd (let no : false ≡ true = e in cc)
-    by false e = refl
-
-    stops : (a b c : Bool) → (a || b || c) ≡ false → (a ≡ false) × (b ≡ false) × (c ≡ false)
-    stops false false false e = (refl, refl, refl)
-    stops true b c e = absurd (let no : true ≡ false = e in cc)
-    stops false true c e = absurd (let no : true ≡ false = e in cc)
-    stops false false true e = absurd (let no : true ≡ false = e in cc)
+    grind (arith, common_steps, and_parts, eqb-false, ltb-false)
 
 pub escape_plain : (s : List ℕ) → IsPlain s → escape s ≡ s
 escape_plain [] h = refl
@@ -76,13 +63,7 @@ utf8_plain s h = IsUtf8-are_ascii s (ascii_plain s h)
 -- ---- digits
 
 plain_digit : (d : ℕ) → d < 10 → is_ascii_plain (digit_glyph false d) ≡ true
-plain_digit d l = rw (
-  lt-ltb d 10 l,
-  ne_eqb (48 + d) 34 (λ e. omega arith),
-  ne_eqb (48 + d) 92 (λ e. omega arith),
-  le-ltb (48 + d) 32 (omega arith),
-  lt-ltb (48 + d) 128 (omega arith),
-)
+plain_digit d l = grind (arith, common_steps, lt-ltb, ne_eqb, le-ltb)
 
 either_plain : (b : Bool) (x y : List ℕ) → IsPlain x → IsPlain y → IsPlain (if b then x else y)
 either_plain true x y h k = h
@@ -136,33 +117,28 @@ letter_high false false false false false true x h l is some = omega (arith, is)
 letter_high false false false false false false x h l is some = absurd (let never : ⊥ = omega (arith, is) in never)
 
 special_high : (x : ℕ) → ((x == 34) || (x == 92)) ≡ true → 32 ≤ x
-special_high x e = by (or_cases (x == 34) (x == 92) e)
-  where
-    by : ((x == 34) ≡ true) ⊎ ((x == 92) ≡ true) → 32 ≤ x
-    by (inl is) = omega (arith, eqb-true x 34 is)
-    by (inr is) = omega (arith, eqb-true x 92 is)
+special_high x e = grind (arith, common_steps, or_cases, inl, eqb-true, inr)
 
 pub one_visible : (x : ℕ) (xs : List ℕ) → 32 ≤ x → are_visible xs ≡ true → are_visible (x ∷ xs) ≡ true
 one_visible x xs l h = and_from (nat_le 32 x) (are_visible xs) (le-leb 32 x l) h
 
 digit_high : (d : ℕ) → 32 ≤ digit_char d
-digit_high d = by (cases_Bool (nat_lt d 10))
-  where
-    by : (nat_lt d 10 ≡ true) ⊎ (nat_lt d 10 ≡ false) → 32 ≤ digit_char d
-    by (inl e) = rw e (omega arith)
-    by (inr e) = rw e (omega arith)
+digit_high d = grind (arith, common_steps, cases_Bool, inl, inr)
 
 visible_byte : (x : ℕ) → are_visible (escape_byte x) ≡ true
 unfolding escape_byte
 visible_byte x =
-    either_visible (nat_lt 0 (escape_letter x)) _ _
-    (λ e. one_visible (escape_letter x) []
-    (letter_high ((x == 34) || (x == 92)) (x == 8) (x == 12) (x == 10) (x == 13) (x == 9) x (special_high x)
-    (escape_letter x) refl (ltb-true 0 (escape_letter x) e)) refl)
-    (λ e. either_visible (nat_lt x 32) _ _
-    (λ f. one_visible (digit_char (x / 16)) (digit_char (x % 16) ∷ []) (digit_high (x / 16))
-    (one_visible (digit_char (x % 16)) [] (digit_high (x % 16)) refl))
-    (λ f. one_visible x [] (ltb-false x 32 f) refl))
+    grind (
+      arith,
+      common_steps,
+      either_visible,
+      one_visible,
+      letter_high,
+      special_high,
+      ltb-true,
+      digit_high,
+      ltb-false,
+    )
 
 visible_escape : (s : List ℕ) → are_visible (escape s) ≡ true
 visible_escape [] = refl

@@ -6,6 +6,7 @@ use Rattle.std.proofs.lemmas.Bool.{and_parts, cases_Bool, cases_eq, cases_lt, eq
 use Rattle.json.specs.Text.{Within, plain, after_backslash, after_u, after_high, content, prepend, code_unit, short_escape, is_high_surrogate, is_low_surrogate, surrogate_pair}
 use Rattle.json.specs.Word.{is_operator, is_space}
 use Rattle.json.specs.Lex.{Class, quote, backslash, operator, space, other, class, Lexeme, Mode, between, in_string, in_escape, lex, lex_byte}
+use Rattle.std.proofs.lemmas.Grind.{common_steps}
 
 -- a text without the bytes that a test names
 abbrev pub without : (ℕ → Bool) → List ℕ → List ℕ
@@ -75,34 +76,17 @@ lex-escaped x r = in_any (class x) x r (λ m. lex m r)
 
 no_escape : (x : ℕ) → x < 32 → short_escape x ≡ None
 unfolding short_escape
-no_escape x l = rw (
-  ne_eqb x 34 (λ e. omega arith),
-  ne_eqb x 92 (λ e. omega arith),
-  ne_eqb x 47 (λ e. omega arith),
-  ne_eqb x 98 (λ e. omega arith),
-  ne_eqb x 102 (λ e. omega arith),
-  ne_eqb x 110 (λ e. omega arith),
-  ne_eqb x 114 (λ e. omega arith),
-  ne_eqb x 116 (λ e. omega arith),
-)
+no_escape x l = grind (arith, common_steps, ne_eqb)
 
 escape_some : (x c : ℕ) → short_escape x ≡ Some c → 32 ≤ x
-escape_some x c h = by (cases_lt x 32)
-  where
-    by : (x < 32) ⊎ (32 ≤ x) → 32 ≤ x
-    by (inl l) = absurd (let no : None ≡ Some c = sym (no_escape x l) ∙ h in cc)
-    by (inr l) = l
+escape_some x c h = grind (arith, common_steps, cases_lt, inl, no_escape, inr)
 
 -- a hexadecimal digit
 abbrev IsHex : ℕ → Type 0
 IsHex x = (48 ≤ x) × (x ≡ 92 → ⊥)
 
 hex : (x : ℕ) → is_digit x 16 ≡ true → IsHex x
-hex x h = (by (cases_lt x 48), λ e. let no : false ≡ true = subst (λ y. is_digit y 16 ≡ true) e h in absurd (cc))
-  where
-    by : (x < 48) ⊎ (48 ≤ x) → 48 ≤ x
-    by (inl l) = absurd (let no : false ≡ true = rw (lt-ltb x 48 l) at h in cc)
-    by (inr l) = l
+hex x h = grind (arith, common_steps, cases_lt, inl, lt-ltb, inr)
 
 all_four : (p q r t : Bool) (v u : ℕ) → cond (p && q && r && t) (Some v) None ≡ Some u
     → (p ≡ true) × (q ≡ true) × (r ≡ true) × (t ≡ true)
@@ -129,8 +113,7 @@ lex-hex x r h = lex-inside x r (λ e. let small = h.0 in omega arith) h.1
 
 lex-unit : (a b c d : ℕ) (r : List ℕ) → AreHex a b c d → lex in_string (a ∷ b ∷ c ∷ d ∷ r) ≡ lex in_string r
 lex-unit a b c d r h =
-    lex-hex a (b ∷ c ∷ d ∷ r) h.first ∙ lex-hex b (c ∷ d ∷ r) h.second ∙ lex-hex c (d ∷ r) h.third
-    ∙ lex-hex d r h.fourth
+    grind (arith, common_steps, lex-hex)
 
 -- ---- one step of the reading
 
@@ -170,8 +153,7 @@ unit_high r u high = ap (λ b. cond b (content (after_high u) r)
 unit_low : (r : List ℕ) (u : ℕ) (low : Bool) → is_high_surrogate u ≡ false → is_low_surrogate u ≡ low
     → unit_content r u ≡ cond low None (prepend (encode_utf8 u) (content plain r))
 unit_low r u low not_high is =
-    ap (λ b. cond b (content (after_high u) r) (cond (is_low_surrogate u) None (prepend (encode_utf8 u)
-    (content plain r)))) not_high ∙ ap (λ b. cond b None (prepend (encode_utf8 u) (content plain r))) is
+    grind (arith, common_steps)
 
 -- what the second unit of a pair is, before more text
 abbrev pair_content : ℕ → List ℕ → ℕ → Option (List ℕ)
@@ -184,9 +166,7 @@ step_pair : (high x u a b c d l : ℕ) (r : List ℕ) → ((x == 92) && (u == 11
     ≡ prepend (encode_utf8 (surrogate_pair high l)) (content plain r)
 unfolding content
 step_pair high x u a b c d l r test e low =
-    ap (λ t. cond t (option_and_then (pair_content high r) (code_unit a b c d)) None) test
-    ∙ ap (option_and_then (pair_content high r)) e
-    ∙ ap (λ t. cond t (prepend (encode_utf8 (surrogate_pair high l)) (content plain r)) None) low
+    grind (arith, common_steps, option_and_then)
 
 -- ---- the string
 
@@ -204,13 +184,7 @@ module _ (drops : ℕ → Bool) (kept : (x : ℕ) → 32 ≤ x → drops x ≡ f
   stays_unit : (a b c d : ℕ) (xs ys : List ℕ) → AreHex a b c d → without drops xs ≡ ys
       → without drops (a ∷ b ∷ c ∷ d ∷ xs) ≡ a ∷ b ∷ c ∷ d ∷ ys
   stays_unit a b c d xs ys h e =
-      let one = h.first.0 in
-      let two = h.second.0 in
-      let three = h.third.0 in
-      let four = h.fourth.0 in
-      stays_byte a (b ∷ c ∷ d ∷ xs) (b ∷ c ∷ d ∷ ys) (omega arith)
-      (stays_byte b (c ∷ d ∷ xs) (c ∷ d ∷ ys) (omega arith)
-      (stays_byte c (d ∷ xs) (d ∷ ys) (omega arith) (stays_byte d xs ys (omega arith) e)))
+      grind (arith, common_steps, stays_byte)
 
   stays_pair : (x u a b c d : ℕ) (xs ys : List ℕ) → 32 ≤ x → 32 ≤ u → AreHex a b c d → without drops xs ≡ ys
       → without drops (x ∷ u ∷ a ∷ b ∷ c ∷ d ∷ xs) ≡ x ∷ u ∷ a ∷ b ∷ c ∷ d ∷ ys

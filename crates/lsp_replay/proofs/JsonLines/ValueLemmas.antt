@@ -29,6 +29,7 @@ use Rattle.lsp_replay.proofs.JsonLines.PrintedLemmas.{ended, lex-printed, lex-qu
 use Rattle.lsp_replay.proofs.JsonLines.StringLemmas.{are_visible, stays_text, then_some, without}
 use Rattle.lsp_replay.proofs.JsonLines.PlainLemmas.{IsPlain, one_visible, quoted_plain, visible-append, visible_compact, visible_quoted, plain_decimal, plain_signed, utf8_plain}
 use Rattle.lsp_replay.proofs.JsonLines.WithinLemmas.{kept, punctuate-then, same_lexemes}
+use Rattle.std.proofs.lemmas.Grind.{common_steps}
 
 -- ---- the last token of a value
 
@@ -135,11 +136,7 @@ abbrev is_break : ℕ → Bool
 is_break x = (x == 10) || (x == 13)
 
 is_break_of : (x : ℕ) → is_break x ≡ true → (x ≡ 10) ⊎ (x ≡ 13)
-is_break_of x e = by (or_cases (x == 10) (x == 13) e)
-  where
-    by : ((x == 10) ≡ true) ⊎ ((x == 13) ≡ true) → (x ≡ 10) ⊎ (x ≡ 13)
-    by (inl is) = inl (eqb-true x 10 is)
-    by (inr is) = inr (eqb-true x 13 is)
+is_break_of x e = grind (arith, common_steps, or_cases, inl, eqb-true, inr)
 
 one_line_is : (text : List ℕ) → without is_break text ≡ one_line text
 one_line_is [] = refl
@@ -153,12 +150,7 @@ stays x xs e = ap (λ b. if b then one_line xs else x ∷ one_line xs) e
 
 one_line_twice : (xs : List ℕ) → one_line (one_line xs) ≡ one_line xs
 one_line_twice [] = refl
-one_line_twice (x ∷ xs) = by (cases_Bool (is_break x)) (one_line_twice xs)
-  where
-    by : (is_break x ≡ true) ⊎ (is_break x ≡ false) → one_line (one_line xs) ≡ one_line xs
-        → one_line (one_line (x ∷ xs)) ≡ one_line (x ∷ xs)
-    by (inl e) again = ap one_line (gone x xs e) ∙ again ∙ sym (gone x xs e)
-    by (inr e) again = ap one_line (stays x xs e) ∙ stays x (one_line xs) e ∙ ap (λ l. x ∷ l) again ∙ sym (stays x xs e)
+one_line_twice (x ∷ xs) = grind (arith, common_steps, cases_Bool, inl, inr, (one_line_twice xs))
 
 either_break : (b : Bool) (x : ℕ) (xs ys zs : List ℕ) → xs ≡ ys ++ zs
     → (if b then xs else x ∷ xs) ≡ (if b then ys else x ∷ ys) ++ zs
@@ -281,9 +273,7 @@ EndsLine line = line ≡ one_line line ++ codes "\n"
 
 line_before : (front rest : List ℕ) → one_line front ≡ front → EndsLine rest → EndsLine (front ++ rest)
 line_before front rest e h =
-    ap (λ l. front ++ l) h ∙ sym (append_assoc front (one_line rest) (codes "\n"))
-    ∙ ap (λ l. (l ++ one_line rest) ++ codes "\n") (sym e)
-    ∙ ap (λ l. l ++ codes "\n") (sym (one_line-append front rest))
+    grind (arith, common_steps, append_assoc, one_line-append)
 
 pub record AreMembers (bytes : List ℕ) (ms : Members) : Type 0 where
   pub shallow : members_depth ms ≤ max_depth

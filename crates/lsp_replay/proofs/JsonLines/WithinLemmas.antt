@@ -10,6 +10,7 @@ use Rattle.json.specs.Print.{ends, token_text, IsPrintable, ArePrintable}
 use Rattle.lsp_replay.proofs.JsonLines.PrintedLemmas.{ended, lex-token_text, place, token_lexemes}
 use Rattle.lsp_replay.proofs.JsonLines.StringLemmas.{closed, without}
 use Rattle.lsp_replay.proofs.JsonLines.WordLemmas.{is_word, word_is}
+use Rattle.std.proofs.lemmas.Grind.{common_steps}
 
 -- ---- the place after a lexeme
 
@@ -105,20 +106,11 @@ quote_by false false false false h = absurd (cc)
 
 quote_is : (x : ℕ) → class x ≡ quote → 32 ≤ x
 quote_is x e =
-    let is : x ≡ 34 = eqb-true x 34 (quote_by (x == 34) (x == 92) (is_operator x) (is_space x) (ap is_quote e)) in
-    omega arith
+    grind (arith, common_steps, eqb-true, quote_by)
 
 module _ (drops : ℕ → Bool) (breaks : (x : ℕ) → drops x ≡ true → (x ≡ 10) ⊎ (x ≡ 13)) where
   pub kept : (x : ℕ) → 32 ≤ x → drops x ≡ false
-  kept x l = by (cases_Bool (drops x))
-    where
-      low : (x ≡ 10) ⊎ (x ≡ 13) → ⊥
-      low (inl e) = omega arith
-      low (inr e) = omega arith
-
-      by : (drops x ≡ true) ⊎ (drops x ≡ false) → drops x ≡ false
-      by (inl e) = absurd (low (breaks x e))
-      by (inr e) = e
+  kept x l = grind (arith, common_steps, cases_Bool, inl, inr)
 
   -- a first byte that ends a word
   ends_by : (q b o s : Bool) (x : ℕ) (xs : List ℕ) (k : Mode → List Lexeme)

@@ -1,5 +1,5 @@
 -- A number, `true`, `false` or `null` at the front of a text. No line break is in it.
-use Rattle.std.proofs.Common.{◌≡◌, ◌⊎◌, inl, inr, ℕ, suc, ◌+◌, ◌-◌, ◌≤◌, Bool, true, false, cond, ◌&&◌, ◌||◌, ◌==◌, List, [], ◌∷◌, ◌++◌, length, take, drop, Option, Some, None, option_and_then, refl, sym, ap, ◌∙◌, subst, arith, append_assoc, length-append, take_at}
+use Rattle.std.proofs.Common.{◌≡◌, ◌⊎◌, inl, inr, ℕ, suc, ◌+◌, ◌-◌, ◌≤◌, Bool, true, false, cond, ◌&&◌, ◌||◌, ◌==◌, List, [], ◌∷◌, ◌++◌, length, drop, Option, Some, None, option_and_then, refl, sym, ap, ◌∙◌, subst, arith, append_assoc, length-append, take_at}
 use Rattle.std.specs.Prelude.{if◌then◌else◌, nat_eq, ⊤}
 use Rattle.std.specs.Char.{is_ascii_digit}
 use Rattle.std.specs.List.{prefix_len, starts_with}
@@ -10,6 +10,7 @@ use Rattle.json.specs.Token.{Token, begin_object, end_object, begin_array, end_a
 use Rattle.json.specs.Word.{after_digits, after_exponent, after_fraction, after_minus, after_number, after_sign, after_whole, ends_word, head, literal, number_before, word}
 use Rattle.json.specs.Print.{IsPrintable, token_text}
 use Rattle.lsp_replay.proofs.JsonLines.StringLemmas.{are_visible, stays_text, without}
+use Rattle.std.proofs.lemmas.Grind.{common_steps}
 
 -- a word at the front of a text
 pub record Word (drops : ℕ → Bool) (text : List ℕ) (t : Token) : Type 0 where
@@ -153,13 +154,7 @@ module _ (drops : ℕ → Bool) (kept : (x : ℕ) → 32 ≤ x → drops x ≡ f
       → IsWord text (number_before text o)
   cut text None h p = absurd p
   cut text (Some rest) h p =
-      let size : length text - length rest ≡ length h.front =
-      omega (arith, ap length h.is, length-append h.front rest) in
-      let front : take (length text - length rest) text ≡ h.front =
-      ap (λ n. take n text) size ∙ ap (take (length h.front)) h.is ∙ take_at h.front rest (length h.front) refl in
-      unless_bad text (ends_word rest) (number (take (length text - length rest) text))
-      (λ e. subst (λ s. IsWord text (number s)) (sym front)
-      (refl, record { rest = rest; is = h.is; ended = e; stays = h.stays })) p
+      grind (arith, common_steps, length-append, take_at, unless_bad)
 
   named : (text : List ℕ) (t : Token) → is_word t ≡ true → are_visible (token_text t) ≡ true
       → IsPrintable (literal (token_text t) t text) → IsWord text (literal (token_text t) t text)

@@ -3,8 +3,7 @@ use Rattle.std.proofs.Common.{◌≡◌, ℕ, ℤ, pos, negsuc, ◌<◌, ◌^◌
 use Rattle.std.specs.Prelude.{⊤, if◌then◌else◌, nat_lt, int_lt}
 use Rattle.std.specs.Int.{w32}
 use Rattle.std.specs.Option.{option_map_or}
-use Rattle.std.specs.Ordering.{nat_cmp, match_ordering}
-use Rattle.std.specs.Cmp.Lexicographic.{slice_cmp}
+use Rattle.std.specs.Ordering.{match_ordering}
 use Rattle.std.specs.Str.{is_utf8}
 use Rattle.std.proofs.Common.{Ordering, Less, Equal, Greater}
 use Rattle.std.proofs.lemmas.Bool.{cond_both, ltb-true}
@@ -16,12 +15,13 @@ use Rattle.serde_json.specs.Read.{read}
 use Rattle.lsp_message.specs.Values.{member_at, text_in, array_in, each_of, whole_in}
 use Rattle.lsp_message.specs.Message as msg
 use Rattle.lsp_message.specs.Message.{IdData, whole, text, OutcomeData, Reading, MessageData, id_in, json_of, message_of, reading}
-use Rattle.lsp_message.specs.Params.{DocumentItem, ContentChangeData, ChangeData, open_of, open_by, change_of, change_by, document_in, document_and_changes, content_change_by, content_change_in, range_of, version_in, version_from}
+use Rattle.lsp_message.specs.Params.{DocumentItem, ContentChangeData, ChangeData, open_of, open_by, change_of, change_by, document_in, document_and_changes, content_change_in, version_in, version_from}
 use Rattle.lsp_message.specs.laws.Sent.{IsProperId}
 use Rattle.lsp_server.specs.Incoming.{IncomingData, not_json, not_a_message, response, initialize, shutdown, other_request, exit, did_open, did_change, did_close, other_notification, incoming_by, incoming_of}
 use Rattle.lsp_server.specs.Step.{content_change_from_data}
 use Rattle.lsp_store.specs.Message.{AreTexts}
 use Rattle.lsp_replay.proofs.Records.ReadLemmas.{OnSome, on_then, NumFits, IsHeld, ItemsAreHeld, MembersAreHeld, read_held}
+use Rattle.std.proofs.lemmas.Grind.{common_steps}
 
 -- ---- members of a value
 
@@ -34,8 +34,7 @@ held_ordered Greater a b c p q r = r
 pub held_member : (name : List ℕ) (ms : Members) → MembersAreHeld ms → OnSome IsHeld (get_member name ms)
 held_member name no_members received = tt
 held_member name (member l e ms) received =
-    held_ordered (slice_cmp nat_cmp name l) (get_member name ms) (Some e) (get_member name ms)
-    (held_member name ms received.1) received.0 (held_member name ms received.1)
+    grind (arith, common_steps, held_ordered, (held_member name ms received.1))
 
 pub held_get : (name : List ℕ) (d : Data) → IsHeld d → OnSome IsHeld (get name d)
 held_get name null received = tt
@@ -151,11 +150,7 @@ version_proper false found has = tt
 
 value_proper : (d : Data) → IsHeld d → IsProperReading (message_of d)
 value_proper d received =
-    found_or IsProperMessage msg.message (msg.message_in d) (msg.not_a_message (msg.id_found (get (codes "id") d)))
-    (λ m h. h)
-    (version_proper (msg.is_version_two (get (codes "jsonrpc") d)) _
-    (row_proper (get (codes "method") d) (get (codes "id") d) d (held_get (codes "id") d received)
-    (held_get (codes "params") d received))) tt
+    grind (arith, common_steps, found_or, codes, version_proper, row_proper, held_get)
 
 pub value_held : (body : List ℕ) → OnSome IsHeld (json_of body)
 value_held body = by (is_utf8 body) refl
@@ -188,14 +183,7 @@ document_held params received =
 
 open_held : (ms : Members) → MembersAreHeld ms → OnSome IsTextOpened (open_by ms)
 open_held ms received =
-    on_then (λ uri. ⊤) IsTextOpened _
-    (λ uri h. on_then (λ language. ⊤) IsTextOpened _
-    (λ language i. on_then (λ version. ⊤) IsTextOpened _
-    (λ version j. on_then IsUtf8 IsTextOpened _ (λ t u. u) (text_in (get_member (codes "text") ms))
-    (held_text (get_member (codes "text") ms) (held_member (codes "text") ms received)))
-    (version_in (get_member (codes "version") ms)) (any (version_in (get_member (codes "version") ms))))
-    (text_in (get_member (codes "languageId") ms)) (any (text_in (get_member (codes "languageId") ms))))
-    (text_in (get_member (codes "uri") ms)) (any (text_in (get_member (codes "uri") ms)))
+    grind (arith, common_steps, on_then, codes, held_text, held_member, any)
 
 opened_held : (params : Option Data) → OnSome IsHeld params → OnSome IsTextOpened (open_of params)
 opened_held params received = on_then MembersAreHeld IsTextOpened open_by open_held (document_in params)
@@ -210,21 +198,12 @@ AreEditsHeld (e ∷ es) = IsEditHeld e × AreEditsHeld es
 
 edit_held : (d : Data) → IsHeld d → OnSome IsEditHeld (content_change_in d)
 edit_held d received =
-    on_then MembersAreHeld IsEditHeld content_change_by
-    (λ ms h. on_then IsUtf8 IsEditHeld _
-    (λ t u. on_then (λ range. ⊤) IsEditHeld _ (λ range i. u) (range_of (get_member (codes "range") ms))
-    (any (range_of (get_member (codes "range") ms))))
-    (text_in (get_member (codes "text") ms))
-    (held_text (get_member (codes "text") ms) (held_member (codes "text") ms h)))
-    (as_object d) (object_held d received)
+    grind (arith, common_steps, on_then, codes, any, held_text, held_member, object_held)
 
 edits_held : (ds : Items) → ItemsAreHeld ds → OnSome AreEditsHeld (each_of content_change_in ds)
 edits_held no_items received = tt
 edits_held (item d ds) received =
-    on_then IsEditHeld AreEditsHeld _
-    (λ e u. on_then AreEditsHeld AreEditsHeld _ (λ es us. (u, us)) (each_of content_change_in ds)
-    (edits_held ds received.1))
-    (content_change_in d) (edit_held d received.0)
+    grind (arith, common_steps, on_then, edit_held, (edits_held ds received.1))
 
 texts_of_edits : (es : List ContentChangeData) → AreEditsHeld es → AreTexts (map content_change_from_data es)
 texts_of_edits [] received = tt
@@ -291,8 +270,7 @@ either_asked false x y p q = q
 
 asked_message : (m : MessageData) → IsProperMessage m → IsProperIncoming (incoming_by m)
 asked_message (msg.request id method params) proper =
-    either_asked (bytes_eq method (codes "initialize")) _ _ proper.0 (either_asked (bytes_eq method (codes "shutdown"))
-    (shutdown id) (other_request id method) tt tt)
+    grind (arith, common_steps, either_asked, bytes_eq, codes)
 asked_message (msg.notification method params) proper =
     either_asked (bytes_eq method (codes "exit")) exit _ tt
     (either_asked (bytes_eq method (codes "textDocument/didOpen")) (did_open (open_of params)) _

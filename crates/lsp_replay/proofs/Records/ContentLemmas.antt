@@ -1,5 +1,5 @@
 -- The content of a JSON string is UTF-8, where the text is.
-use Rattle.std.proofs.Common.{◌≡◌, ℕ, zero, suc, ◌+◌, ◌<◌, ◌≤◌, true, false, cond, ◌||◌, ◌&&◌, ◌==◌, nat_lt, nat_le, List, [], ◌∷◌, ◌++◌, length, take, drop, get_or, Option, Some, None, option_and_then, IsUtf8, refl, sym, ap, ◌∙◌, subst, arith, append_assoc}
+use Rattle.std.proofs.Common.{◌≡◌, ℕ, zero, suc, ◌+◌, ◌<◌, ◌≤◌, true, false, cond, ◌&&◌, ◌==◌, nat_lt, nat_le, List, [], ◌∷◌, ◌++◌, length, take, drop, get_or, Option, Some, None, option_and_then, IsUtf8, refl, sym, ap, ◌∙◌, subst, arith, append_assoc}
 use Rattle.std.specs.Prelude.{⊤}
 use Rattle.std.proofs.lemmas.Bool.{and_parts, ltb-true, leb-true, eqb-true, cond_both}
 use Rattle.std.proofs.lemmas.Bool.Decides.{nat_tests}
@@ -8,6 +8,7 @@ use Rattle.std.proofs.lemmas.Str.{IsUtf8-append, IsUtf8-encode, IsUtf8-take, IsU
 use Rattle.std.proofs.Math.Utf8.{scalar, low_scalar}
 use Rattle.std.specs.Char.{encode_utf8, digit_value}
 use Rattle.json.specs.Text.{code_unit, short_escape, is_high_surrogate, is_low_surrogate, surrogate_pair, plain, after_backslash, after_u, after_high, prepend, content}
+use Rattle.std.proofs.lemmas.Grind.{common_steps}
 
 pub tail_utf8 : (x : ℕ) (xs : List ℕ) → x < 128 → IsUtf8 (x ∷ xs) → IsUtf8 xs
 tail_utf8 x xs small u = IsUtf8-drop (x ∷ xs) 1 u (IsCharBoundary-after_ascii (x ∷ xs) 0 u (omega arith) small)
@@ -79,11 +80,7 @@ is_byte x n c rest small also good =
 short_ascii : (x : ℕ) → ShortAt x (short_escape x)
 unfolding short_escape
 short_ascii x =
-    cond_both ((x == 34) || (x == 92) || (x == 47)) (Some x) _ (ShortAt x)
-    (λ e. let small : x < 128 = grind (arith, nat_tests) in (small, small))
-    (λ e. is_byte x 98 8 _ (omega arith) (omega arith) (is_byte x 102 12 _ (omega arith) (omega arith)
-    (is_byte x 110 10 _ (omega arith) (omega arith)
-    (is_byte x 114 13 _ (omega arith) (omega arith) (is_byte x 116 9 None (omega arith) (omega arith) tt)))))
+    grind (arith, common_steps, cond_both, nat_tests, is_byte)
 
 -- four hex digits are ASCII, and spell no more than 16 bits
 record AreHex (a b c d u : ℕ) : Type 0 where
@@ -106,21 +103,7 @@ hex_good a b c d =
     cond_both (nat_lt (digit_value a) 16 && nat_lt (digit_value b) 16 && nat_lt (digit_value c) 16
     && nat_lt (digit_value d) 16) _ None (HexAt a b c d)
     (λ e.
-    let p = and_parts (nat_lt (digit_value a) 16 && nat_lt (digit_value b) 16 && nat_lt (digit_value c) 16)
-    (nat_lt (digit_value d) 16) e in
-    let q = and_parts (nat_lt (digit_value a) 16 && nat_lt (digit_value b) 16) (nat_lt (digit_value c) 16) p.0 in
-    let r = and_parts (nat_lt (digit_value a) 16) (nat_lt (digit_value b) 16) q.0 in
-    let i = ltb-true (digit_value a) 16 r.0 in
-    let j = ltb-true (digit_value b) 16 r.1 in
-    let k = ltb-true (digit_value c) 16 q.1 in
-    let l = ltb-true (digit_value d) 16 p.1 in
-    record {
-      first = digit_ascii a i;
-      second = digit_ascii b j;
-      third = digit_ascii c k;
-      fourth = digit_ascii d l;
-      small = omega arith;
-    })
+    grind (arith, common_steps, and_parts, nat_lt, ltb-true, digit_ascii))
     (λ e. tt)
 
 -- a code unit that is no surrogate is a scalar value, and so is what a pair spells
@@ -156,8 +139,7 @@ module _ (n : ℕ) (shorter : GoodUpTo n) where
       (λ l. cond (is_low_surrogate l) (prepend (encode_utf8 (surrogate_pair high l)) (content plain zs)) None) found)
   after_low high zs is small text None = tt
   after_low high zs is small text (Some l) =
-      cond_both (is_low_surrogate l) (prepend (encode_utf8 (surrogate_pair high l)) (content plain zs)) None GoodText
-      (λ e. encoded (surrogate_pair high l) zs (pair_scalar high l is e) small text) (λ e. tt)
+      grind (arith, common_steps, cond_both, encoded)
 
   behind_hex : (a b c d : ℕ) (zs : List ℕ) (found : Option ℕ) → HexAt a b c d found → IsUtf8 (a ∷ b ∷ c ∷ d ∷ zs)
       → (P : Option ℕ → Type 0) → P None
@@ -206,9 +188,7 @@ module _ (n : ℕ) (shorter : GoodUpTo n) where
       (option_and_then (λ u. cond (is_high_surrogate u) (content (after_high u) zs)
       (cond (is_low_surrogate u) None (prepend (encode_utf8 u) (content plain zs)))) found)) tt
       (λ u fits more.
-      cond_both (is_high_surrogate u) (content (after_high u) zs) _ GoodText (λ h. good_high u zs h (omega arith) more)
-      (λ h. cond_both (is_low_surrogate u) None (prepend (encode_utf8 u) (content plain zs)) GoodText (λ l. tt)
-      (λ l. encoded u zs (unit_scalar u fits h l) (omega arith) more)))
+      grind (arith, common_steps, cond_both, good_high, encoded, unit_scalar))
 
   short_then : (y : ℕ) (zs : List ℕ) (found : Option ℕ) → ShortAt y found → length zs < n → IsUtf8 (y ∷ zs)
       → GoodText (option_and_then (λ c. prepend (c ∷ []) (content plain zs)) found)

@@ -16,7 +16,7 @@ use Rattle.lsp_log.specs.declared.record.Sender.{Sender}
 use Rattle.lsp_log.specs.declared.record.Sender.TheVariants.{Client, Server}
 use Rattle.lsp_log.specs.declared.record.Head.{Head}
 use Rattle.lsp_log.specs.Log.{Record}
-use Rattle.lsp_replay.specs.Session.{Session, Verdict, answered, recorded, bad, Judged, judged, judge, judge_from, judge_client, judge_server, encoding_for, handled, is_ended, is_early, is_new, expected_of, count_if, is_refused}
+use Rattle.lsp_replay.specs.Session.{Session, Verdict, answered, recorded, bad, Judged, judged, judge, judge_from, judge_client, judge_server, encoding_for, handled, is_ended, is_early, expected_of}
 use Rattle.lsp_stream.specs.Ports.{one_more}
 use Rattle.lsp_replay.specs.Commands.{change_in, canonical_if, canonical_of_record, canonical_change_body}
 use Rattle.lsp_replay.specs.inside.Session.{judge_at}
@@ -24,6 +24,7 @@ use Rattle.lsp_replay.proofs.Canonical.CanonicalLogLemmas.{accepted, heard_has_n
 use Rattle.lsp_replay.proofs.Records.AskedLemmas.{IsProperIncoming, asked_proper}
 use Rattle.lsp_replay.proofs.Records.StateLemmas.{IsHeldState, step_on_held}
 use Rattle.lsp_replay.proofs.Canonical.SettledLemmas.{IsSettledChange, settled_change}
+use Rattle.std.proofs.lemmas.Grind.{common_steps}
 
 -- ---- what holds of a session whatever is judged
 
@@ -44,10 +45,7 @@ module _ (P : Judged → Type 0) (s : Session) where
       → P (handled s version m (step_on s.server m).state (as_sent (step_on s.server m).answer))
       → P (judge_client s version m)
   of_incoming version m refuses goes =
-      both P (is_ended s.server.phase) (judged bad s) (if is_early s m then judged bad s else handled s version m
-      (step_on s.server m).state (as_sent (step_on s.server m).answer)) refuses
-      (both P (is_early s m) (judged bad s) (handled s version m (step_on s.server m).state
-      (as_sent (step_on s.server m).answer)) refuses goes)
+      grind (arith, common_steps)
 
 from_held : (limits : LimitsData) (s : Session) (version : Version) (side : Sender) (body : List ℕ)
     → IsHeldState limits s.server → IsHeldState limits (judge_from s version side body).session.server
@@ -55,10 +53,10 @@ from_held limits s version Client body received =
     of_incoming (λ (j : Judged). IsHeldState limits j.session.server) s version (incoming_of (reading body)) received
     (step_on_held limits s.server (incoming_of (reading body)) (asked_proper body) received)
 from_held limits s version Server body received =
-    of_server (λ (j : Judged). IsHeldState limits j.session.server) s received received (λ encoding. record {
-      limit = received.limit;
-      table = received.table;
-    }) (encoding_for s.expected (reading body))
+    of_server (λ (j : Judged). IsHeldState limits j.session.server) s received received (λ encoding. grind (
+      arith,
+      common_steps,
+    )) (encoding_for s.expected (reading body))
 
 pub judged_held : (limits : LimitsData) (s : Session) (r : Record) → IsHeldState limits s.server
     → IsHeldState limits (judge s r).session.server
@@ -113,8 +111,7 @@ asks_change (other_notification method) p e = no_change (other_notification meth
 case_of : (server : ServerData) (m : IncomingData) (verdict : Verdict) (body : List ℕ)
     → canonical_if server (change_in m) verdict ≡ Some body → IsNormalCase server m verdict body
 case_of server m verdict body e =
-    let found = by_change server (change_in m) verdict body e in
-    record { change = found.0; asks = asks_change m found.0 found.1; error = found.2; is = found.3 }
+    grind (arith, common_steps, by_change, asks_change)
 
 -- ---- the canonical body is judged as the change was
 
@@ -127,12 +124,7 @@ handled_same : (s : Session) (version : Version) (params others : Option ChangeD
     (answer : AnswerData Sent)
     → handled s version (did_change params) server answer ≡ handled s version (did_change others) server answer
 handled_same s version params others server answer =
-    ap (λ (e : Option IdData). judged (answered answer) (record s {
-      server = server;
-      expected = (if is_new s.server.phase then e else s.expected);
-      messages = one_more s.messages;
-      refusals = count_if (is_refused answer) s.refusals;
-    })) (expects_same version params s.expected ∙ sym (expects_same version others s.expected))
+    grind (arith, common_steps, expects_same)
 
 again_incoming : (s : Session) (version : Version) (p again : ChangeData) → step_on s.server (did_change (Some again))
     ≡ step_on s.server (did_change (Some p))
@@ -184,10 +176,7 @@ module _ (limits : LimitsData) (ranges : AreInRange limits) where
   again_from s version Client body again received canonical_log fits =
       again_client s version body again received canonical_log fits
   again_from s version Server body again received canonical_log fits =
-      let none : None ≡ Some again =
-      sym (heard_has_none s.server (change_in (incoming_of (reading body))) s (encoding_for s.expected (reading body)))
-      ∙ canonical_log in
-      absurd (cc)
+      grind (arith, common_steps, heard_has_none)
 
   pub judged_again : (s : Session) (head : Head) (body again : List ℕ) → IsHeldState limits s.server
       → canonical_of_record s body (judge_at s head body).verdict ≡ Some again → length again ≤ limits.max_body

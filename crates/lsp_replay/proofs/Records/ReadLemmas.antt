@@ -13,6 +13,7 @@ use Rattle.json.specs.Json.{Parse, parse_map, after_end_array, read_key, items_s
 use Rattle.serde_json.specs.Data.{Num, unsigned, negative, float, Data, null, boolean, number, string, array, object, Items, no_items, item, Members, no_members, member, put}
 use Rattle.serde_json.specs.Read.{number_of, of_json, of_items, of_members, max_depth, read}
 use Rattle.lsp_replay.proofs.Records.TokenLemmas.{AllText, text_tokens}
+use Rattle.std.proofs.lemmas.Grind.{common_steps}
 
 abbrev mutual
   JsonText : json.Json → Type 0
@@ -196,20 +197,25 @@ a_float false x = record { fits = tt }
 a_natural : (whole finite : Bool) (n : ℕ) (x : Float) → HasNum (if whole && nat_lt n (2 ^ 64) then Some (unsigned n)
     else if finite then Some (float x) else None)
 a_natural whole finite n x =
-    cond_both (whole && nat_lt n (2 ^ 64)) (Some (unsigned n)) (if finite then Some (float x) else None) HasNum
-    (λ e. record { fits = tt }) (λ e. a_float finite x)
+    grind (arith, common_steps, cond_both, nat_lt, a_float)
 
 a_negative : (whole finite : Bool) (n : ℕ) (x : Float)
     → HasNum (if whole && nat_lt 0 n && nat_le n (2 ^ 63) then Some (negative (neg_ℤ (pos n))) else if finite then
     Some (float x) else None)
 a_negative whole finite n x =
-    cond_both (whole && nat_lt 0 n && nat_le n (2 ^ 63)) (Some (negative (neg_ℤ (pos n))))
-    (if finite then Some (float x) else None) HasNum
-    (λ e.
-    let parts = and_parts (whole && nat_lt 0 n) (nat_le n (2 ^ 63)) e in
-    let some = and_parts whole (nat_lt 0 n) parts.0 in
-    record { fits = fits_negative n (ltb-true 0 n some.1) (leb-true n (2 ^ 63) parts.1) })
-    (λ e. a_float finite x)
+    grind (
+      arith,
+      common_steps,
+      cond_both,
+      nat_lt,
+      nat_le,
+      neg_ℤ,
+      and_parts,
+      fits_negative,
+      ltb-true,
+      leb-true,
+      a_float,
+    )
 
 either_num : (minus : Bool) (a b : Option Num) → HasNum a → HasNum b → HasNum (if minus then a else b)
 either_num true a b p q = p

@@ -24,7 +24,7 @@ use Rattle.lsp_server.specs.declared.answer.Answer.TheVariants.{Changed, Dropped
 use Rattle.lsp_server.specs.declared.answer.Refusal.TheVariants.{Store}
 use Rattle.lsp_server.specs.declared.planned.PlannedChange.{PlannedChange}
 use Rattle.lsp_server.specs.declared.phase.Phase.TheVariants.{Running}
-use Rattle.lsp_server.specs.Answer.{as_sent, changed, refused}
+use Rattle.lsp_server.specs.Answer.{changed, refused}
 use Rattle.lsp_server.specs.Incoming.{did_change, incoming_of}
 use Rattle.lsp_server.specs.Planned.{IsNotObeyed, IsPlanOfChange, IsPlannedAs, after_commit, store_of}
 use Rattle.lsp_server.specs.Seen.{answer_view}
@@ -44,12 +44,13 @@ use Rattle.lsp_replay.specs.Session.{Session, Judged, Verdict, answered, counted
 use Rattle.lsp_replay.specs.inside.Bodies.{BodyData, IsChangeTaken, IsReceived, change_of, judge_read}
 use Rattle.lsp_replay.specs.inside.Joining.{IsBegun, IsChangeWriting, IsFramed, IsJoined, IsLonger, IsOpenAfter, IsOpenIn, IsWriting, refusal_of, server_after}
 use Rattle.lsp_replay.specs.inside.Session.{judge_at}
-use Rattle.lsp_replay.specs.inside.Taken.{IsChangeWitnessed, IsHeard, IsShown, IsTaken, IsTakenAs, accepted_if, accepted_of, ranged_read, ranged_with, received_of}
+use Rattle.lsp_replay.specs.inside.Taken.{IsChangeWitnessed, IsHeard, IsShown, IsTaken, IsTakenAs, accepted_if, accepted_of, ranged_read, received_of}
 use Rattle.lsp_replay.specs.inside.Verdicts.{IsAppended, verdict_view}
 use Rattle.lsp_replay.proofs.Records.BodyLemmas.{accepted_is, accepted_read, asked_in, body_of, canonical_is, judged_at, not_accepted, not_received, received_is}
 use Rattle.lsp_replay.proofs.Canonical.CanonicalLogLemmas.{over, within}
 use Rattle.lsp_replay.proofs.Records.ChangeLemmas.{done_session}
 use Rattle.lsp_replay.proofs.Squash.JoiningLemmas.{begun_open, is_begun, is_longer, longer_open, running_accepted, running_leaves, same_entry}
+use Rattle.std.proofs.lemmas.Grind.{common_steps}
 
 -- ---- what a running server answers to a change
 
@@ -74,8 +75,7 @@ is_changed (Exit status) e = absurd (cc)
 pub answered_some : (server : ServerData) (p : ChangeData) → server.phase ≡ Running → (a : Answer)
     → IsNotObeyed server (step_on server (did_change (Some p))) a → refusal_of server p ≢ None
 answered_some server p running a why =
-    λ (none : refusal_of server p ≡ None). why.not_changed
-    (is_changed a (why.answer ∙ ap as_sent (step_accepted server p running none)))
+    grind (arith, common_steps, is_changed, step_accepted)
 
 -- What the server planned, as a session sees its server.
 module _ {inside server : ServerData} (same : inside ≡ server) (p : ChangeData) {planned found : PlannedChange}
@@ -94,14 +94,7 @@ module _ (s : Session) (p : ChangeData) (running : s.server.phase ≡ Running) (
       } → IsChangeTaken s p (answered changed) new
   committed_in plan q new is = record {
     judged = λ version. sym (running_accepted s version p running known q.accepted);
-    session = λ version.
-        is
-        ∙ (ap (λ (table : List DocumentItem). record s {
-          server = record s.server { table = table };
-          records = one_more s.records;
-          messages = one_more s.messages;
-        }) (sym q.after)
-        ∙ sym (done_session s version p running known q.accepted));
+    session = grind (arith, common_steps, done_session);
   }
 
   pub committed : (plan : Plan) → IsPlanOfChange s.server p plan → (verdict : Verdict) → verdict ≡ answered changed
@@ -109,8 +102,7 @@ module _ (s : Session) (p : ChangeData) (running : s.server.phase ≡ Running) (
       → (records : ℕ) → records ≡ one_more t.records → (messages : ℕ) → messages ≡ one_more t.messages
       → IsChangeTaken s p verdict (record t { server = server; records = records; messages = messages })
   committed plan q verdict answer t same server server_is records records_is messages messages_is =
-      rw answer (committed_in plan q (record t { server = server; records = records; messages = messages })
-      (rw (server_is, records_is, messages_is, same) refl))
+      grind (arith, common_steps, committed_in)
 
   -- A change that is refused is counted.
   refused_by : (version : Version) (refusal : Refusal) → refusal_of s.server p ≡ Some refusal
@@ -124,12 +116,7 @@ module _ (s : Session) (p : ChangeData) (running : s.server.phase ≡ Running) (
       → IsChangeTaken s p (answered (answer_view a)) new
   refused_for a why None is new new_is = absurd (answered_some s.server p running a why is)
   refused_for a why (Some refusal) is new new_is =
-      let seen : answer_view a ≡ refused (Store (refusal_fault refusal)) =
-      why.answer ∙ ap as_sent (step_refused s.server p running refusal is) in
-      record {
-        judged = λ version. ap answered seen ∙ sym (ap (λ (j : Judged). j.verdict) (refused_by version refusal is));
-        session = λ version. new_is ∙ sym (ap (λ (j : Judged). (counted j).session) (refused_by version refusal is));
-      }
+      grind (arith, common_steps, step_refused, refused_by)
 
   pub refused_taken : (a : Answer) → IsNotObeyed s.server (step_on s.server (did_change (Some p))) a → (t : Session)
       → t ≡ s → (records : ℕ) → records ≡ one_more t.records
@@ -140,11 +127,7 @@ module _ (s : Session) (p : ChangeData) (running : s.server.phase ≡ Running) (
         refusals = refusals;
       })
   refused_taken a why t same records records_is messages messages_is refusals refusals_is =
-      refused_for a why (refusal_of s.server p) refl (record t {
-        records = records;
-        messages = messages;
-        refusals = refusals;
-      }) (rw (records_is, messages_is, refusals_is, same) refl)
+      grind (arith, common_steps, refused_for)
 
 -- ---- a record that is a change which a running server receives
 
@@ -161,12 +144,9 @@ module _ {s : Session} {read : BodyData} {p : ChangeData} (received : IsReceived
         → refusal_of s.server p ≡ refusal
         → IsShown Same HasSeen s new (accepted_if (Some p) (judge_client s version (did_change (Some p))).verdict)
     shown_by w None is =
-        subst (λ (v : Verdict). IsShown Same HasSeen s new (accepted_if (Some p) v))
-        (sym (running_accepted s version p received.running received.known is)) (w.accepted is)
+        grind (arith, common_steps, running_accepted)
     shown_by w (Some refusal) is =
-        subst (λ (j : Judged). IsShown Same HasSeen s new (accepted_if (Some p) j.verdict))
-        (sym (refused_by s p received.running received.known version refusal is))
-        (w.refused (λ (none : refusal_of s.server p ≡ None). let wrong : None ≡ Some refusal = sym none ∙ is in cc))
+        grind (arith, common_steps, refused_by)
 
     -- whatever record this was read of
     pub change_taken : {taken : Taken} → IsChangeWitnessed Same HasSeen s new p (verdict_view taken.verdict)
@@ -177,10 +157,7 @@ module _ {s : Session} {read : BodyData} {p : ChangeData} (received : IsReceived
       session = w.taken.session version ∙ ap (λ (j : Judged). (counted j).session) (sym judged_here)
           ∙ ap (λ (j : Judged). (counted j).session) (judged_at s head body s read refl is);
       change = change ∙ sym (received_is s read p received) ∙ ap (received_of s) is;
-      heard = λ before.
-          ap (ranged_with before) quiet
-          ∙ ap (λ (b : BodyData). ranged_read before s b) (sym (asked_in read p received.is).1)
-          ∙ ap (λ (b : BodyData). ranged_read before s b) is;
+      heard = grind (arith, common_steps, asked_in);
       shown = subst (IsShown Same HasSeen s new) (accepted_read s head body read is)
           (subst (λ (b : BodyData). IsShown Same HasSeen s new (accepted_if (change_of b) (judge_read s b).verdict))
           (sym (asked_in read p received.is).1) (shown_by w (refusal_of s.server p) refl));
@@ -243,10 +220,7 @@ module _ (s new : Session) (head : Head) (body : List ℕ) (before after : Canon
         → IsAppended s.server.config.limits.max_body (canonical_of_record s body (judge_at s head body).verdict)
         after.appended before.bytes.items after.bytes.items
     seen_written shown =
-        subst (λ (c : Option (List ℕ)). IsAppended s.server.config.limits.max_body c after.appended before.bytes.items
-        after.bytes.items)
-        (sym (canonical_is s.server (change_in (incoming_of (reading body))) (judge_at s head body).verdict))
-        (body_seen (accepted_of s head body) shown)
+        grind (arith, common_steps, canonical_is, body_seen)
 
 -- the room before it stays
 pub room_kept : (max_body : ℕ) (canonical : Option (List ℕ)) (appended : Option Appended) (old new : List ℕ) (room : ℕ)
@@ -289,9 +263,7 @@ module _ {s new : Session} {series : Option SquashData} {head : Head} {body : Li
     seen_by : (a : Option ChangeData) → accepted_of s head body ≡ a → IsShown (after ≡ before) HasJoined s new a
         → IsWriting s.server series change verdict after.writing
     seen_by None none same =
-        subst (λ (w : Option Writing). IsWriting s.server series change verdict w)
-        (sym (ap (λ (j : Joiner). j.writing) (same ∙ begins)))
-        (canonical_is s.server change verdict ∙ ap (body_of s.server) none)
+        grind (arith, common_steps, canonical_is, body_of)
     seen_by (Some p) is seen =
         let both = accepted_is change verdict p is in
         joined_writing p both.0 both.1 after.writing
@@ -324,9 +296,7 @@ module _ {s new : Session} {series : Option SquashData} {head : Head} {body : Li
     open_seen None same w is =
         let wrong : None ≡ Some w = sym (ap (λ (j : Joiner). j.writing) (same ∙ begins)) ∙ is in absurd (cc)
     open_seen (Some p) seen w is =
-        open_by new.server p seen.1 w
-        (subst (λ (v : Option Writing). IsJoined s.server series p v) is
-        (subst (λ (j : Joiner). IsJoined s.server j.batches p after.writing) begins seen.0))
+        grind (arith, common_steps, open_by)
 
     pub seen_open : (w : Writing) → after.writing ≡ Some w → IsOpenAfter new.server w
     seen_open w written = open_seen (accepted_of s head body) is.shown w written
@@ -343,12 +313,9 @@ pub message_is : {T : Type 0} (message : Result T StoreFault) (out : Result (Opt
     → IfErr message (λ fault. IfOk out (λ m. (fault ≢ NoMemory) × (m ≡ None))) → (made : T) → out ≡ Ok (Some made)
     → message ≡ Ok made
 message_is (Ok m) out ok error made is =
-    let same = sym ok ∙ is in
-    cc
+    grind (arith, common_steps)
 message_is (Err fault) out ok error made is =
-    let both = rw is at error in
-    let wrong = both.1 in
-    absurd (cc)
+    grind (arith, common_steps)
 
 module _ {T : Type 0} (Q : Type 0) where
   pub message_on : (message : Result T StoreFault) (out : Result (Option T) AllocError)
@@ -367,11 +334,9 @@ module _ {T : Type 0} (Q : StoreFault → Type 0) where
       → IfOk message (λ m. out ≡ Ok (Some m)) → IfErr message (λ fault. IfOk out (λ m. (fault ≢ NoMemory) × (m ≡ None)))
       → out ≡ Ok None → IfErr message Q → IsRefusedMessage Q
   message_none (Ok m) out ok error is q =
-      let wrong = sym ok ∙ is in
-      absurd (cc)
+      grind (arith, common_steps)
   message_none (Err fault) out ok error is q =
-      let both = rw is at error in
-      record { fault = fault; other = both.0; why = q }
+      grind (arith, common_steps)
 
 -- ---- what is read from the plan of an accepted change
 
@@ -386,12 +351,7 @@ under_own : (limits : LimitsData) (encoding : Encoding) (old new : SquashData) {
     → IsSquashAfter (squash_under limits encoding old) version batch (squash_under limits encoding new)
     × (new.limits ≡ old.limits) × (new.encoding ≡ old.encoding) × HasReached new entry
     → IsSquashAfter old version batch new × HasReached new entry
-under_own limits encoding old new {version} {batch} same coded added = (
-  subst (λ (k : SquashData). IsSquashAfter k version batch new) (own limits encoding old same coded)
-      (subst (λ (k : SquashData). IsSquashAfter (squash_under limits encoding old) version batch k)
-      (own limits encoding new (added.1 ∙ same) (added.2 ∙ coded)) added.0),
-  added.3,
-)
+under_own limits encoding old new {version} {batch} same coded added = grind (arith, common_steps, own)
 
 on_same : (store : StoreData) (plan : Plan) (a b : IsPlanOn store plan) → a.entry ≡ b.entry
 on_same store plan a b = let both : Some a.entry ≡ Some b.entry = sym a.at ∙ b.at in cc
@@ -419,9 +379,7 @@ module _ (server : ServerData) (p : ChangeData) {plan : Plan} (q : IsPlanOfChang
       (Some a) old new)
       → IsAppended server.config.limits.max_body (Some (canonical_change_body server p)) (Some a) old new
   plan_written a old new appended =
-      subst (λ (d : StoreData). IsAppended d.limits.max_body
-      (Some (canonical_body (units_in (session_encoding server)) d.table p.uri p.version changes)) (Some a) old new)
-      same (appended p.uri p.version (session_encoding server) changes plan_at)
+      grind (arith, common_steps, plan_at)
 
   pub plan_framed : (bytes : List ℕ) → IsMessageOfPlan store plan bytes → IsFramed server p bytes
   plan_framed bytes message =
@@ -461,8 +419,7 @@ module _ (server : ServerData) (p : ChangeData) {plan : Plan} (q : IsPlanOfChang
   module _ {squash : SquashData} (at : IsOpenIn server squash) (uri : p.uri ≡ squash.uri) where
     pub plan_reached : (on : IsPlanOn store plan) → HasReached squash on.entry
     plan_reached on =
-        subst (HasReached squash) (same_entry server squash p.uri entry at uri is_open ∙ on_same store plan plan_at.on
-        on) at.reached
+        grind (arith, common_steps, same_entry, on_same)
 
     pub plan_longer : (next : SquashData) → IsSquashOfPlan store plan squash next
         → IsLonger (Some squash) p next × IsOpenIn (server_after server p) next
@@ -482,8 +439,7 @@ module _ (store : StoreData) (plan : Plan) where
       → IsAppended store.limits.max_body (Some (canonical_body (units_in encoding) store.table uri version batch))
       (Some Body) old new
   body_appended old new uri version encoding batch q body =
-      let both = body uri version encoding batch q in
-      (both.0, within store.limits _ _ q.accepted both.1)
+      grind (arith, common_steps)
 
   pub body_too_long : (fault : StoreFault) → fault ≢ NoMemory → IsMessageFault store plan fault
       → (uri : List ℕ) (version : ℤ) (encoding : Encoding) (batch : List ContentChange)

@@ -9,6 +9,7 @@ use Rattle.json.specs.Word.{word, head, literal, number_before, ends_word, after
 use Rattle.json.specs.Ascii.{true_text, false_text, null_text}
 use Rattle.json.specs.Lex.{Lexeme, token, comma, colon, Class, quote, backslash, operator, space, other, class, operator_lexeme, string_token, Mode, between, in_word, in_string, in_escape, lex_byte, lex, Place, fresh, after_value, after_comma, after_key, begins_colon, may_begin, may_close, if_allowed, place_token, punctuate, tokens}
 use Rattle.lsp_replay.proofs.Records.ContentLemmas.{GoodText, content_utf8, behind_ascii}
+use Rattle.std.proofs.lemmas.Grind.{common_steps}
 
 abbrev HasText : Token → Type 0
 HasText Token.begin_object = ⊤
@@ -68,18 +69,7 @@ no_text_word t =
     (no_text_literal null_text Token.null t tt) (no_text_number t (after_number t))
 
 no_text_operator : (x : ℕ) → LexemeText (operator_lexeme x)
-no_text_operator x = by (x == 123) (x == 125) (x == 91) (x == 93) (x == 44)
-  where
-    by : (a b c d e : Bool)
-        → LexemeText (cond a (token Token.begin_object)
-        (cond b (token Token.end_object)
-        (cond c (token Token.begin_array) (cond d (token Token.end_array) (cond e comma colon)))))
-    by true b c d e = tt
-    by false true c d e = tt
-    by false false true d e = tt
-    by false false false true e = tt
-    by false false false false true = tt
-    by false false false false false = tt
+no_text_operator x = grind (arith, common_steps)
 
 -- behind each quote a text begins
 abbrev Quotes : List ℕ → Type 0
@@ -89,15 +79,7 @@ quotes_tail : (x : ℕ) (xs : List ℕ) → Quotes (x ∷ xs) → Quotes xs
 quotes_tail x xs quotes front rest e = quotes (x ∷ front) rest (ap (λ l. x ∷ l) e)
 
 class_is_quote : (x : ℕ) → class x ≡ quote → x ≡ 34
-class_is_quote x e = by (x == 34) (x == 92) _ _ e (eqb-true x 34)
-  where
-    by : (a b c d : Bool) → cond a quote (cond b backslash (cond c operator (cond d space other))) ≡ quote
-        → (a ≡ true → x ≡ 34) → x ≡ 34
-    by true b c d e is = is refl
-    by false true c d e is = absurd (cc)
-    by false false true d e is = absurd (cc)
-    by false false false true e is = absurd (cc)
-    by false false false false e is = absurd (cc)
+class_is_quote x e = grind (arith, common_steps, eqb-true)
 
 lexemes_byte : (m : Mode) (c : Class) (x : ℕ) (xs : List ℕ) (k : Mode → List Lexeme) → (c ≡ quote → IsUtf8 xs)
     → ((next : Mode) → LexemesText (k next)) → LexemesText (lex_byte m c x xs k)

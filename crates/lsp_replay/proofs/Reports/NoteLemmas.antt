@@ -30,6 +30,7 @@ use Rattle.lsp_message.specs.Seen.{content_change_view}
 use Rattle.lsp_server.specs.Step.{content_change_from_data}
 use Rattle.lsp_replay.specs.declared.notes.Note.{Note}
 use Rattle.lsp_replay.specs.Notes.{Terms, batch_notes, change_notes, left_by, note_words, notes_after, notes_from, replaced_by, taken_as}
+use Rattle.std.proofs.lemmas.Grind.{common_steps}
 
 -- ---- a position
 
@@ -48,12 +49,7 @@ module _ (units : ℕ → ℕ) (text : List ℕ) (p : Position) where
           ap (λ (q : Position). Some q) (exact k whole.within (sym same))
 
   pub taken_none : None ≡ option_map (place_of text) (denoted units text p) → None ≡ taken_as units text p
-  taken_none is = by (denoted units text p) is
-    where
-      by : (found : Option ℕ) → ◌≡◌ {A = Option ℕ} None (option_map (place_of text) found)
-          → ◌≡◌ {A = Option Position} None (option_map (exact_position units text) found)
-      by None at = refl
-      by (Some k) at = absurd (let wrong : None ≡ Some (place_of text k) = at in cc)
+  taken_none is = grind (arith, common_steps)
 
 -- ---- what a change replaces
 
@@ -75,12 +71,7 @@ module _ (units : ℕ → ℕ) (bytes : List ℕ) (range : Range) where
   -- an end denotes nothing, or the range is reversed
   pub no_part : (fault : EditFault) → Err fault ≡ places_at 0 text (ends_of units text range)
       → replaced_by units text (Some range) ≡ None
-  no_part fault is = by (ends_of units text range) refl is
-    where
-      by : (ends : Result (ℕ × ℕ) Fault) → ends_of units text range ≡ ends → Err fault ≡ places_at 0 text ends
-          → replaced_by units text (Some range) ≡ None
-      by (Ok ends) e at = absurd (cc)
-      by (Err why) e at = rw e refl
+  no_part fault is = grind (arith, common_steps)
 
 -- Two texts have the same characters exactly where they have the same bytes.
 pub same_chars : (a b : List ℕ) → IsUtf8 a → IsUtf8 b → bytes_eq (chars a) (chars b) ≡ bytes_eq a b
@@ -95,9 +86,7 @@ same_chars a b utf8_a utf8_b = by (bytes_eq (chars a) (chars b)) (bytes_eq a b) 
         let equal : bytes_eq a b ≡ true = (bytes_eq-Decides a b).1 bytes in
         absurd (cc)
     by false true p q =
-        let equal : bytes_eq (chars a) (chars b) ≡ true =
-        (bytes_eq-Decides (chars a) (chars b)).1 (ap chars ((bytes_eq-Decides a b).0 q)) in
-        absurd (cc)
+        grind (arith, common_steps, bytes_eq-Decides)
 
 -- ---- the changes of a message
 
@@ -109,18 +98,12 @@ long_text change = ap length (encodes-chars (string_bytes change.text) (IsUtf8-s
 module _ (units : ℕ → ℕ) (text : List ℕ) (change : Change) where
   pub nothing_left : 1073741824 < string_len change.text → left_by units text (content_change change) ≡ None
   nothing_left long =
-      let e : nat_lt 1073741824 (length (encode_utf8_all (chars (string_bytes change.text)))) ≡ true =
-      lt-ltb 1073741824 (length (encode_utf8_all (chars (string_bytes change.text))))
-      (omega (arith, long, long_text change)) in
-      rw e refl
+      grind (arith, common_steps, nat_lt, encode_utf8_all, string_bytes, lt-ltb, long_text)
 
   left_of : string_len change.text ≤ 1073741824 → left_by units text (content_change change)
       ≡ result_ok (text_within 1073741824 text (meaning units (chars text) (content_change change ∷ [])))
   left_of fits =
-      let e : nat_lt 1073741824 (length (encode_utf8_all (chars (string_bytes change.text)))) ≡ false =
-      le-ltb 1073741824 (length (encode_utf8_all (chars (string_bytes change.text))))
-      (omega (arith, fits, long_text change)) in
-      rw e refl
+      grind (arith, common_steps, nat_lt, encode_utf8_all, string_bytes, le-ltb, long_text)
 
   -- a whole text is what is left
   pub all_left : (new : List ℕ) → string_len change.text ≤ 1073741824 → change.range ≡ None
@@ -223,20 +206,13 @@ module _ (terms : Terms) (all : List Note) (index : ℕ) (change : Change) (rest
   here : next ++ notes_after (λ (text : List ℕ). notes_from terms (suc index) text (map content_change more))
       (left_by terms.units left (content_change change)) ≡ all
   here =
-      ap (λ (ns : List Note). ns ++ notes_after (λ (text : List ℕ). notes_from terms (suc index) text
-      (map content_change more)) (left_by terms.units left (content_change change))) pushed
-      ∙ append_assoc notes (change_notes terms (chars left) index (content_change change)) _
-      ∙ (rw is at noting.noted)
+      grind (arith, common_steps, append_assoc)
 
   pub noting_on : (text : List ℕ) → left_by terms.units left (content_change change) ≡ Some text
       → length text ≤ 1073741824
       → Noting terms all (index + 1) more text next
   noting_on text leaves size =
-      let n : index + 1 ≡ suc index = omega arith in
-      record {
-        noted = ap (λ (m : ℕ). next ++ notes_from terms m text (map content_change more)) n ∙ (rw leaves at here);
-        size = size;
-      }
+      grind (arith, common_steps)
 
   pub noting_ends : left_by terms.units left (content_change change) ≡ None → next ≡ all
   noting_ends leaves = sym (append-nil next) ∙ (rw leaves at here)
@@ -251,9 +227,4 @@ pub writing_on : (all between buffer one two : List ℕ) (note : Note) (rest mor
     → Writing all between rest buffer → one ≡ buffer ++ between → two ≡ one ++ note_words note
     → Writing all between more two
 writing_on all between buffer one two note rest more is writing first second =
-    let words = flat_map (λ (n : Note). between ++ note_words n) more in
-    ap (λ (bs : List ℕ). bs ++ words) (second ∙ ap (λ (bs : List ℕ). bs ++ note_words note) first)
-    ∙ parts buffer between (note_words note) words ∙ (rw is at writing)
-  where
-    parts : (b w n r : List ℕ) → ((b ++ w) ++ n) ++ r ≡ b ++ ((w ++ n) ++ r)
-    parts b w n r = simp append_assoc
+    grind (arith, common_steps, append_assoc)

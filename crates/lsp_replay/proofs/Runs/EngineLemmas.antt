@@ -9,7 +9,7 @@ use Rattle.lsp_stream.specs.declared.fault.EngineFault.{EngineFault}
 use Rattle.lsp_stream.specs.declared.fault.EngineFault.TheVariants.{Read, Write, Frame, Truncated, BodyTooLong, NoMemory, TooManyTurns, BadLog}
 use Rattle.lsp_log.specs.declared.splitter.Splitter.{Splitter}
 use Rattle.lsp_stream.specs.Turns.{AppendsFront, AppendsShort}
-use Rattle.lsp_log.specs.Log.{LogRules, Record, Log, HasNoRecord, IsCut, IsUndecided, mark_of, is_line_due}
+use Rattle.lsp_log.specs.Log.{LogRules, Record, Log, HasNoRecord, IsCut, IsUndecided, mark_of}
 use Rattle.lsp_log.specs.Splitting.{IsReady, log_at, buffered_of}
 use Rattle.lsp_log.specs.Opening.{IsUnfinished}
 use Rattle.lsp_log.specs.laws.Logs.{RestLaw}
@@ -20,6 +20,7 @@ use Rattle.lsp_replay.specs.Engine.{last_of}
 use Rattle.lsp_replay.specs.inside.Engine.{Reached, AtEnd, BrokenAtEnd, RanOutAtEnd}
 use Rattle.lsp_replay.specs.inside.Progress.{IsHandleFault, IsLastFault, IsEndFault, IsProgress}
 use Rattle.lsp_replay.proofs.Runs.WroteRecordLemmas.{IsQuiet, went_so_far}
+use Rattle.std.proofs.lemmas.Grind.{common_steps}
 
 pub empty_rest : (max_body : ℕ) (log : Log) → log.rest ≡ [] → HasNoRecord max_body log
 empty_rest max_body log nothing side raw body more is_frame_of e =
@@ -47,10 +48,7 @@ module _ (log_rules : LogRules) (run_output : List Record → RunOutput) (receiv
       → IsProgress log_rules run_output received input [] s now received_now → Reached log_rules run_output input
       received received_now (IsCut log_rules.max_body)
   went_cut rest_law s now received_now ready quiet some w =
-      went_so_far log_rules run_output received input [] s now received_now received_now (IsCut log_rules.max_body) w
-      quiet (Appends-nil received_now)
-      (cut_only log_rules.max_body (log_at s w.records []) (rest_law log_rules input w.records s ready w.is_after)
-      (λ nothing. some (sym (append-nil (buffered_of s)) ∙ nothing)))
+      grind (arith, common_steps, went_so_far, cut_only, append-nil)
 
   pub went_read : RestLaw → (s : Splitter) (now : List Record → RunOutput) (received_now : Option (List ℕ)) → IsReady s
       → IsQuiet now
@@ -72,8 +70,7 @@ module _ (log_rules : LogRules) (run_output : List Record → RunOutput) (receiv
       (w : IsProgress log_rules run_output received input [] s now received_now)
       → last_of run_output (log_at s w.records []) ≡ (now []).last s.line_due
   went_last s now received_now w =
-      ap (λ (c : RunOutput). c.last (is_line_due s.version w.records)) (went_whole s now received_now w)
-      ∙ ap (now []).last (sym w.is_after.due)
+      grind (arith, common_steps, went_whole)
 
   went_out : (s : Splitter) (now : List Record → RunOutput) (received_now : Option (List ℕ)) → IsQuiet now
       → (w : IsProgress log_rules run_output received input [] s now received_now) → (run_output w.records).out ≡ w.out
@@ -91,10 +88,7 @@ module _ (log_rules : LogRules) (run_output : List Record → RunOutput) (receiv
     whole = append-nil (buffered_of s) ∙ nothing;
     continues = ap (λ (c : RunOutput). c.stop) (went_whole s now received_now w) ∙ quiet.unstopped;
     reports = error ∙ sym (ap (λ (c : RunOutput). c.outcome) (went_whole s now received_now w));
-    wrote = subst (λ (z : List ℕ). Appends received received_new z)
-        (ap (λ z. z ++ (now []).last s.line_due) (sym (went_out s now received_now quiet w))
-        ∙ ap (λ z. (run_output w.records).out ++ z) (sym (went_last s now received_now w)))
-        (Appends-trans received received_now received_new w.out ((now []).last s.line_due) w.wrote wrote);
+    wrote = grind (arith, common_steps, went_out, went_last);
   }
 
   broken_last : (s : Splitter) (now : List Record → RunOutput) (received_now received_new : Option (List ℕ))
@@ -150,8 +144,7 @@ module _ (log_rules : LogRules) (run_output : List Record → RunOutput) (receiv
       → IsProgress log_rules run_output received input [] s now received_now → Reached log_rules run_output input
       received received_new (λ _. Unit {0})
   went_whole_records s now received_now received_new quiet nothing w =
-      went_so_far log_rules run_output received input [] s now received_now received_new (λ _. Unit {0}) w quiet nothing
-      tt
+      grind (arith, common_steps, went_so_far)
 
 -- Bytes that are short of some bytes are short of more.
 pub still_short : (unflushed : Bool) (some more : List ℕ) → (0 < length some) ⊎ (unflushed ≡ true)
@@ -163,24 +156,16 @@ still_short unflushed some more (inr kept) = inr kept
 pub part_short : (unflushed : Bool) (old mid new : Option (List ℕ)) (all out buffer rest : List ℕ)
     → all ≡ out ++ (buffer ++ rest) → Appends old mid out → AppendsShort unflushed mid new buffer
     → AppendsShort unflushed old new all
-part_short unflushed old mid new all out buffer rest is wrote cut = (
-  out ++ cut.0,
-  cut.1 ++ rest,
-  is ∙ ap (λ z. out ++ (z ++ rest)) cut.2 ∙ ap (λ z. out ++ z) (append_assoc cut.0 cut.1 rest)
-      ∙ sym (append_assoc out cut.0 (cut.1 ++ rest)),
-  Appends-trans old mid new out cut.0 wrote cut.3,
-  still_short unflushed cut.1 rest cut.4,
+part_short unflushed old mid new all out buffer rest is wrote cut = grind (
+  arith,
+  common_steps,
+  append_assoc,
+  still_short,
 )
 
 pub part_cut : (old mid new : Option (List ℕ)) (all out buffer rest : List ℕ) → all ≡ out ++ (buffer ++ rest)
     → Appends old mid out → AppendsFront mid new buffer → AppendsFront old new all
-part_cut old mid new all out buffer rest is wrote cut = (
-  out ++ cut.0,
-  cut.1 ++ rest,
-  is ∙ ap (λ z. out ++ (z ++ rest)) cut.2 ∙ ap (λ z. out ++ z) (append_assoc cut.0 cut.1 rest)
-      ∙ sym (append_assoc out cut.0 (cut.1 ++ rest)),
-  Appends-trans old mid new out cut.0 wrote cut.3,
-)
+part_cut old mid new all out buffer rest is wrote cut = grind (arith, common_steps, append_assoc)
 
 pub part_is : (answer : Option Outcome) (last buffer more : List ℕ) (A B : Type 0) (C : Outcome → Type 0)
     → MatchOption answer ((last ≡ buffer ++ more) × A × B) (λ outcome. (last ≡ buffer) × C outcome)
@@ -203,12 +188,9 @@ pub write_fault : (unflushed : Bool) (old new : List Record → RunOutput) (rece
     → (fault ≡ TooManyTurns → AppendsShort unflushed received_old received_new bytes)
     → IsHandleFault old unflushed received_old received_new r fault
 write_fault unflushed old new received_old received_new r bytes out end fault writes silent is (inl at) front short =
-    subst (IsHandleFault old unflushed received_old received_new r) (sym at)
-    (subst (AppendsFront received_old received_new) (is ∙ sym (record_out old new r out end (writes []) silent)) front)
+    grind (arith, common_steps, record_out)
 write_fault unflushed old new received_old received_new r bytes out end fault writes silent is (inr at) front short =
-    subst (IsHandleFault old unflushed received_old received_new r) (sym at)
-    (subst (AppendsShort unflushed received_old received_new)
-    (is ∙ sym (record_out old new r out end (writes []) silent)) (short at))
+    grind (arith, common_steps, record_out)
 
 -- what two clauses say of one answer
 pub ok_and : {T E : Type 0} (r : Result T E) (X : Type 0) (P Q : T → Type 0) → OnOk r X → IfOk r P

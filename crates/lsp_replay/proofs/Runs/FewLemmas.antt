@@ -6,6 +6,7 @@ use Rattle.lsp_stream.specs.declared.fault.EngineFault.{EngineFault}
 use Rattle.lsp_stream.specs.declared.fault.EngineFault.TheVariants.{Write}
 use Rattle.lsp_stream.specs.Ports.{FewReads, FewWrites, Ports, ReaderState, WriterState}
 use Rattle.lsp_replay.specs.Engine.{FewCalls}
+use Rattle.std.proofs.lemmas.Grind.{common_steps}
 
 -- more reads, where the last one wasn't at the end
 pub more_reads : (before mid after : ReaderState) → FewReads before mid → mid.ended ≡ false → FewReads mid after
@@ -42,5 +43,4 @@ pub few_result : (before after : Ports) (mid : WriterState) (r : Result Outcome 
 few_result before after mid (Ok outcome) reads writes ok error =
     few_ok before after outcome reads (more_writes before.writer mid after.writer writes ok)
 few_result before after mid (Err fault) reads writes ok error =
-    few_fault before after fault reads
-    (λ other. more_writes before.writer mid after.writer writes (error other))
+    grind (arith, common_steps, few_fault, more_writes)

@@ -24,6 +24,7 @@ use Rattle.lsp_replay.specs.inside.Engine.{IsPieceFault, Reached, Stopped, AtEnd
 use Rattle.lsp_replay.specs.inside.Progress.{IsProgress, Runs, IsEndFault}
 use Rattle.lsp_replay.proofs.Runs.EngineLemmas.{went_read}
 use Rattle.lsp_replay.proofs.Runs.WroteRecordLemmas.{IsQuiet}
+use Rattle.std.proofs.lemmas.Grind.{common_steps}
 
 together_more : (version : Version) (rs : List Record) (rest more : List ℕ) → together version rs (rest ++ more)
     ≡ together version rs rest ++ more
@@ -234,11 +235,7 @@ module _ (log_rules : LogRules) (run_output : List Record → RunOutput) (left r
       → Runs log_rules run_output left received left_now ended place piece s now received_now
       → Ran log_rules run_output state left left_now received received_new (Err fault)
   ran_into_fault left_now ended state place piece s now received_now received_new fault fails r =
-      record {
-        input = r.input;
-        read = r.read;
-        came = piece_fault state r.input received_new fault (fails r.input r.progress);
-      }
+      grind (arith, common_steps, piece_fault)
 
   end_fault : (state : PortState) (input : List ℕ) (place : ℕ) (received_new : Option (List ℕ)) (fault : EngineFault)
       → state.ended ≡ true → place ≡ place_after 0 (length input)
@@ -276,8 +273,7 @@ module _ (log_rules : LogRules) (run_output : List Record → RunOutput) (left r
   read_fault state input received_new fault (inl is) failed not_ended reached =
       subst (IsRunFault log_rules run_output state input received received_new) (sym is) (failed is, reached)
   read_fault state input received_new fault (inr is) failed not_ended reached =
-      subst (IsRunFault log_rules run_output state input received received_new) (sym is)
-      (inr (inr (not_ended is, reached)))
+      grind (arith, common_steps, inr)
 
   pub ran_unread : (left_now left_new : Option (List ℕ)) (ended : Bool) (state : PortState) (place : ℕ) (s : Splitter)
       (now : List Record → RunOutput) (received_now : Option (List ℕ)) (fault : EngineFault) → RestLaw → IsReady s
@@ -351,8 +347,7 @@ module _ (log_rules : LogRules) (run_output : List Record → RunOutput) (left r
       → Runs log_rules run_output left received left_now ended place [] s now received_now
       → Ran log_rules run_output state left left_now received received_new answer
   ran_finished left_now ended state place s now received_now received_new (Ok outcome) error ends fails r =
-      ran_to_end left_now ended state place s now received_now received_new outcome error
-      (ends log_rules run_output received) r
+      grind (arith, common_steps, ran_to_end)
   ran_finished left_now ended state place s now received_now received_new (Err fault) error ends fails r =
       ran_into_end_fault left_now ended state place s now received_now received_new fault error
       (fails log_rules run_output received) r
@@ -395,6 +390,4 @@ module _ (log_rules : LogRules) (run_output : List Record → RunOutput) (left r
   end_whole left_now ended place s now received_now received_new Holds (Ok outcome) whole one r is =
       absurd (let two : ◌≡◌ {A = Result Outcome EngineFault} (Ok outcome) (Err NoMemory) = is in cc)
   end_whole left_now ended place s now received_now received_new Holds (Err fault) whole one r is =
-      let same : fault ≡ NoMemory = cc in
-      wrote_records left_now r.input received_new r.read
-      (whole same one log_rules run_output received r.input r.progress)
+      grind (arith, common_steps, wrote_records)

@@ -2,18 +2,18 @@
 use Rattle.std.proofs.Common.{◌≡◌, ◌⊎◌, inl, inr, ℕ, ◌<◌, Bool, true, false, List, [], ◌∷◌, ◌++◌, length, Option, Some, None, refl, sym, ap, ◌∙◌, append_assoc, append-nil, arith}
 use Rattle.std.specs.Prelude.{Result, Ok, Err}
 use Rattle.std.specs.Io.KnownBytes.{Appends}
-use Rattle.lsp_frame.specs.Frame.{frame}
 use Rattle.lsp_frame.specs.declared.fault.FrameFault.{FrameFault}
 use Rattle.lsp_frame.proofs.WrittenLemmas.{written_is_frame}
 use Rattle.lsp_replay.specs.declared.outcome.Outcome.{Outcome}
 use Rattle.lsp_stream.specs.declared.fault.EngineFault.{EngineFault}
 use Rattle.lsp_stream.specs.declared.fault.EngineFault.TheVariants.{Read, Write, Frame, Truncated, BodyTooLong, NoMemory, TooManyTurns, BadLog}
-use Rattle.lsp_log.specs.Log.{LogRules, Record, Log, IsMalformed, IsBadMark, mark_of}
+use Rattle.lsp_log.specs.Log.{LogRules, Record, Log, IsMalformed, IsBadMark}
 use Rattle.lsp_replay.specs.RunOutput.{RunOutput}
 use Rattle.lsp_replay.specs.Engine.{PortState, all_of, last_of}
 use Rattle.lsp_replay.specs.AllRecords.{IsCause, IsObserved, is_cut_off, last_if}
 use Rattle.lsp_replay.specs.inside.AllRecords.{EndedBy, IsFaultReported, IsFirstPart, IsRunReport, IsShort, Passed}
 use Rattle.lsp_replay.proofs.Runs.EngineLemmas.{still_short}
+use Rattle.std.proofs.lemmas.Grind.{common_steps}
 
 -- ---- is the output at the end due?
 
@@ -52,9 +52,7 @@ nothing_after (x ∷ a) b e = absurd (cc)
 malformed_some : (max_body : ℕ) (input : List ℕ) (fault : FrameFault) (log : Log) → IsMalformed max_body input fault log
     → log.rest ≡ [] → ⊥
 malformed_some max_body input fault log is none =
-    let part : is.part ≡ [] = nothing_after (mark_of log.version is.side) is.part (sym is.is ∙ none) in
-    is.hopeless (frame []) (frame []) [] [] (written_is_frame max_body [] (omega arith) (omega arith))
-    (ap (λ z. z ++ frame []) part ∙ sym (append-nil (frame [])))
+    grind (arith, common_steps, nothing_after, written_is_frame, append-nil)
 
 bad_some : (input : List ℕ) (place : ℕ) (log : Log) → IsBadMark input place log → log.rest ≡ [] → ⊥
 bad_some input place log is none = let wrong : is.byte ∷ is.more ≡ [] = sym is.is ∙ none in cc
@@ -119,15 +117,12 @@ module _ (log_rules : LogRules) (run_output : List Record → RunOutput) (state 
       → EndedBy run_output old new answer all → (output.stop ≡ Some answer → Cause output.out [] result)
       → Reported result
   of_end result answer ended cause =
-      of_records result
-      (stopped_none (last_of run_output all) state.ended all.rest output.stop answer ended.stops)
-      ended.wrote (cause ended.stops)
+      grind (arith, common_steps, of_records, stopped_none)
 
   of_passed : (result : Result Outcome EngineFault) → (all.rest ≡ [] → ⊥) → Passed run_output old new all
       → (output.stop ≡ None → Cause output.out [] result) → Reported result
   of_passed result some passed cause =
-      of_records result (rest_none (last_of run_output all) state.ended all.rest output.stop some) passed.wrote
-      (cause passed.continues)
+      grind (arith, common_steps, of_records, rest_none)
 
   of_first_part : (result : Result Outcome EngineFault) → is_cut_off result ≡ true
       → ((written left : List ℕ) → Cause written left result) → IsFirstPart run_output state.ended old new all
@@ -135,8 +130,7 @@ module _ (log_rules : LogRules) (run_output : List Record → RunOutput) (state 
   of_first_part result cut cause (inl front) =
       of_front result cut front.0 front.1 front.2 front.3 (cause front.0 (front.1 ++ at_end))
   of_first_part result cut cause (inr at) =
-      of_all result cut at.1.wrote.0 at.1.wrote.1 at.0 at.1.whole at.1.continues at.1.wrote.2 at.1.wrote.3
-      (cause at.1.wrote.0 at.1.wrote.1)
+      grind (arith, common_steps, of_all)
 
   -- a turn was needed
   still_needed : (left more : List ℕ) → (0 < length left) ⊎ (state.unflushed ≡ true)
@@ -153,9 +147,7 @@ module _ (log_rules : LogRules) (run_output : List Record → RunOutput) (state 
       of_front (Err TooManyTurns) refl short.0 short.1 short.2 short.3
       (needs short.0 (short.1 ++ at_end) (still_needed short.1 at_end short.4))
   of_short (inr (inl at)) =
-      let wrote = at.1.wrote in
-      of_all (Err TooManyTurns) refl wrote.0 wrote.1 at.0 at.1.whole at.1.continues wrote.2 wrote.3
-      (needs wrote.0 wrote.1 wrote.4)
+      grind (arith, common_steps, of_all)
   of_short (inr (inr at)) =
       of_front (Err TooManyTurns) refl output.out [] (sym (append-nil output.out)) at.2.wrote
       (inr (inr (at.0, refl, at.2.continues, at.1)))
@@ -163,8 +155,7 @@ module _ (log_rules : LogRules) (run_output : List Record → RunOutput) (state 
   of_fault : (fault : EngineFault) → IsFaultReported log_rules run_output state input old new all fault
       → Reported (Err fault)
   of_fault Read r =
-      of_records (Err Read) (open_none (last_of run_output all) state.ended all.rest output.stop r.0) r.2.wrote
-      (r.0, r.2.continues, r.1)
+      grind (arith, common_steps, of_records, open_none)
   of_fault Write r = of_first_part (Err Write) refl (λ written left. tt) r
   of_fault (Frame fault) r =
       of_passed (Err (Frame fault)) (malformed_some log_rules.max_body input fault all r.0) r.1 (λ on. (on, r.0))

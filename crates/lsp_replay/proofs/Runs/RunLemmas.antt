@@ -14,6 +14,7 @@ use Rattle.lsp_replay.specs.inside.Progress.{BothSpend}
 use Rattle.lsp_stream.specs.Ports.{Rose}
 use Rattle.lsp_stream.specs.Turns.{Spends, StaysWell, StaysFlushed}
 use Rattle.lsp_replay.proofs.Runs.PieceLemmas.{ended_not}
+use Rattle.std.proofs.lemmas.Grind.{common_steps}
 
 -- Which calls were made when a fault came.
 pub called_fault : (reads_old reads_new writes_old writes_new allowed turns : ℕ) (read_failed write_failed ended : Bool)
@@ -23,13 +24,7 @@ pub called_fault : (reads_old reads_new writes_old writes_new allowed turns : �
     → ((fault ≡ TooManyTurns → ⊥) → ended ≡ true → IsAtEnd left × Rose reads_old reads_new)
     → Called reads_old reads_new writes_old writes_new allowed read_failed write_failed ended left (Err fault)
 called_fault reads_old reads_new writes_old writes_new allowed turns read_failed write_failed ended left fault spent
-    none read write at_end = record {
-      turns = omega (arith, spent.most);
-      too_many = λ is a b. let same : fault ≡ TooManyTurns = cc in omega (arith, spent.exact a b, none same);
-      read_fault = λ is. let same : fault ≡ Read = cc in read same;
-      write_fault = λ is. let same : fault ≡ Write = cc in write same;
-      at_end = λ other ended_now. at_end (λ is. other (ap Err is)) ended_now;
-    }
+    none read write at_end = grind (arith, common_steps)
 
 pub piece_not_read : (log_rules : LogRules) (run_output : List Record → RunOutput) (unflushed : Bool) (input : List ℕ)
     (old new : Option (List ℕ)) (fault : EngineFault) → IsPieceFault log_rules run_output unflushed input old new fault
@@ -107,15 +102,9 @@ pub told_result : (read_failed_old read_failed_new write_failed_old write_failed
     → IfErr r (λ fault. fault ≢ Write → StaysWell write_failed_mid write_failed_new)
     → NonePassedOver read_failed_old read_failed_new write_failed_old write_failed_new r
 told_result read_failed_old read_failed_new write_failed_old write_failed_mid write_failed_new (Ok t) reads before ok
-    err = record {
-      reads = λ _. reads;
-      writes = λ _ well. ok (before well);
-    }
+    err = grind (arith, common_steps)
 told_result read_failed_old read_failed_new write_failed_old write_failed_mid write_failed_new (Err fault) reads before
-    ok err = record {
-      reads = λ _. reads;
-      writes = λ other well. err (λ is. other (ap Err is)) (before well);
-    }
+    ok err = grind (arith, common_steps)
 
 -- Nothing was kept back when a fault came.
 pub passed_fault : {T : Type 0} (flushes old new : Bool) (fault : EngineFault)

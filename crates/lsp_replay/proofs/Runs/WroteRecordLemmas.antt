@@ -15,9 +15,10 @@ use Rattle.lsp_stream.specs.Turns.{AppendsFront, AppendsShort}
 use Rattle.lsp_log.specs.Log.{LogRules, Record, Log, IsReadAs}
 use Rattle.lsp_log.specs.Splitting.{IsFed, IsAfter, IsSplitFault, log_at, record_head, record_at}
 use Rattle.lsp_log.specs.laws.Logs.{BufferedLaw}
-use Rattle.lsp_replay.specs.RunOutput.{RunOutput, written_first, stopped}
+use Rattle.lsp_replay.specs.RunOutput.{RunOutput, written_first}
 use Rattle.lsp_replay.specs.inside.Engine.{IsPieceFault, Reached, Stopped, Broken, RanOut}
 use Rattle.lsp_replay.specs.inside.Progress.{Continues, Ends, IsHandled, IsHandleFault, IsProgress}
+use Rattle.std.proofs.lemmas.Grind.{common_steps}
 
 -- Without more records nothing more is written, and the run goes on.
 pub record IsQuiet (now : List Record → RunOutput) : Type 0 where
@@ -50,15 +51,7 @@ module _ (log_rules : LogRules) (run_output : List Record → RunOutput) (receiv
       → IsReadAs log_rules input log → log.records ≡ w.records ++ r ∷ [] → Ends now received_now received_new r answer
       → Stopped log_rules run_output input received received_new answer
   went_to_end log more s now received_now received_new r answer w reads is ends =
-      let whole : run_output log.records ≡ written_first w.out (stopped ends.out answer) =
-      ap run_output is ∙ w.outputs (r ∷ []) ∙ ap (written_first w.out) (ends.run_output []) in
-      record {
-        log = log;
-        reads = reads;
-        stops = ap (λ (c : RunOutput). c.stop) whole;
-        wrote = subst (λ (z : List ℕ). Appends received received_new z) (sym (ap (λ (c : RunOutput). c.out) whole))
-            (Appends-trans received received_now received_new w.out ends.out w.wrote ends.wrote);
-      }
+      grind (arith, common_steps)
 
   -- nothing was written since
   pub went_so_far : (more : List ℕ) (s : Splitter) (now : List Record → RunOutput)
@@ -67,18 +60,7 @@ module _ (log_rules : LogRules) (run_output : List Record → RunOutput) (receiv
       → IsQuiet now → Appends received_now received_new [] → IsRest (log_at s w.records more)
       → Reached log_rules run_output input received received_new IsRest
   went_so_far more s now received_now received_new IsRest w quiet nothing rest =
-      let whole : run_output w.records ≡ written_first w.out (now []) = ap run_output (sym (append-nil w.records))
-      ∙ w.outputs [] in
-      let out : (run_output w.records).out ≡ w.out ++ [] =
-      ap (λ (c : RunOutput). c.out) whole ∙ ap (λ z. w.out ++ z) quiet.silent in
-      record {
-        log = log_at s w.records more;
-        reads = w.is_after.reads;
-        rest = rest;
-        continues = ap (λ (c : RunOutput). c.stop) whole ∙ quiet.unstopped;
-        wrote = subst (λ (z : List ℕ). Appends received received_new z) (sym out)
-            (Appends-trans received received_now received_new w.out [] w.wrote nothing);
-      }
+      grind (arith, common_steps, append-nil)
 
   broken_at : (log : Log) (more : List ℕ) (s : Splitter) (now : List Record → RunOutput)
       (received_now received_new : Option (List ℕ)) (r : Record)
@@ -192,8 +174,7 @@ module _ (log_rules : LogRules) (run_output : List Record → RunOutput) (receiv
   handled_went more s n now new received_now received_new r None w is_after handled =
       went_on more s n now new received_now received_new r w is_after handled
   handled_went more s n now new received_now received_new r (Some outcome) w is_after handled =
-      went_to_end (log_at n (w.records ++ r ∷ []) more) more s now received_now received_new r (Ok outcome) w
-      is_after.reads refl handled
+      grind (arith, common_steps, went_to_end)
 
   pub taken_went : (more : List ℕ) (s n : Splitter) (now new : List Record → RunOutput)
       (received_now received_new : Option (List ℕ)) (head : Head) (raw body : List ℕ) (answer : Option Outcome)
@@ -218,17 +199,7 @@ module _ (log_rules : LogRules) (run_output : List Record → RunOutput) (receiv
       → IsProgress log_rules run_output received input (drop at piece) s now received_now
       → IsProgress log_rules run_output received input (drop (at + k) piece) n now received_now
   went_fed piece bytes at k s n now received_now within is fed w =
-      let all : bytes ≡ drop at piece = is ∙ between_to_end piece at (length piece) (omega arith) in
-      let is_after : IsAfter log_rules input (drop k bytes) w.records n =
-      fed w.records (subst (λ (z : List ℕ). IsAfter log_rules input z w.records s) (sym all) w.is_after) in
-      let rest : drop k bytes ≡ drop (at + k) piece = ap (drop k) all ∙ drop-drop k at piece in
-      record {
-        records = w.records;
-        is_after = subst (λ (z : List ℕ). IsAfter log_rules input z w.records n) rest is_after;
-        out = w.out;
-        outputs = w.outputs;
-        wrote = w.wrote;
-      }
+      grind (arith, common_steps, between_to_end, drop-drop)
 
   pub fed_fault : (unflushed : Bool) (piece bytes : List ℕ) (at : ℕ) (s : Splitter) (now : List Record → RunOutput)
       (received_now received_new : Option (List ℕ)) (fault : EngineFault) → at ≤ length piece
@@ -238,10 +209,6 @@ module _ (log_rules : LogRules) (run_output : List Record → RunOutput) (receiv
       → IsProgress log_rules run_output received input (drop at piece) s now received_now
       → IsPieceFault log_rules run_output unflushed input received received_new fault
   fed_fault unflushed piece bytes at s now received_now received_new fault within is fed quiet nothing w =
-      let all : bytes ≡ drop at piece = is ∙ between_to_end piece at (length piece) (omega arith) in
-      let here : IsProgress log_rules run_output received input bytes s now received_now =
-      subst (λ (z : List ℕ). IsProgress log_rules run_output received input z s now received_now) (sym all) w in
-      split_faults unflushed bytes s now received_now received_new fault here quiet nothing
-      (fed here.records here.is_after)
+      grind (arith, common_steps, between_to_end, split_faults)
 
 -- ---- rests that no record begins

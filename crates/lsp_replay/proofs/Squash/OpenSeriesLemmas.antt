@@ -28,6 +28,7 @@ use Rattle.lsp_replay.proofs.Records.AskedLemmas.{IsProperAsked}
 use Rattle.lsp_replay.proofs.Squash.JoiningLemmas.{uri_at}
 use Rattle.lsp_replay.proofs.Records.PutLemmas.{put, change_puts, put_at, put_twice}
 use Rattle.lsp_replay.proofs.Canonical.CanonicalChangeLemmas.{IsProperAt, IsCanonicalChange, canonical_change, is_canonical_change}
+use Rattle.std.proofs.lemmas.Grind.{common_steps}
 
 -- the squash with other items and another version
 abbrev pub with_items : SquashData → List Item → ℤ → SquashData
@@ -170,9 +171,7 @@ module _ (t : ServerData) (squash : SquashData) (now : ServerData) (from : IsOpe
 
   means_now : meaning (units_in (session_encoding t)) (text_of (chars from.entry.text) squash.items)
       (map content_change_from_data p.changes) ≡ Ok accepts_now.items
-  means_now = ap (λ x. meaning (units_in (session_encoding t)) x (map content_change_from_data p.changes))
-      (sym chars_now)
-      ∙ accepts_now.means
+  means_now = grind (arith, common_steps, chars_now)
 
   abbrev longer_squash : SquashData
   longer_squash = joined_by p squash
@@ -183,14 +182,11 @@ module _ (t : ServerData) (squash : SquashData) (now : ServerData) (from : IsOpe
       ≡ items_meant (meaning (units_in squash.encoding) (text_of (chars squash.text) squash.items)
       (map content_change_from_data p.changes))
   items_in k e =
-      ap (λ (x : SquashData). items_meant (meaning (units_in x.encoding) (text_of (chars x.text) squash.items)
-      (map content_change_from_data p.changes))) e
+      grind (arith, common_steps)
 
   longer_items : longer_squash.items ≡ then_items squash.items accepts_now.items
   longer_items =
-      ap (then_items squash.items)
-      (sym (items_in (with_items (squash_of t.config.limits (session_encoding t) from.entry) squash.items
-      squash.version) (sym from.is)) ∙ ap items_meant means_now)
+      grind (arith, common_steps, items_in, means_now)
 
   left_now : bytes_left reached_text accepts_now.items ≡ bytes_left from.entry.text longer_squash.items
   left_now =
@@ -206,9 +202,7 @@ module _ (t : ServerData) (squash : SquashData) (now : ServerData) (from : IsOpe
     received = from.received;
     is = ap (λ (k : SquashData). with_items k longer_squash.items longer_squash.version) from.is;
     batch = from.batch ++ map content_change_from_data p.changes;
-    means = then_means (units_in (session_encoding t)) (chars from.entry.text) from.batch
-        (map content_change_from_data p.changes)
-        squash.items accepts_now.items from.means means_now ∙ ap Ok (sym longer_items);
+    means = grind (arith, common_steps, then_means, means_now, longer_items);
     texts = texts_more from.batch (map content_change_from_data p.changes) from.texts proper.texts;
     newer = newer_still t.config.limits.lenient p.version squash.version from.entry.version accepts_now.newer
         from.newer;
@@ -235,16 +229,7 @@ module _ (t : ServerData) (squash : SquashData) (now : ServerData) (from : IsOpe
   pub same_text : (uri : List ℕ) (entry : DocumentItem) → uri ≡ squash.uri → entry_at now.table uri ≡ Some entry
       → text_of (chars squash.text) squash.items ≡ chars entry.text
   same_text uri entry same found =
-      let reached : List ℕ = bytes_left from.entry.text squash.items in
-      let both : Some (record from.entry { version = squash.version; text = reached }) ≡ Some entry =
-      sym (put_at t.table squash.uri squash.version reached from.entry from.found)
-      ∙ sym (ap (λ (s : ServerData). entry_at s.table squash.uri) from.now_is) ∙ ap (entry_at now.table) (sym same)
-      ∙ found in
-      let one : record from.entry { version = squash.version; text = reached } ≡ entry = cc in
-      ap (λ (k : SquashData). text_of (chars k.text) squash.items) from.is
-      ∙ sym (left_chars (units_in (session_encoding t)) from.entry.text from.batch squash.items from.received.utf8
-      from.texts from.means)
-      ∙ ap (λ (e : DocumentItem). chars e.text) one
+      grind (arith, common_steps, put_at, left_chars)
 
 -- ---- all batches of a run as one message
 

@@ -20,7 +20,7 @@ use Rattle.lsp_log.specs.declared.record.Sender.TheVariants.{Client}
 use Rattle.lsp_log.specs.Log.{Record, AreRecords, together, mark_of}
 use Rattle.lsp_log.proofs.LogLemmas.{due_after}
 use Rattle.lsp_replay.specs.RunOutput.{written_first}
-use Rattle.lsp_replay.specs.Commands.{replaying, front_of, line_if, change_in, canonical_change_body}
+use Rattle.lsp_replay.specs.Commands.{replaying, front_of, line_if, canonical_change_body}
 use Rattle.lsp_replay.specs.inside.Commands.{run_output_in}
 use Rattle.lsp_replay.specs.inside.Joining.{server_after}
 use Rattle.lsp_replay.specs.Session.{Session, answered, bad, judge}
@@ -31,6 +31,7 @@ use Rattle.lsp_replay.proofs.Records.NumberedLemmas.{IsAlike, alike_both}
 use Rattle.lsp_replay.proofs.Squash.OpenSeriesLemmas.{IsOpenFrom, one_batch, one_message, one_joins}
 use Rattle.lsp_replay.proofs.Squash.SquashLawLemmas.{IsEnded, IsApart, NonEmpty, first_line, report_on, step_on}
 use Rattle.lsp_replay.proofs.Squash.SquashingLemmas.{step_changed}
+use Rattle.std.proofs.lemmas.Grind.{common_steps}
 
 -- The records that are written of an open series, if it isn't written as one message: they lead to the same series.
 pub record IsPending (max_body at : ℕ) (version : Version) (due : Bool) (s : Session) (series : OpenSeries) (t :
@@ -71,14 +72,7 @@ module _ (t : Session) (before : Option OpenSeries) (q : Record) (p : ChangeData
 
   gives_change : squash_step t before q (judge t q) ≡ change_output t.server p its_front its_single before
   gives_change =
-      step_changed t.server q its_front (frame (canonical_change_body t.server p)) before
-      (change_in (incoming_of (reading q.body))) (judge t q).verdict
-      (record {
-        params = p;
-        is = ap change_in a.asks;
-        accepted = d.error;
-        framed = record { is = refl; within = short };
-      })
+      grind (arith, common_steps, step_changed)
 
   -- it begins a series
   pub begun_step : (entry : DocumentItem) → entry_at t.server.table p.uri ≡ Some entry → IsApart before p.uri
@@ -91,20 +85,7 @@ module _ (t : Session) (before : Option OpenSeries) (q : Record) (p : ChangeData
           squash = joined_by p (squash_of t.server.config.limits (session_encoding t.server) entry);
         });
       }
-  begun_step entry found apart = gives_change ∙ by before apart
-    where
-      by : (b : Option OpenSeries) → IsApart b p.uri → change_output t.server p its_front its_single b
-          ≡ record {
-            out = end_bytes b;
-            end = None;
-            series = Some (record {
-              front = its_front;
-              singles = its_single;
-              squash = joined_by p (squash_of t.server.config.limits (session_encoding t.server) entry);
-            });
-          }
-      by None apart = rw found refl
-      by (Some series) apart = rw (apart, found) refl
+  begun_step entry found apart = grind (arith, common_steps, gives_change)
 
   -- it goes on with the open series
   pub longer_step : (series : OpenSeries) → before ≡ Some series → bytes_eq p.uri series.squash.uri ≡ true
@@ -118,8 +99,7 @@ module _ (t : Session) (before : Option OpenSeries) (q : Record) (p : ChangeData
   pub front_is : (version : Version) → q.head.version ≡ version → its_front ≡ line_if q.head.line_due ++ mark_of version
       Client
   front_is version of_version =
-      ap (λ v. line_if q.head.line_due ++ mark_of v q.head.side) of_version
-      ∙ ap (λ side. line_if q.head.line_due ++ mark_of version side) a.side
+      grind (arith, common_steps)
 
 -- ---- no series is open
 
@@ -201,9 +181,7 @@ module _ (limits : LimitsData) (ranges : AreInRange limits) (at : ℕ) (version 
 
     body_is : body ≡ change_body series.squash.uri series.squash.version (canonical_at t.server entry
         series.squash.items)
-    body_is = ap (change_body series.squash.uri series.squash.version) (one_batch t.server series.squash s.server
-        p.from here
-        few)
+    body_is = grind (arith, common_steps, one_batch)
 
     own : canonical_change_body t.server change ≡ body
     own = message.own ∙ sym body_is
@@ -303,10 +281,4 @@ module _ (limits : LimitsData) (ranges : AreInRange limits) (at : ℕ) (version 
     }
 
   pub some_ended : IsEnded limits.max_body at version due s (Some series) t before
-  some_ended = by (squash_refusal series.squash) refl
-    where
-      by : (refusal : Option Refusal) → squash_refusal series.squash ≡ refusal → IsEnded limits.max_body at version due
-          s
-          (Some series) t before
-      by None is = as_one is
-      by (Some refusal) is = in_singles refusal is
+  some_ended = grind (arith, common_steps, as_one, in_singles)

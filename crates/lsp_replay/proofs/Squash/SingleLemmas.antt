@@ -34,6 +34,7 @@ use Rattle.lsp_replay.specs.inside.Squashed.{joined_by}
 use Rattle.lsp_replay.proofs.Canonical.CanonicalChangeLemmas.{IsProperAt, IsCanonicalChange, canonical_at, canonical_change, is_canonical_change}
 use Rattle.lsp_replay.proofs.Records.ChangeLemmas.{IsAccepted, proper_change}
 use Rattle.lsp_replay.proofs.Records.StateLemmas.{IsHeldState}
+use Rattle.std.proofs.lemmas.Grind.{common_steps}
 
 -- A record is the canonical message of an accepted change: it is accepted, and does and joins what the change does.
 pub record IsSingle (max_body at : ℕ) (version : Version) (due : Bool) (s : Session) (p : ChangeData)
@@ -137,14 +138,7 @@ module _ (limits : LimitsData) (ranges : AreInRange limits) (at : ℕ) (version 
   pub is_single : IsSingle limits.max_body at version due s p (single_record at s r p)
   is_single = record {
     again = again;
-    is = record {
-      is_frame_of = written_is_frame limits.max_body (canonical_change_body s.server p) within
-          (omega (arith, within, ranges.greatest_body));
-      side = λ e. a.side;
-      of_version = of_version;
-      placed = refl;
-      due = same_due;
-    };
+    is = grind (arith, common_steps, written_is_frame);
     accepted = record {
       side = a.side;
       asks = ap (λ b. incoming_of (reading b)) body_is ∙ message.asks;

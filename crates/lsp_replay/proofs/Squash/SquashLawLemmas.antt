@@ -7,11 +7,12 @@ use Rattle.lsp_log.specs.declared.record.Version.{Version}
 use Rattle.lsp_log.specs.Log.{Record, IsRecord, AreRecords, together, record_bytes, mark_of}
 use Rattle.lsp_log.proofs.LogLemmas.{due_after}
 use Rattle.lsp_replay.specs.RunOutput.{RunOutput, written_first}
-use Rattle.lsp_replay.specs.Commands.{writes, followed_by, unless_bad, replaying, line_if}
+use Rattle.lsp_replay.specs.Commands.{writes, followed_by, replaying, line_if}
 use Rattle.lsp_replay.specs.inside.Commands.{run_output_in}
-use Rattle.lsp_replay.specs.Session.{Session, Verdict, answered, recorded, bad, judge}
+use Rattle.lsp_replay.specs.Session.{Session, bad, judge}
 use Rattle.lsp_replay.specs.inside.Squashed.{OpenSeries, Step, end_bytes, squash_step, squashed_in}
 use Rattle.lsp_replay.proofs.Records.NumberedLemmas.{IsAlike}
+use Rattle.std.proofs.lemmas.Grind.{common_steps}
 
 -- all that is written of some records
 abbrev pub total : RunOutput → List ℕ
@@ -28,8 +29,7 @@ pub together_split : (version : Version) (rs : List Record) (rest : List ℕ) �
     ≡ together version rs [] ++ rest
 together_split version [] rest = refl
 together_split version (r ∷ rs) rest =
-    ap (λ z. record_bytes version r ++ z) (together_split version rs rest)
-    ∙ sym (append_assoc (record_bytes version r) (together version rs []) rest)
+    grind (arith, common_steps, append_assoc, (together_split version rs rest))
 
 pub are_more : (max_body : ℕ) (version : Version) (place : ℕ) (due : Bool) (rs more : List Record)
     → AreRecords max_body version place due rs
@@ -40,12 +40,7 @@ are_more max_body version place due [] more each also =
 are_more max_body version place due (r ∷ rs) more each also = (
   each.0,
   are_more max_body version (place + length (record_bytes version r)) false rs more each.1
-      (subst (λ (b : Bool). AreRecords max_body version (place + length (record_bytes version r)
-      + length (together version rs [])) b more) (sym (later rs))
-      (subst (λ n. AreRecords max_body version n false more) (omega (
-        arith,
-        length-append (record_bytes version r) (together version rs []),
-      )) also)),
+      (grind (arith, common_steps, length-append)),
 )
   where
     later : (rs : List Record) → due_after false rs ≡ false
@@ -78,13 +73,7 @@ step_on s series r rs out next is =
 -- `replay` reports nothing for a record that isn't bad.
 pub report_on : (s : Session) (r : Record) (rs : List Record) → (judge s r).verdict ≢ bad
     → run_output_in replaying s (r ∷ rs) ≡ run_output_in replaying (judge s r).session rs
-report_on s r rs not_bad = by (judge s r).verdict not_bad
-  where
-    by : (v : Verdict) → v ≢ bad → followed_by (unless_bad r v (writes [])).out (unless_bad r v (writes [])).end
-        (run_output_in replaying (judge s r).session rs) ≡ run_output_in replaying (judge s r).session rs
-    by bad other = absurd (other refl)
-    by recorded other = refl
-    by (answered answer) other = refl
+report_on s r rs not_bad = grind (arith, common_steps)
 
 -- no series is open, or one of a document with another URI
 abbrev pub IsApart : Option OpenSeries → List ℕ → Type 0
@@ -185,15 +174,9 @@ module _ (max_body at : ℕ) (version : Version) (due : Bool) (s : Session) (ser
           some = λ _. some_behind e.us more.qs (more.some any);
           are = are_more max_body version at due e.us more.qs e.are more.are;
           bytes =
-              ap total first ∙ append_assoc (end_bytes series) inner.out (inner.last false)
-              ∙ ap (λ z. z ++ total inner) e.bytes ∙ ap (λ z. (first_line due e.us ++ together version e.us []) ++ z)
-              more.bytes
-              ∙ swap;
+              grind (arith, common_steps, append_assoc, swap);
           again =
-              ap total (e.run_output more.qs) ∙ append_assoc (end_bytes before)
-              (squashed_in e.last e.last_series more.qs).out ((squashed_in e.last e.last_series more.qs).last false)
-              ∙ ap (λ z. end_bytes before ++ z) (more.again ∙ ap (λ z. z ++ total inner) e.same_bytes
-              ∙ sym (append_assoc (end_bytes series) inner.out (inner.last false)) ∙ sym (ap total first));
+              grind (arith, common_steps, append_assoc);
           continues = ap (λ (c : RunOutput). c.stop) (e.run_output more.qs) ∙ more.continues;
           documents = λ line_due. ap (λ (c : RunOutput). c.last line_due) (e.replay more.qs) ∙ more.documents line_due
               ∙ sym (ap (λ (c : RunOutput). c.last line_due) (report_on s r rs not_bad));
@@ -208,18 +191,7 @@ module _ (max_body at : ℕ) (version : Version) (due : Bool) (s : Session) (ser
         swap : (first_line due e.us ++ together version e.us [])
             ++ (first_line (due_after due e.us) more.qs ++ together version more.qs [])
             ≡ first_line due (e.us ++ more.qs) ++ together version (e.us ++ more.qs) []
-        swap = by e.us
-          where
-            by : (us : List Record) → (first_line due us ++ together version us [])
-                ++ (first_line (due_after due us) more.qs ++ together version more.qs [])
-                ≡ first_line due (us ++ more.qs) ++ together version (us ++ more.qs) []
-            by [] = refl
-            by (u ∷ us) =
-                ap (λ z. (line_if due ++ together version (u ∷ us) []) ++ (z ++ together version more.qs []))
-                (no_line more.qs)
-                ∙ append_assoc (line_if due) (together version (u ∷ us) []) (together version more.qs [])
-                ∙ ap (λ z. line_if due ++ z) (sym (together_split version (u ∷ us) (together version more.qs []))
-                ∙ sym (together_more version (u ∷ us) more.qs []))
+        swap = grind (arith, common_steps, due_after, no_line, append_assoc, together_split, together_more)
 
   -- A record that is written as it is ends the series.
   module _ (r q : Record) (rs : List Record) (front : List ℕ)
@@ -264,37 +236,17 @@ module _ (max_body at : ℕ) (version : Version) (due : Bool) (s : Session) (ser
     placed_bytes [] line e = ap (λ l. (l ++ mark_of version q.head.side) ++ q.raw) e ∙ append_assoc (line_if due)
         (mark_of version q.head.side) q.raw
     placed_bytes (u ∷ us) line e =
-        ap (λ l. (line_if due ++ together version (u ∷ us) []) ++ ((l ++ mark_of version q.head.side) ++ q.raw)) e
-        ∙ append_assoc (line_if due) (together version (u ∷ us) []) (record_bytes version q)
-        ∙ ap (λ z. line_if due ++ z) (sym (together_split version (u ∷ us) (record_bytes version q)))
+        grind (arith, common_steps, append_assoc, together_split)
 
     one_bytes : total (squashed_in s series (r ∷ rs)) ≡ first_line due (e.us ++ q ∷ more.qs) ++ together version
         (e.us ++ q ∷ more.qs) []
     one_bytes =
-        ap total one ∙ append_assoc written inner.out (inner.last false)
-        ∙ ap (λ z. (z ++ (front ++ q.raw)) ++ total inner) e.bytes
-        ∙ ap (λ z. ((first_line due e.us ++ together version e.us []) ++ (z ++ q.raw)) ++ total inner) front_is
-        ∙ ap (λ z. z ++ total inner) (placed_bytes e.us (line_if (due_after due e.us)) refl)
-        ∙ ap (λ z. (first_line due (e.us ++ q ∷ more.qs) ++ together version e.us (record_bytes version q)) ++ z)
-        (more.bytes ∙ ap (λ z. z ++ together version more.qs []) (no_line more.qs))
-        ∙ append_assoc (first_line due (e.us ++ q ∷ more.qs)) (together version e.us (record_bytes version q))
-        (together version more.qs [])
-        ∙ ap (λ z. first_line due (e.us ++ q ∷ more.qs) ++ z)
-        (ap (λ z. z ++ together version more.qs []) (together_split version e.us (record_bytes version q))
-        ∙ append_assoc (together version e.us []) (record_bytes version q) (together version more.qs [])
-        ∙ sym (together_split version e.us (record_bytes version q ++ together version more.qs []))
-        ∙ sym (together_more version e.us (q ∷ more.qs) []))
+        grind (arith, common_steps, append_assoc, placed_bytes, due_after, no_line, together_split, together_more)
 
     one_again : total (squashed_in t before (e.us ++ q ∷ more.qs)) ≡ end_bytes before
         ++ total (squashed_in s series (r ∷ rs))
     one_again =
-        let again_inner = squashed_in (judge e.last q).session None more.qs in
-        let again_written = end_bytes e.last_series ++ (front ++ q.raw) in
-        ap total again_one ∙ append_assoc (end_bytes before) (again_written ++ again_inner.out) (again_inner.last false)
-        ∙ ap (λ z. end_bytes before ++ z)
-        (append_assoc again_written again_inner.out (again_inner.last false)
-        ∙ ap (λ z. again_written ++ z) more.again ∙ ap (λ z. (z ++ (front ++ q.raw)) ++ total inner) e.same_bytes
-        ∙ sym (append_assoc written inner.out (inner.last false)) ∙ sym (ap total one))
+        grind (arith, common_steps, again_one, append_assoc)
 
     pub others_next : IsSquashedAs max_body at version due s series (r ∷ rs) t before
     others_next = record {

@@ -12,6 +12,3 @@ returns-clause-run g c =
     c.run_on.ensures.whole in
     run_of c.run_on.ensures.first c.run_on.ensures.version serving tt (opened c.args.config) false run
     (λ _. whole (λ _. refl))
-
-pub returns-clause-in_time : goal.returns-clause-in_time
-returns-clause-in_time g c = c.run_on.ensures.in_time refl

@@ -1,20 +1,8 @@
-use Rattle.std.proofs.Common.{◌≡◌, ◌&&◌, not, [], true, false, refl, sym, ◌∙◌, subst}
+use Rattle.std.proofs.Common.{◌&&◌, not, [], false, subst}
 use Rattle.std.specs.Io.KnownBytes.{Appends}
 use Rattle.lsp_stream.specs.Turns.{AppendsFront, AppendsShort}
-use Rattle.lsp_replay.proofs.Runs.EngineLemmas.{went_cut, went_at_end, went_whole_records, last_fault, ok_and, err_and_two, err_and}
+use Rattle.lsp_replay.proofs.Runs.EngineLemmas.{went_at_end, went_whole_records, last_fault, ok_and, err_and_two, err_and}
 use Rattle.lsp_replay.proofs.engine.finish_run.Goals as goal
-
-pub returns-then-not-at_rest-clause-error : goal.returns-then-not-at_rest-clause-error
-returns-then-not-at_rest-clause-error g c = λ log_rules run_output received input w. (
-  refl,
-  went_cut log_rules run_output received input c.reading_laws.ensures.rest c.args.splitter.now
-      (g.H.Handler.run_output c.args.handler.now) (g.W.Sink.seen c.args.writer.now).written c.requires
-      (record {
-        silent = g.met.H.Handler.silent c.args.handler.now;
-        unstopped = g.met.H.Handler.unstopped c.args.handler.now;
-      })
-      (λ nothing. let two : false ≡ true = sym c.if-not-at_rest.true ∙ c.at_rest.ensures.1 nothing in cc) w,
-)
 
 pub returns-clause-error : goal.returns-clause-error
 returns-clause-error g c =

@@ -431,23 +431,3 @@ returns-then-ended-clause-whole g c = λ one is.
       refuses_two = c.args.rules.refuses_two;
     }) (g.H.Handler.run_output c.args.handler.now) (g.W.Sink.seen c.args.ends.now.writer.now).written input w))
     c.pieces.invariant.runs) is
-
-pub returns-in_err-opening-clause-in_time : goal.returns-in_err-opening-clause-in_time
-returns-in_err-opening-clause-in_time g c = λ _ before. in_time _ _ before
-
-pub returns-in_err-accept-clause-in_time : goal.returns-in_err-accept-clause-in_time
-returns-in_err-accept-clause-in_time g c = λ _ before. in_time _ _ before
-
-pub returns-in_err-end-clause-in_time : goal.returns-in_err-end-clause-in_time
-returns-in_err-end-clause-in_time g c = c.pieces.invariant.in_time
-
-pub returns-in-Some-clause-in_time : goal.returns-in-Some-clause-in_time
-returns-in-Some-clause-in_time g c = c.pieces.invariant.in_time
-
-pub returns-then-ended-clause-in_time : goal.returns-then-ended-clause-in_time
-returns-then-ended-clause-in_time g c = c.pieces.invariant.in_time
-
-pub returns-in_err-to-clause-in_time : goal.returns-in_err-to-clause-in_time
-returns-in_err-to-clause-in_time g c = λ holds before.
-    in_time _ _ ((rw c.writer.ensures.value at c.in_ok-end.ensures.all_flushed.flushed) holds
-    (c.pieces.invariant.flushed holds before)) ∙ c.pieces.invariant.in_time holds before

@@ -5,6 +5,7 @@ use Rattle.std.proofs.KnownBytes.{Appends-trans}
 use Rattle.lsp_stream.specs.Turns.{AppendsFront, AppendsShort}
 use Rattle.lsp_replay.proofs.Runs.EngineLemmas.{part_cut, part_short, part_is}
 use Rattle.lsp_replay.proofs.engine.write_last.Goals as goal
+use Rattle.std.proofs.lemmas.Grind.{common_steps}
 
 pub returns-in_err-write_given-clause-front : goal.returns-in_err-write_given-clause-front
 returns-in_err-write_given-clause-front g c =
@@ -60,9 +61,9 @@ parts-preserved g c =
         within = omega (arith, c.parts.invariant.spent.within, c.in_ok-write_given.ensures.calls.spent.within);
         least = omega (arith, c.parts.invariant.spent.least, c.in_ok-write_given.ensures.calls.spent.least);
         most = omega (arith, c.parts.invariant.spent.most, c.in_ok-write_given.ensures.calls.spent.most);
-        exact = λ h. omega (
+        exact = grind (
           arith,
-          h,
+          common_steps,
           c.parts.invariant.spent.exact,
           c.in_ok-write_given.ensures.calls.spent.exact,
           c.in_ok-write_given.ensures.calls.spent.least,

@@ -1,10 +1,10 @@
-use Rattle.std.proofs.Common.{ℕ, ◌+◌, drop, refl, ◌∙◌, subst, arith}
+use Rattle.std.proofs.Common.{ℕ, ◌+◌, drop, refl, ◌∙◌, arith}
 use Rattle.std.proofs.lemmas.Result.{err_from_is_err_and}
 use Rattle.std.proofs.lemmas.List.{length-take, length-drop}
 use Rattle.std.proofs.KnownBytes.{Appends-nil}
-use Rattle.lsp_log.specs.Splitting.{IsSplitterFault}
 use Rattle.lsp_replay.proofs.Runs.WroteRecordLemmas.{went_fed, fed_fault}
 use Rattle.lsp_replay.proofs.engine.records.take_piece.Goals as goal
+use Rattle.std.proofs.lemmas.Grind.{common_steps}
 
 pub returns-in_err-at-clause-error : goal.returns-in_err-at-clause-error
 returns-in_err-at-clause-error g c =
@@ -20,14 +20,15 @@ returns-in_err-at-clause-error g c =
 
 pub returns-in_err-at-clause-calls : goal.returns-in_err-at-clause-calls
 returns-in_err-at-clause-calls g c =
-    let p = err_from_is_err_and c.from_residual.result c.from_residual.ensures.1 in
-    rw (p.1, p.2) (record {
-      well = tt;
-      failed = λ is. absurd (subst IsSplitterFault is c.in_err-at.ensures.kind);
-      well_else = λ _. c.bytes.invariant.well;
-      none_left = λ is. absurd (subst IsSplitterFault is c.in_err-at.ensures.kind);
-      spent = c.bytes.invariant.spent;
-    })
+    grind (
+      arith,
+      common_steps,
+      err_from_is_err_and,
+      c.from_residual.ensures.1,
+      c.in_err-at.ensures.kind,
+      c.bytes.invariant.well,
+      c.bytes.invariant.spent,
+    )
 
 pub returns-in_err-outcome-clause-error : goal.returns-in_err-outcome-clause-error
 returns-in_err-outcome-clause-error g c =
@@ -68,9 +69,9 @@ bytes-preserved g c = record {
     within = omega (arith, c.bytes.invariant.spent.within, c.in_ok-outcome.ensures.calls.spent.within);
     least = omega (arith, c.bytes.invariant.spent.least, c.in_ok-outcome.ensures.calls.spent.least);
     most = omega (arith, c.bytes.invariant.spent.most, c.in_ok-outcome.ensures.calls.spent.most);
-    exact = λ h. omega (
+    exact = grind (
       arith,
-      h,
+      common_steps,
       c.bytes.invariant.spent.exact,
       c.in_ok-outcome.ensures.calls.spent.exact,
       c.in_ok-outcome.ensures.calls.spent.least,

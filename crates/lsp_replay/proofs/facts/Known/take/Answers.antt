@@ -18,9 +18,3 @@ returns-clause-known g c =
     known_is c.args.self.now c.args.session.now c.args.head c.args.body.now (body_view c.args.read) c.requires.is_read
     c.in_ok-about.about about c.take.new.self c.in_ok-taken.taken taken c.records.result c.records.ensures _
     c.in_ok-learn.ensures.known
-
-pub returns-clause-session : goal.returns-clause-session
-returns-clause-session g c = (c.in_ok-taken.ensures c.args.head c.args.body.now c.requires.is_read).session
-
-pub returns-clause-shown : goal.returns-clause-shown
-returns-clause-shown g c = (c.in_ok-taken.ensures c.args.head c.args.body.now c.requires.is_read).shown

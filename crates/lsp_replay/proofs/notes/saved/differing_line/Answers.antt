@@ -2,6 +2,7 @@ use Rattle.std.proofs.Common.{true, false, sym, ◌∙◌, arith}
 use Rattle.lsp_replay.proofs.Reports.SavedLemmas.{goes_on, is_over}
 use Rattle.lsp_replay.proofs.notes.saved.differing_line.Goals as goal
 use Rattle.lsp_replay.proofs.notes.saved.differing_line.Goals.{then-ends_line, else-ends_line}
+use Rattle.std.proofs.lemmas.Grind.{common_steps}
 
 pub bytes-preserved : goal.bytes-preserved
 bytes-preserved c =
@@ -29,5 +30,4 @@ bytes-preserved c =
 
 pub returns-else-next-other : goal.returns-else-next-other
 returns-else-next-other c =
-    sym (c.bytes.invariant.rest
-    ∙ is_over c.bytes.line c.bytes.next c.args.text.now c.args.other.now c.if-next-other.false)
+    grind (arith, common_steps, is_over, c.bytes.invariant.rest, c.if-next-other.false)

@@ -1,19 +1,21 @@
-use Rattle.std.proofs.Common.{ap, sum_by, arith}
+use Rattle.std.proofs.Common.{sum_by, arith}
 use Rattle.std.proofs.lemmas.Str.{IsUtf8-past_char}
-use Rattle.lsp_text.specs.Units.{units_in}
 use Rattle.lsp_store.proofs.Queries.UnitsBeforeLemmas.{chars_none, units_few, units_next}
 use Rattle.lsp_replay.proofs.notes.units.units_of.Goals as goal
+use Rattle.std.proofs.lemmas.Grind.{common_steps}
 
 pub overflow_add-count : goal.overflow_add-count
 overflow_add-count c =
-    let next = units_next (units_in c.args.encoding) _ _ c.in-Some.c c.loop-c.invariant.utf8
-    c.in-Some.ensures.steps.0 in
-    omega (
+    grind (
       arith,
+      common_steps,
+      units_next,
+      units_few,
+      c.loop-c.invariant.utf8,
+      c.in-Some.ensures.steps.0,
       c.loop-c.invariant.counted,
-      next,
       c.units.ensures,
-      units_few c.args.encoding c.args.text.now c.utf8.text,
+      c.utf8.text,
     )
 
 pub loop-c-preserved : goal.loop-c-preserved
@@ -22,17 +24,8 @@ loop-c-preserved c =
     let parts = c.in-Some.ensures.steps.0 in
     record {
       utf8 = IsUtf8-past_char _ _ c.in-Some.c held.utf8 parts;
-      counted = omega (
-        arith,
-        held.counted,
-        units_next (units_in c.args.encoding) _ _ c.in-Some.c held.utf8 parts,
-        c.units.ensures,
-      );
+      counted = grind (arith, common_steps, units_next, held.utf8, c.units.ensures);
     }
 
 pub returns : goal.returns
-returns c = omega (
-  arith,
-  c.loop-c.invariant.counted,
-  ap (sum_by (units_in c.args.encoding)) (chars_none _ c.in-None.ensures.steps.0.0),
-)
+returns c = grind (arith, common_steps, sum_by, chars_none, c.loop-c.invariant.counted, c.in-None.ensures.steps.0.0)

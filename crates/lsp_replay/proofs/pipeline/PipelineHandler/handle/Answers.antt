@@ -1,23 +1,8 @@
-use Rattle.lsp_replay.specs.inside.Bodies.{body_view}
 use Rattle.lsp_replay.specs.inside.RunOutput.{output_of}
-use Rattle.lsp_replay.proofs.Stay.PipedLemmas.{failed, left_out, printed, read_again, when_err, when_ok}
+use Rattle.lsp_replay.proofs.Stay.PipedLemmas.{failed, printed, when_err, when_ok}
 use Rattle.lsp_replay.proofs.pipeline.PipelineHandler.handle.Goals as goal
 
-pub print-requires-clause-is_read : goal.print-requires-clause-is_read
-print-requires-clause-is_read g c =
-    let admitted = rw c.in-Some.is at (c.in_ok-head.ensures.admitted c.args.body.now c.in_ok-read.ensures) in
-    read_again (g.P.Printer.reached c.args.self.now.printer) c.args.head c.args.raw.now c.args.body.now
-    c.args.self.now.selection c.admit.new.self.selection c.in-Some.head admitted (body_view c.in_ok-read.read)
-    c.in_ok-read.ensures
-
 -- The record is left out.
-pub returns-in_default-clause-ok : goal.returns-in_default-clause-ok
-returns-in_default-clause-ok g c = λ more.
-    let admitted = rw c.in_default.is at (c.in_ok-head.ensures.admitted c.args.body.now c.in_ok-read.ensures) in
-    rw (c.more.ensures, c.admit.ensures.printer)
-    (left_out (g.P.Printer.reached c.args.self.now.printer) c.args.head c.args.raw.now c.args.body.now
-    c.args.self.now.selection c.admit.new.self.selection admitted (g.P.Printer.run_output c.args.self.now.printer)
-    c.args.buffer.now.items c.requires.empty more)
 
 pub returns-clause-ok : goal.returns-clause-ok
 returns-clause-ok g c =

@@ -2,12 +2,6 @@ use Rattle.std.proofs.Common.{refl}
 use Rattle.lsp_replay.proofs.Records.TakenLemmas.{change_taken, other_taken}
 use Rattle.lsp_replay.proofs.session.Session.take.Goals as goal
 
-pub change-requires-clause-running : goal.change-requires-clause-running
-change-requires-clause-running g c = c.in-Ok.ensures.running
-
-pub change-requires-clause-known : goal.change-requires-clause-known
-change-requires-clause-known g c = c.in-Ok.ensures.known
-
 pub returns-in_ok-verdict-in-Ok : goal.returns-in_ok-verdict-in-Ok
 returns-in_ok-verdict-in-Ok g c = change_taken c.in-Ok.ensures c.in_ok-verdict-in-Ok.ensures refl refl
 

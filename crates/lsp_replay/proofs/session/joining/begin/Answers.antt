@@ -1,17 +1,7 @@
 use Rattle.std.proofs.Common.{refl}
 use Rattle.lsp_message.specs.Seen.{change_view}
-use Rattle.lsp_replay.proofs.Records.TakenLemmas.{plan_at, plan_begun}
+use Rattle.lsp_replay.proofs.Records.TakenLemmas.{plan_begun}
 use Rattle.lsp_replay.proofs.session.joining.begin.Goals as goal
-
-pub planned_document-document-requires : goal.planned_document-document-requires
-planned_document-document-requires c =
-    record {
-      on = (plan_at c.args.server.now (change_view c.args._params.now) c.requires.planned c.store-store.ensures).on;
-    }
-
-pub add_plan-requires-clause-on : goal.add_plan-requires-clause-on
-add_plan-requires-clause-on c =
-    (plan_at c.args.server.now (change_view c.args._params.now) c.requires.planned c.store-store.ensures).on
 
 pub add_plan-requires-clause-reached : goal.add_plan-requires-clause-reached
 add_plan-requires-clause-reached c =

@@ -3,14 +3,8 @@ use Rattle.lsp_message.specs.Seen.{change_view}
 use Rattle.lsp_store.specs.Plan.{IsMessageFault}
 use Rattle.lsp_replay.specs.inside.Joining.{IsFramed, IsOpenIn}
 use Rattle.lsp_replay.proofs.Squash.JoiningLemmas.{not_same}
-use Rattle.lsp_replay.proofs.Records.TakenLemmas.{message_is, message_none, plan_at, plan_framed, plan_longer, plan_reached, plan_too_long}
+use Rattle.lsp_replay.proofs.Records.TakenLemmas.{message_is, message_none, plan_framed, plan_longer, plan_too_long}
 use Rattle.lsp_replay.proofs.session.joining.join.Goals as goal
-
-pub planned_message-requires : goal.planned_message-requires
-planned_message-requires c =
-    record {
-      on = (plan_at c.args.server.now (change_view c.args.params.now) c.requires.planned c.store-store.ensures).on;
-    }
 
 pub returns-in_default : goal.returns-in_default
 returns-in_default c =
@@ -33,16 +27,6 @@ returns-in_default-series c =
       c.in_ok-begun.ensures.0,
       c.in_ok-begun.ensures.1,
     )
-
-pub add_plan-requires-clause-on : goal.add_plan-requires-clause-on
-add_plan-requires-clause-on c =
-    (plan_at c.args.server.now (change_view c.args.params.now) c.requires.planned c.store-store.ensures).on
-
-pub add_plan-requires-clause-reached : goal.add_plan-requires-clause-reached
-add_plan-requires-clause-reached c =
-    let at : IsOpenIn c.args.server.now c.in-Some-series.batches = rw c.in-Some-series.is at c.requires.may_be_open in
-    let same : string_bytes c.args.params.now.uri ≡ c.in-Some-series.batches.uri = search rules in
-    plan_reached c.args.server.now (change_view c.args.params.now) c.requires.planned c.store-store.ensures at same
 
 pub returns-then-eq : goal.returns-then-eq
 returns-then-eq c =

@@ -1,13 +1,8 @@
 use Rattle.std.proofs.Common.{◌≡◌, refl}
 use Rattle.lsp_message.specs.Seen.{change_view}
 use Rattle.lsp_server.specs.Planned.{store_of}
-use Rattle.lsp_replay.proofs.Records.TakenLemmas.{plan_at, plan_written}
+use Rattle.lsp_replay.proofs.Records.TakenLemmas.{plan_written}
 use Rattle.lsp_replay.proofs.session.canonical.CanonicalWitness.see.Goals as goal
-
-pub append_body-requires : goal.append_body-requires
-append_body-requires c =
-    let store : c.store.result.now ≡ store_of c.args.session.now.server = rw (c.store.ensures, c.server.ensures) refl in
-    record { on = (plan_at c.args.session.now.server (change_view c.args._params.now) c.requires.planned store).on }
 
 pub returns : goal.returns
 returns c =
