@@ -1,24 +1,11 @@
 -- The first of several numbers with a property, as a loop finds it.
-use Rattle.std.proofs.Common.{◌≡◌, ℕ, ◌+◌, ◌-◌, ◌<◌, Bool, true, false, List, Option, Some, None, length, refl, add-one, arith}
-use Rattle.std.specs.Prelude.{◌==◌, not, slice_get}
-use Rattle.std.proofs.lemmas.Bool.{eq-eqb}
+use Rattle.line_diff.proofs.Prelude.{◌≡◌, ℕ, ◌+◌, ◌-◌, ◌<◌, Bool, true, false, List, Option, Some, None, length, refl, add-one, arith, ◌==◌, not, slice_get, are_equal, first_with, common_steps}
+use Rattle.std.proofs.Common.{eq-eqb}
 use Rattle.std.proofs.lemmas.Option.{slice_get_within}
-use Rattle.line_diff.specs.Common.{are_equal, first_with}
-use Rattle.std.proofs.lemmas.Grind.{common_steps}
 
 pub first_passed : (property : ℕ → Bool) (n i : ℕ) → i < n → property i ≡ false
     → first_with property (n - i) i ≡ first_with property (n - (i + 1)) (i + 1)
-first_passed property n i within missed =
-    grind (arith, common_steps, add-one)
-
-pub first_found : (property : ℕ → Bool) (n i : ℕ) → i < n → property i ≡ true
-    → first_with property (n - i) i ≡ i
-first_found property n i within hit =
-    grind (arith, common_steps)
-
-pub first_missing : (property : ℕ → Bool) (n i : ℕ) → i ≡ n → first_with property (n - i) i ≡ n
-first_missing property n i end =
-    grind (arith, common_steps)
+first_passed property n i within missed = grind (arith, common_steps, add-one)
 
 pub same_number : (a b : ℕ) → a ≡ b → not (a == b) ≡ false
 same_number a b same = rw (eq-eqb a b same) refl
@@ -33,5 +20,4 @@ within_by lines others k j (Some line) (Some other) at other_at hit =
 
 pub equal_within : (lines others : List (List ℕ)) (k j : ℕ)
     → are_equal (slice_get lines k) (slice_get others j) ≡ true → (k < length lines) × (j < length others)
-equal_within lines others k j hit =
-    within_by lines others k j (slice_get lines k) (slice_get others j) refl refl hit
+equal_within lines others k j hit = within_by lines others k j (slice_get lines k) (slice_get others j) refl refl hit

@@ -1,14 +1,6 @@
 -- The nearest line that is common to two texts, as two loops find it.
-use Rattle.std.proofs.Common.{◌≡◌, ℕ, ◌+◌, ◌-◌, ◌<◌, false, List, Some, None, arith}
-use Rattle.std.specs.Prelude.{nat_lt}
-use Rattle.std.proofs.lemmas.Bool.Decides.{nat_tests}
-use Rattle.line_diff.specs.Common.{first_with}
+use Rattle.line_diff.proofs.Prelude.{◌≡◌, ℕ, ◌+◌, ◌-◌, ◌<◌, false, List, Some, None, arith, nat_tests, first_with, common_steps}
 use Rattle.line_diff.specs.Hunks.{gap_of, gap_within, has_pair, nearest, pair_in}
-use Rattle.line_diff.proofs.FirstLemmas.{first_found, first_missing}
-use Rattle.std.proofs.lemmas.Grind.{common_steps}
-
-not_below_itself : (n : ℕ) → nat_lt n n ≡ false
-not_below_itself n = grind (arith, nat_tests)
 
 module _ (farthest : ℕ) (lines others : List (List ℕ)) where
   pub gap_found : (sum first : ℕ) → sum < farthest
@@ -16,15 +8,13 @@ module _ (farthest : ℕ) (lines others : List (List ℕ)) where
       → first ≡ pair_in (sum + 1) lines others → first < sum + 1
       → Some (gap_of sum first) ≡ gap_within farthest lines others
   unfolding gap_within
-  gap_found sum first within reached is_first less =
-      grind (arith, common_steps, first_found)
+  gap_found sum first within reached is_first less = grind (arith, common_steps)
 
   pub no_pair : (sum : ℕ) → sum + 1 ≡ pair_in (sum + 1) lines others → has_pair lines others sum ≡ false
-  no_pair sum missed = rw (← missed) (not_below_itself (sum + 1))
+  no_pair sum missed = rw (← missed) (grind (arith, nat_tests))
 
   pub gap_missing : (sum : ℕ) → sum ≡ farthest
       → nearest farthest lines others ≡ first_with (has_pair lines others) (farthest - sum) sum
       → None ≡ gap_within farthest lines others
   unfolding gap_within
-  gap_missing sum end reached =
-      grind (arith, common_steps, first_missing, not_below_itself)
+  gap_missing sum end reached = grind (arith, common_steps, nat_tests)

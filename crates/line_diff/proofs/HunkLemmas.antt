@@ -1,15 +1,10 @@
 -- The places at which two texts have other lines, as a loop finds them.
-use Rattle.std.proofs.Common.{◌≡◌, ℕ, zero, suc, ◌+◌, ◌-◌, ◌<◌, ◌≤◌, List, ◌++◌, Some, None, length, drop, refl, ap, ◌∙◌, arith}
-use Rattle.std.proofs.lemmas.List.{drop-drop, length-drop}
+use Rattle.line_diff.proofs.Prelude.{◌≡◌, ℕ, zero, suc, ◌+◌, ◌-◌, ◌<◌, ◌≤◌, List, ◌++◌, Some, None, length, drop, refl, arith, drop-drop, length-drop, hunk_before, hunks_from, last_hunk, next_gap, unless_empty, common_steps}
 use Rattle.line_diff.specs.declared.hunks.Gap.{Gap}
-use Rattle.line_diff.specs.Hunks.{hunk_before, hunks_from, last_hunk, next_gap, unless_empty}
-use Rattle.std.proofs.lemmas.Grind.{common_steps}
 
 dropped : (start more : ℕ) (lines : List (List ℕ))
     → drop (suc more) (drop start lines) ≡ drop (start + (more + 1)) lines
-dropped start more lines =
-    let sum : start + suc more ≡ start + (more + 1) = omega arith in
-    drop-drop (suc more) start lines ∙ ap (λ k. drop k lines) sum
+dropped start more lines = grind (arith, common_steps, (drop-drop (suc more) start lines))
 
 pub rest_is : (start other_start : ℕ) (lines others : List (List ℕ)) (n m : ℕ) → length lines ≡ n → length others ≡ m
     → start ≤ n → other_start ≤ m
@@ -37,8 +32,6 @@ module _ (farthest start other_start : ℕ) (lines others : List (List ℕ)) whe
   none_near zero missed = refl
   none_near (suc steps) missed = rw (← missed) refl
 
-  pub none_left : (n step : ℕ) → step ≡ n
-      → last_hunk start other_start (drop start lines) (drop other_start others)
+  pub none_left : (n step : ℕ) → step ≡ n → last_hunk start other_start (drop start lines) (drop other_start others)
       ≡ hunks_from (n - step) farthest start other_start (drop start lines) (drop other_start others)
-  none_left n step end =
-      grind (arith, common_steps)
+  none_left n step end = grind (arith, common_steps)

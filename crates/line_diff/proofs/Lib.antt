@@ -5,3 +5,4 @@ mod LineLemmas
 mod MakerLemmas
 mod ReportLemmas
 mod ShownLemmas
+mod Prelude

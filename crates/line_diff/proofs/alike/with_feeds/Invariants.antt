@@ -1,4 +1,4 @@
-use Rattle.std.specs.Prelude.{◌≡◌, ◌≤◌, ◌++◌, ◌-◌, drop, false, length}
+use Rattle.line_diff.proofs.Prelude.{◌≡◌, ◌≤◌, ◌++◌, ◌-◌, drop, false, length}
 use Rattle.line_diff.specs.Alike.{with_feeds}
 use Rattle.line_diff.proofs.alike.with_feeds.Given as goal
 

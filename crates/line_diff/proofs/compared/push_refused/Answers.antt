@@ -1,4 +1,4 @@
-use Rattle.std.proofs.Common.{append_assoc}
+use Rattle.line_diff.proofs.Prelude.{append_assoc}
 use Rattle.line_diff.proofs.compared.push_refused.Goals as goal
 
 pub returns : goal.returns

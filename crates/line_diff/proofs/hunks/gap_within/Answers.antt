@@ -1,14 +1,12 @@
-use Rattle.std.proofs.Common.{◌-◌, arith}
+use Rattle.line_diff.proofs.Prelude.{◌-◌, arith, common_steps}
 use Rattle.line_diff.specs.Hunks.{nearest}
 use Rattle.line_diff.proofs.FirstLemmas.{first_passed}
 use Rattle.line_diff.proofs.GapLemmas.{gap_found, gap_missing, no_pair}
 use Rattle.line_diff.proofs.hunks.gap_within.Goals as goal
-use Rattle.std.proofs.lemmas.Grind.{common_steps}
 
 pub loop-sum-init : goal.loop-sum-init
 unfolding nearest
-loop-sum-init c =
-    grind (arith, common_steps)
+loop-sum-init c = grind (arith, common_steps)
 
 pub returns-in-Some-clause-value : goal.returns-in-Some-clause-value
 returns-in-Some-clause-value c =
@@ -19,5 +17,4 @@ loop-sum-preserved c =
     grind (arith, common_steps, first_passed, no_pair, c.loop-sum.invariant, c.in_default.ensures.value)
 
 pub returns-clause-value : goal.returns-clause-value
-returns-clause-value c =
-    grind (arith, common_steps, gap_missing, c.loop-sum.invariant)
+returns-clause-value c = grind (arith, common_steps, gap_missing, c.loop-sum.invariant)

@@ -1,6 +1,4 @@
-use Rattle.std.specs.Prelude.{◌≡◌, ◌-◌, map}
-use Rattle.line_diff.specs.Common.{first_with}
-use Rattle.line_diff.specs.Hunks.{has_pair, nearest}
+use Rattle.line_diff.proofs.Prelude.{◌≡◌, ◌-◌, map, first_with, has_pair, nearest}
 use Rattle.line_diff.proofs.hunks.gap_within.Given as goal
 
 abbrev pub invariant-loop-sum : goal.invariant-loop-sum

@@ -1,33 +1,16 @@
-use Rattle.std.proofs.Common.{◌-◌, ◌++◌, List, ℕ, Bor, length, map, ap, ◌∙◌, append_assoc, arith}
-use Rattle.std.proofs.lemmas.List.{drop-map, length-drop, length-map, take_rest}
+use Rattle.line_diff.proofs.Prelude.{◌-◌, ◌++◌, List, ℕ, Bor, length, map, ap, ◌∙◌, append_assoc, arith, drop-map, length-drop, length-map, take_rest, common_steps}
 use Rattle.line_diff.specs.declared.hunks.Hunk.{Hunk}
 use Rattle.line_diff.specs.Hunks.{hunks_of}
-use Rattle.line_diff.proofs.HunkLemmas.{hunk_step, none_left, none_near, rest_is}
-use Rattle.line_diff.proofs.hunks.hunks_of.Goals as goal
+use Rattle.line_diff.proofs.HunkLemmas.{hunk_step, none_near, rest_is}
 use Rattle.line_diff.proofs.hunks.hunks_of.Goals.{else-gaps-test, then-gaps-test+in_default}
-use Rattle.std.proofs.lemmas.Grind.{common_steps}
+use Rattle.line_diff.proofs.hunks.hunks_of.Goals as goal
 
 pub gaps-init : goal.gaps-init
 unfolding hunks_of
-gaps-init c =
-    grind (arith, common_steps, length-map, c.new-found.ensures.items)
+gaps-init c = grind (arith, common_steps, length-map, c.new-found.ensures.items)
 
 pub gaps-preserved : goal.gaps-preserved
-gaps-preserved c =
-    grind (
-      arith,
-      common_steps,
-      drop-map,
-      take_rest,
-      hunk_step,
-      length-drop,
-      append_assoc,
-      c.in-Some.ensures.value,
-      c.in-Some.ensures.within.0,
-      c.in-Some.ensures.within.1,
-      c.in_ok-push_hunk.ensures,
-      c.gaps.invariant.rest,
-    )
+gaps-preserved c = grind (arith, common_steps, drop-map, take_rest, hunk_step, length-drop, append_assoc)
 
 pub returns : goal.returns
 returns c =
@@ -39,8 +22,7 @@ returns c =
     c.in_ok-push_hunk-2.ensures
     ∙ ap (λ (hunks : List Hunk). c.gaps.found.items ++ hunks) (rest ∙ elim c.gaps-test.branch [
       | else-gaps-test w ↦
-          none_left c.args.farthest c.gaps.start c.gaps.other_start lines others (length c.args.lines.now) c.gaps._step
-          (omega arith)
+          grind (arith, common_steps)
       | then-gaps-test+in_default w ↦
           grind (arith, common_steps, none_near, drop-map, take_rest, w.in_default.ensures.value)
     ])

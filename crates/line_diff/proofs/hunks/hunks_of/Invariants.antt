@@ -1,5 +1,4 @@
-use Rattle.std.specs.Prelude.{◌≡◌, ◌≤◌, ◌++◌, ◌-◌, drop, length, map}
-use Rattle.line_diff.specs.Hunks.{hunks_from, hunks_of}
+use Rattle.line_diff.proofs.Prelude.{◌≡◌, ◌≤◌, ◌++◌, ◌-◌, drop, length, map, hunks_from, hunks_of}
 use Rattle.line_diff.proofs.hunks.hunks_of.Given as goal
 
 abbrev pub invariant-gaps : goal.invariant-gaps

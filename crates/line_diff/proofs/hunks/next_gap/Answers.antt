@@ -1,5 +1,4 @@
-use Rattle.std.proofs.Common.{◌≡◌, List, ℕ, Bor, rules}
-use Rattle.std.proofs.lemmas.List.{length-map}
+use Rattle.line_diff.proofs.Prelude.{◌≡◌, List, ℕ, Bor, rules, length-map}
 use Rattle.line_diff.specs.Hunks.{next_gap}
 use Rattle.line_diff.proofs.hunks.next_gap.Goals as goal
 

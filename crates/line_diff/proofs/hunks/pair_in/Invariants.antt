@@ -1,6 +1,4 @@
-use Rattle.std.specs.Prelude.{◌≡◌, ◌-◌, map}
-use Rattle.line_diff.specs.Common.{first_with}
-use Rattle.line_diff.specs.Hunks.{is_pair, pair_in}
+use Rattle.line_diff.proofs.Prelude.{◌≡◌, ◌-◌, map, first_with, is_pair, pair_in}
 use Rattle.line_diff.proofs.hunks.pair_in.Given as goal
 
 abbrev pub invariant-loop-first : goal.invariant-loop-first

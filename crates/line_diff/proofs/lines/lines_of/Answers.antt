@@ -1,11 +1,8 @@
-use Rattle.std.proofs.Common.{◌≡◌, suc, true, false, drop, get_or, refl, sym, ◌∙◌, append_assoc, arith}
-use Rattle.std.proofs.lemmas.List.{map-append}
+use Rattle.line_diff.proofs.Prelude.{◌≡◌, suc, true, drop, get_or, refl, sym, ◌∙◌, append_assoc, arith, map-append, ends_line, common_steps, nat_tests}
 use Rattle.std.proofs.lemmas.Str.{IsCharBoundary-after_ascii, IsCharBoundary-start}
-use Rattle.line_diff.specs.Lines.{ends_line}
-use Rattle.line_diff.proofs.LineLemmas.{cut_ended, cut_passed, ends_ascii}
-use Rattle.line_diff.proofs.lines.lines_of.Goals as goal
+use Rattle.line_diff.proofs.LineLemmas.{cut_ended, cut_passed}
 use Rattle.line_diff.proofs.lines.lines_of.Goals.{then-ends_line+in_ok-push, else-ends_line}
-use Rattle.std.proofs.lemmas.Grind.{common_steps}
+use Rattle.line_diff.proofs.lines.lines_of.Goals as goal
 
 pub loop-index-init : goal.loop-index-init
 loop-index-init c = record {
@@ -21,7 +18,7 @@ range-requires-clause-end_boundary c =
     let rest = drop (suc c.loop-index.index) c.args.text.now in
     let hit : ends_line byte rest ≡ true = rw same at (sym c.ends_line.ensures ∙ c.if-ends_line.true) in
     IsCharBoundary-after_ascii c.args.text.now c.loop-index.index c.utf8.text (rw same at c.loop-index-test.true)
-    (ends_ascii byte rest hit)
+    (grind (arith, nat_tests))
 
 pub loop-index-preserved : goal.loop-index-preserved
 loop-index-preserved c =
@@ -30,7 +27,6 @@ loop-index-preserved c =
     let held = c.loop-index.invariant in
     let text = c.args.text.now in
     let index = c.loop-index.index in
-    let start = c.loop-index.start in
     let byte = get_or text index 0 in
     let rest = drop (suc index) text in
     elim c.if-ends_line.branch [
@@ -38,27 +34,9 @@ loop-index-preserved c =
           let hit : ends_line byte rest ≡ true = rw same at (sym c.ends_line.ensures ∙ w.if-ends_line.true) in
           rw (w.start-is, w.lines-is) (record {
             order = omega arith;
-            boundary = IsCharBoundary-after_ascii text index c.utf8.text within (ends_ascii byte rest hit);
-            cut = grind (
-              arith,
-              common_steps,
-              map-append,
-              append_assoc,
-              cut_ended,
-              w.in_ok-push.ensures.items,
-              w.range.ensures.value,
-              held.order,
-            );
+            boundary = IsCharBoundary-after_ascii text index c.utf8.text within (grind (arith, nat_tests));
+            cut = grind (arith, common_steps, map-append, append_assoc, cut_ended);
           })
       | else-ends_line w ↦
-          grind (
-            arith,
-            common_steps,
-            cut_passed,
-            c.ends_line.ensures,
-            w.if-ends_line.false,
-            w.start-is,
-            w.lines-is,
-            held.order,
-          )
+          grind (arith, common_steps, cut_passed)
     ]

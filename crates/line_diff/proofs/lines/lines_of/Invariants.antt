@@ -1,7 +1,5 @@
-use Rattle.std.specs.Prelude.{◌≡◌, ◌≤◌, ◌++◌, drop, map}
-use Rattle.std.specs.List.{between}
+use Rattle.line_diff.proofs.Prelude.{◌≡◌, ◌≤◌, ◌++◌, drop, map, between, lines_begun, lines_of}
 use Rattle.std.specs.Str.{IsCharBoundary}
-use Rattle.line_diff.specs.Lines.{lines_begun, lines_of}
 use Rattle.line_diff.proofs.lines.lines_of.Given as goal
 
 abbrev pub invariant-loop-index : goal.invariant-loop-index

@@ -1,7 +1,5 @@
-use Rattle.std.specs.Prelude.{◌≡◌, drop}
-use Rattle.line_diff.specs.Makers.{greatest}
+use Rattle.line_diff.proofs.Prelude.{◌≡◌, drop, greatest}
 use Rattle.line_diff.proofs.makers.greatest.Given as goal
 
 abbrev pub invariant-loop-number : goal.invariant-loop-number
-invariant-loop-number l =
-    greatest l.most (drop l.number-index l.numbers) ≡ greatest l.fn.most l.numbers
+invariant-loop-number l = greatest l.most (drop l.number-index l.numbers) ≡ greatest l.fn.most l.numbers

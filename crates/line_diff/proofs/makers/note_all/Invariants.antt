@@ -1,5 +1,4 @@
-use Rattle.std.specs.Prelude.{◌≡◌, drop}
-use Rattle.line_diff.specs.Makers.{with_numbers}
+use Rattle.line_diff.proofs.Prelude.{◌≡◌, drop, with_numbers}
 use Rattle.line_diff.proofs.makers.note_all.Given as goal
 
 abbrev pub invariant-loop-number : goal.invariant-loop-number

@@ -1,5 +1,4 @@
-use Rattle.std.specs.Prelude.{◌≡◌, ◌++◌, drop, map}
-use Rattle.line_diff.specs.Makers.{rows_of}
+use Rattle.line_diff.proofs.Prelude.{◌≡◌, ◌++◌, drop, map, rows_of}
 use Rattle.line_diff.proofs.makers.rows_of.Given as goal
 
 abbrev pub invariant-loop-line : goal.invariant-loop-line

@@ -1,7 +1,6 @@
-use Rattle.std.proofs.Common.{◌-◌, arith}
+use Rattle.line_diff.proofs.Prelude.{◌-◌, arith, common_steps}
 use Rattle.line_diff.proofs.FirstLemmas.{first_passed, same_number}
 use Rattle.line_diff.proofs.owners.common_back.Goals as goal
-use Rattle.std.proofs.lemmas.Grind.{common_steps}
 
 pub loop-count-preserved : goal.loop-count-preserved
 loop-count-preserved c =

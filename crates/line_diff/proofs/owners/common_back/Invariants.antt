@@ -1,5 +1,4 @@
-use Rattle.std.specs.Prelude.{◌≡◌, ◌-◌}
-use Rattle.line_diff.specs.Common.{common_back, differ_back_at, first_with}
+use Rattle.line_diff.proofs.Prelude.{◌≡◌, ◌-◌, common_back, differ_back_at, first_with}
 use Rattle.line_diff.proofs.owners.common_back.Given as goal
 
 abbrev pub invariant-loop-count : goal.invariant-loop-count

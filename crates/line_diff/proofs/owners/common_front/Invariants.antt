@@ -1,7 +1,5 @@
-use Rattle.std.specs.Prelude.{◌≡◌, ◌-◌}
-use Rattle.line_diff.specs.Common.{common_front, differ_at, first_with}
+use Rattle.line_diff.proofs.Prelude.{◌≡◌, ◌-◌, common_front, differ_at, first_with}
 use Rattle.line_diff.proofs.owners.common_front.Given as goal
 
 abbrev pub invariant-loop-count : goal.invariant-loop-count
-invariant-loop-count l =
-    common_front l.text l.other ≡ first_with (differ_at l.text l.other) (l.most - l.count) l.count
+invariant-loop-count l = common_front l.text l.other ≡ first_with (differ_at l.text l.other) (l.most - l.count) l.count

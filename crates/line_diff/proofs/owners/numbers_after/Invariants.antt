@@ -1,4 +1,4 @@
-use Rattle.std.specs.Prelude.{◌≡◌, drop}
+use Rattle.line_diff.proofs.Prelude.{◌≡◌, drop}
 use Rattle.line_diff.specs.Owners.{all_spliced}
 use Rattle.line_diff.proofs.owners.numbers_after.Given as goal
 

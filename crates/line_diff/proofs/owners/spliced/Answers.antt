@@ -1,5 +1,4 @@
-use Rattle.std.proofs.Common.{append_assoc}
-use Rattle.std.proofs.lemmas.List.{drop-drop, replicate-append-replicate}
+use Rattle.line_diff.proofs.Prelude.{append_assoc, drop-drop, replicate-append-replicate}
 use Rattle.line_diff.proofs.owners.spliced.Goals as goal
 
 pub returns : goal.returns

@@ -1,16 +1,6 @@
-use Rattle.std.proofs.Common.{append_assoc, arith}
+use Rattle.line_diff.proofs.Prelude.{append_assoc, arith, common_steps}
 use Rattle.line_diff.proofs.ReportLemmas.{words_more}
 use Rattle.line_diff.proofs.report.push_file_lines.Goals as goal
-use Rattle.std.proofs.lemmas.Grind.{common_steps}
 
 pub loop-index-preserved : goal.loop-index-preserved
-loop-index-preserved c =
-    grind (
-      arith,
-      common_steps,
-      append_assoc,
-      words_more,
-      c.text_at.ensures,
-      c.in_ok-push_file_line.ensures,
-      c.loop-index.invariant,
-    )
+loop-index-preserved c = grind (arith, common_steps, append_assoc, words_more)

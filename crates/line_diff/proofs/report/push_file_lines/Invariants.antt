@@ -1,5 +1,4 @@
-use Rattle.std.specs.Prelude.{◌≡◌, ◌++◌, ◌-◌, map}
-use Rattle.line_diff.specs.Report.{file_line_at, words_from}
+use Rattle.line_diff.proofs.Prelude.{◌≡◌, ◌++◌, ◌-◌, map, file_line_at, words_from}
 use Rattle.line_diff.proofs.report.push_file_lines.Given as goal
 
 abbrev pub invariant-loop-index : goal.invariant-loop-index

@@ -1,4 +1,4 @@
-use Rattle.std.proofs.Common.{append_assoc}
+use Rattle.line_diff.proofs.Prelude.{append_assoc}
 use Rattle.line_diff.specs.Report.{first_end_words}
 use Rattle.line_diff.proofs.report.push_first_end.Goals as goal
 

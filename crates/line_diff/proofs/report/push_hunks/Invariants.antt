@@ -1,5 +1,4 @@
-use Rattle.std.specs.Prelude.{◌≡◌, ◌++◌, flat_map, map, take}
-use Rattle.line_diff.specs.Report.{hunk_words}
+use Rattle.line_diff.proofs.Prelude.{◌≡◌, ◌++◌, flat_map, map, take, hunk_words}
 use Rattle.line_diff.proofs.report.push_hunks.Given as goal
 
 abbrev pub invariant-loop-hunk : goal.invariant-loop-hunk

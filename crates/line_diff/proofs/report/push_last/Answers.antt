@@ -1,4 +1,4 @@
-use Rattle.std.proofs.Common.{append_assoc}
+use Rattle.line_diff.proofs.Prelude.{append_assoc}
 use Rattle.line_diff.specs.Report.{last_maker_words}
 use Rattle.line_diff.proofs.report.push_last.Goals as goal
 

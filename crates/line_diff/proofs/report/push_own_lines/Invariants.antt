@@ -1,5 +1,4 @@
-use Rattle.std.specs.Prelude.{◌≡◌, ◌++◌, ◌-◌, map}
-use Rattle.line_diff.specs.Report.{own_line_at, words_from}
+use Rattle.line_diff.proofs.Prelude.{◌≡◌, ◌++◌, ◌-◌, map, own_line_at, words_from}
 use Rattle.line_diff.proofs.report.push_own_lines.Given as goal
 
 abbrev pub invariant-loop-index : goal.invariant-loop-index

@@ -1,13 +1,11 @@
-use Rattle.std.proofs.Common.{◌≡◌, chars, sym, ◌∙◌, append_assoc}
+use Rattle.line_diff.proofs.Prelude.{◌≡◌, chars, sym, ◌∙◌, append_assoc, map-id}
 use Rattle.std.proofs.lemmas.Iterator.{YieldsList-from_chars}
 use Rattle.std.proofs.lemmas.Iterator.Consumers.{YieldsList-end}
-use Rattle.std.proofs.lemmas.List.{map-id}
 use Rattle.line_diff.proofs.shown.push_shown.Goals as goal
 
 pub returns : goal.returns
 returns c =
     let all = YieldsList-end (YieldsList-from_chars c.args.line.now c.utf8.line cc) c.loop-character.yielded _
     c.loop-character.yielded_by _ _ c.in-None.is c.next.ensures.steps in
-    let shown : c.loop-character.yielded ≡ chars c.args.line.now =
-    sym (map-id c.loop-character.yielded) ∙ all.0 in
+    let shown : c.loop-character.yielded ≡ chars c.args.line.now = sym (map-id c.loop-character.yielded) ∙ all.0 in
     rw (c.in_ok-push-2.ensures.items, c.loop-character.invariant, shown) (simp append_assoc)
