@@ -3,7 +3,7 @@ use Rattle.std.proofs.lemmas.List.{with_items_is}
 use Rattle.lsp_buffer.specs.declared.counts.Counts.{Counts}
 use Rattle.lsp_buffer.specs.Blocks.{AreGroups}
 use Rattle.lsp_buffer.proofs.Changes.ChangeLemmas.{put_are, put_back, put_size, put_text}
-use Rattle.lsp_buffer.proofs.text_buffer.change.replace_inside.Goals as goal
+use Rattle.lsp_buffer.proofs.text_buffer.replace_inside.Goals as goal
 use Rattle.std.proofs.lemmas.Grind.{common_steps}
 
 pub recount-requires-clause-are : goal.recount-requires-clause-are
