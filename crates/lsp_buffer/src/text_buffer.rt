@@ -17,8 +17,7 @@ ghost use Rattle.lsp_text.specs.TextLines.{line_ends};
 ghost use Rattle.lsp_text.specs.LineStarts.{IsPlace};
 ghost use Rattle.lsp_text.specs.Units.{units_in};
 ghost use Rattle.lsp_text.specs.Positions.{exact_position, denoted};
-ghost use Rattle.lsp_buffer.specs.Blocks.{AreBlocks, AreGroups, IsTextBuffer};
-ghost use Rattle.lsp_buffer.specs.inside.Changes.{IsChange, StaysInside, text_after};
+ghost use Rattle.lsp_buffer.specs.Blocks.{AreBlocks};
 ghost use Rattle.lsp_buffer.specs.inside.Parts.{IsPart};
 
 mod change;
@@ -30,7 +29,7 @@ use crate::cut::blocks_of;
 use crate::find::{Target, find};
 use crate::groups::{fill, recount};
 use crate::seams::{position_after, position_from};
-use crate::text_buffer::change::{BlockRange, range_of, replace_across, stays_inside};
+use crate::text_buffer::change::{range_of, replace_across, stays_inside};
 use lsp_text::{Encoding, InsideCharacter, Position};
 use std::alloc::{AllocError, Global};
 use std::fmt;
@@ -252,33 +251,14 @@ impl TextBuffer {
         let range = range_of(&self.blocks, &self.groups, start, end);
         let len = self.len - (end - start) + new.len();
         if stays_inside(&self.blocks, range, new) {
-            replace_inside(&mut self.blocks, &mut self.groups, range, new)?;
+            self.blocks[range.first].replace_range(range.start, range.end, new)?;
+            recount(&mut self.groups, &self.blocks, range.first);
         } else {
             replace_across(&mut self.blocks, &mut self.groups, range, new)?;
         }
         self.len = len;
         Ok(())
     }
-}
-
-/// Replaces bytes inside one block. Out of memory changes nothing.
-fn replace_inside(
-    blocks: &mut Vec<Block>,
-    groups: &mut Vec<Counts>,
-    range: BlockRange,
-    new: &str,
-) -> Result<(), AllocError>
-    requires change { IsChange blocks.old.items range new.now }
-    requires groups { AreGroups blocks.old.items groups.old.items }
-    requires inside { StaysInside blocks.old.items range new.now }
-    ensures are { IsTextBuffer blocks.new.items groups.new.items }
-    ensures changed { OnOk result (concat blocks.new.items
-        ≡ text_after blocks.old.items range new.now) }
-    ensures unchanged { OnErr result (concat blocks.new.items ≡ concat blocks.old.items) }
-{
-    blocks[range.first].replace_range(range.start, range.end, new)?;
-    recount(groups, blocks, range.first);
-    Ok(())
 }
 
 impl fmt::Display for TextBuffer {
