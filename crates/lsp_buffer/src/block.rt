@@ -2,7 +2,7 @@
 //!
 //! A copy of a text shares its blocks, and a change copies a block that is shared. They are
 //! counted by `Arc`: with `Rc` no document could go to another thread.
-ghost use Rattle.std.specs.Prelude.{◌≡◌, ◌≢◌, ◌+◌, ◌-◌, ◌≤◌, ◌↔◌, ◌++◌, IsTrue, IfOk, IfNone, IfSome, OnOk, OnErr, Some, List, ℕ, length, option_map, string_bytes, string_len};
+ghost use Rattle.std.specs.Prelude.{◌≡◌, ◌≢◌, ◌+◌, ◌-◌, ◌≤◌, ◌↔◌, ◌++◌, IsTrue, IfOk, IfNone, IfSome, OnOk, OnErr, Some, List, ℕ, length, option_map, string_bytes, string_capacity, string_len};
 ghost use Rattle.std.specs.List.{concat, replace_range};
 ghost use Rattle.std.specs.Result.{result_ok};
 ghost use Rattle.std.specs.Str.{IsCharBoundary, IsUtf8, chars};
@@ -11,12 +11,12 @@ ghost use Rattle.lsp_text.specs.TextLines.{line_ends};
 ghost use Rattle.lsp_text.specs.LineStarts.{AreLinesOf, IsPlace};
 ghost use Rattle.lsp_text.specs.Units.{units_in};
 ghost use Rattle.lsp_text.specs.Positions.{exact_position, denoted};
-ghost use Rattle.lsp_buffer.specs.Blocks.{counts_of};
+ghost use Rattle.lsp_buffer.specs.Blocks.{counts_of, head_of};
 
 use crate::counts::Counts;
-use crate::shared_text::SharedText;
 use lsp_text::{Encoding, InsideCharacter, Lines, Position};
 use std::alloc::{AllocError, Global};
+use std::clone::Clone;
 use std::marker::Model;
 use std::sync::Arc;
 
@@ -147,6 +147,135 @@ impl Block {
         shared.replace_range(start, end, new)?;
         self.counts = shared.counts();
         Ok(())
+    }
+}
+
+/// What the blocks of several texts share: a string, and its lines. Clauses see its bytes.
+#[derive(Debug, Drop)]
+struct SharedText {
+    text: String,
+    lines: Lines,
+}
+
+impl Model for SharedText {
+    ghost use Rattle.std.specs.Prelude.{ℕ, List, string_bytes};
+    ghost use Rattle.lsp_text.specs.LineStarts.{AreLinesOf};
+
+    ghost Value = { List ℕ };
+
+    ghost view = { λ shared. string_bytes shared.text };
+
+    ghost invariant = { λ shared. AreLinesOf shared.lines (string_bytes shared.text) };
+}
+
+impl SharedText {
+    /// Takes a text and finds its lines. Fails only where memory runs out.
+    fn new(alloc: Global, text: String) -> Result<Self, AllocError>
+        requires { string_len text ≤ 2147483648 }
+        ensures { IfOk result (λ shared. shared ≡ string_bytes text) }
+    {
+        let lines = Lines::new(alloc, &text)?;
+        Ok(SharedText { text, lines })
+    }
+
+    /// Returns the shared text.
+    fn text(&self) -> &str
+        ensures { result.now ≡ self.now }
+    {
+        &self.text
+    }
+
+    /// Returns the units from the start of the text's last line to its end. Costs that line, in
+    /// UTF-8 a binary search.
+    fn head(&self, encoding: Encoding) -> u32
+        ensures { result ≡ head_of (units_in encoding) self.now }
+    {
+        let text = self.text();
+        let bytes = text.as_bytes();
+        let end = bytes.len();
+        if end > 0 && bytes[end - 1] == b'\n' {
+            return 0;
+        }
+        self.lines().position(text, encoding, end).character
+    }
+
+    /// Returns what the shared text counts. Costs its last line.
+    fn counts(&self) -> Counts
+        ensures { result ≡ counts_of self.now }
+    {
+        let text = self.text();
+        let lines = self.lines();
+        Counts {
+            len: text.len() as u32,
+            ends: (lines.count() - 1) as u32,
+            utf8: self.head(Encoding::Utf8),
+            utf16: self.head(Encoding::Utf16),
+            utf32: self.head(Encoding::Utf32),
+        }
+    }
+
+    /// Returns the lines of the shared text.
+    fn lines(&self) -> &Lines
+        ensures { AreLinesOf result.now self.now }
+    {
+        &self.lines
+    }
+
+    /// Replaces the bytes from `start` to `end`, and updates the lines. Out of memory changes nothing.
+    ///
+    /// Costs a copy of the removed bytes, one move of those after them, and what the lines cost.
+    fn replace_range(&mut self, start: usize, end: usize, new: &str) -> Result<(), AllocError>
+        requires order { start ≤ end }
+        requires at_start { IsCharBoundary self.old start }
+        requires at_end { IsCharBoundary self.old end }
+        requires room { length (replace_range self.old start end new.now) ≤ 2147483648 }
+        ensures changed { OnOk result (self.new ≡ replace_range self.old start end new.now) }
+        ensures unchanged { OnErr result (self.new ≡ self.old) }
+    {
+        let removed = String::from_str(*self.text.allocator(), &self.text[start..end])?;
+        self.text.reserve(new.len())?;
+        replace_bytes(&mut self.text, start, end, new)?;
+        let new_end = start + new.len();
+        if self
+            .lines
+            .splice(&self.text, start, end, new.len())
+            .is_err()
+        {
+            // The buffer kept its room for the removed bytes, so this takes no memory.
+            let _ = self.text.replace_range(start..new_end, &removed);
+            return Err(AllocError);
+        }
+        Ok(())
+    }
+}
+
+impl Clone for SharedText {
+    ghost is_clone = { λ shared copy. copy ≡ shared };
+
+    fn clone(&self) -> Result<Self, AllocError> {
+        let alloc = *self.text.allocator();
+        let lines = self.lines.clone_in(alloc)?;
+        let text = String::from_str(alloc, &self.text)?;
+        Ok(SharedText { text, lines })
+    }
+}
+
+/// Replaces the bytes from `start` to `end`. Out of memory changes nothing.
+///
+/// Costs one move of the bytes after them. An insertion of one ASCII character moves them by a
+/// fixed distance, which is faster.
+fn replace_bytes(text: &mut String, start: usize, end: usize, new: &str) -> Result<(), AllocError>
+    requires order { start ≤ end }
+    requires at_start { IsCharBoundary (string_bytes text.old) start }
+    requires at_end { IsCharBoundary (string_bytes text.old) end }
+    ensures bytes { OnOk result
+        (string_bytes text.new ≡ replace_range (string_bytes text.old) start end new.now) }
+    ensures capacity { string_capacity text.old ≤ string_capacity text.new }
+    ensures unchanged { OnErr result (string_bytes text.new ≡ string_bytes text.old) }
+{
+    match new.as_bytes() {
+        [byte] if start == end && byte.is_ascii() => text.insert(start, char::from(*byte)),
+        _ => text.replace_range(start..end, new),
     }
 }
 

@@ -16,9 +16,8 @@
 //!   chunks and copies. `change` replaces bytes: inside a block, or across blocks, which are cut
 //!   again.
 //! - `block`: `Block`, a few kilobytes of the text with their lines, which copies of the text share.
-//!   A change copies a block first that is shared.
-//! - `shared_text`: `SharedText`, what is shared: a string and its lines.
-//! - `in_place`: one change of a text and its lines, without a copy of the rest.
+//!   A change copies a block first that is shared. `SharedText` is what is shared: a string and its
+//!   lines. It changes without a copy of the rest.
 //! - `cut`: a text is cut into blocks, after line feeds or inside a long line.
 //! - `counts`: `Counts`, what a text counts. What comes before a block is the sum of earlier counts.
 //! - `groups`: what 32 blocks count together, so that a search passes them at one step.
@@ -31,9 +30,7 @@ mod counts;
 mod cut;
 mod find;
 mod groups;
-mod in_place;
 mod seams;
-mod shared_text;
 mod text_buffer;
 
 pub use text_buffer::TextBuffer;

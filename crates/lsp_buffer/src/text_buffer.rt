@@ -27,9 +27,9 @@ use crate::block::{Block, shared_blocks};
 use crate::counts::Counts;
 use crate::cut::blocks_of;
 use crate::find::{Target, find};
-use crate::groups::fill;
+use crate::groups::{fill, recount};
 use crate::seams::{position_after, position_from};
-use crate::text_buffer::change::{range_of, replace};
+use crate::text_buffer::change::{range_of, replace_across, stays_inside};
 use lsp_text::{Encoding, InsideCharacter, Position};
 use std::alloc::{AllocError, Global};
 use std::fmt;
@@ -250,7 +250,12 @@ impl TextBuffer {
     {
         let range = range_of(&self.blocks, &self.groups, start, end);
         let len = self.len - (end - start) + new.len();
-        replace(&mut self.blocks, &mut self.groups, range, new)?;
+        if stays_inside(&self.blocks, range, new) {
+            self.blocks[range.first].replace_range(range.start, range.end, new)?;
+            recount(&mut self.groups, &self.blocks, range.first);
+        } else {
+            replace_across(&mut self.blocks, &mut self.groups, range, new)?;
+        }
         self.len = len;
         Ok(())
     }

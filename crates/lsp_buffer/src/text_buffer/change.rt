@@ -1,7 +1,7 @@
-//! A change of a text in blocks: inside a block, or across blocks, which are cut again.
+//! A change of a text in blocks: the blocks that it meets, and a change across them, which cuts them
+//! again.
 //!
-//! All memory is taken before anything changes. Across blocks, new ones are built beside the
-//! old.
+//! All memory is taken before anything changes: new blocks are built beside the old.
 ghost use Rattle.std.specs.Prelude.{◌≡◌, ◌+◌, ◌*◌, ◌≤◌, ◌<◌, ◌↔◌, ◌++◌, [], IsTrue, IfOk, OnOk};
 ghost use Rattle.std.specs.Prelude.{OnErr, length, take, drop, get_or, vec_len, string_bytes};
 ghost use Rattle.std.specs.List.{concat};
@@ -13,7 +13,7 @@ use crate::block::Block;
 use crate::counts::Counts;
 use crate::cut::{CUT, SMALL, blocks_of};
 use crate::find::{Target, find, find_later};
-use crate::groups::{GROUP, fill, recount};
+use crate::groups::{GROUP, fill};
 use std::alloc::{AllocError, Global};
 
 /// A part of a text in blocks: from a byte offset in the block with index `first` to one in the
@@ -70,7 +70,7 @@ fn left(blocks: &[Block], range: BlockRange, new: &str) -> usize
 }
 
 /// Returns whether a change stays inside a block.
-fn stays_inside(blocks: &[Block], range: BlockRange, new: &str) -> bool
+pub fn stays_inside(blocks: &[Block], range: BlockRange, new: &str) -> bool
     requires { IsChange blocks.now range new.now }
     ensures { IsTrue result ↔ StaysInside blocks.now range new.now }
 {
@@ -82,26 +82,6 @@ fn stays_inside(blocks: &[Block], range: BlockRange, new: &str) -> bool
         return false;
     }
     fits(&blocks[range.first], new)
-}
-
-/// Replaces bytes inside one block. Out of memory changes nothing.
-fn replace_inside(
-    blocks: &mut Vec<Block>,
-    groups: &mut Vec<Counts>,
-    range: BlockRange,
-    new: &str,
-) -> Result<(), AllocError>
-    requires change { IsChange blocks.old.items range new.now }
-    requires groups { AreGroups blocks.old.items groups.old.items }
-    requires inside { StaysInside blocks.old.items range new.now }
-    ensures are { IsTextBuffer blocks.new.items groups.new.items }
-    ensures changed { OnOk result (concat blocks.new.items
-        ≡ text_after blocks.old.items range new.now) }
-    ensures unchanged { OnErr result (concat blocks.new.items ≡ concat blocks.old.items) }
-{
-    blocks[range.first].replace_range(range.start, range.end, new)?;
-    recount(groups, blocks, range.first);
-    Ok(())
 }
 
 /// Joins the front of one block, a new text and the back of another.
@@ -175,7 +155,7 @@ fn replace_blocks(
 
 /// Replaces bytes in one block or more, and cuts what they become again. Out of memory changes
 /// nothing.
-fn replace_across(
+pub fn replace_across(
     blocks: &mut Vec<Block>,
     groups: &mut Vec<Counts>,
     range: BlockRange,
@@ -195,25 +175,4 @@ fn replace_across(
     groups.truncate(range.first / GROUP);
     fill(groups, blocks);
     Ok(())
-}
-
-/// Replaces a range by a new text. Out of memory changes nothing.
-pub fn replace(
-    blocks: &mut Vec<Block>,
-    groups: &mut Vec<Counts>,
-    range: BlockRange,
-    new: &str,
-) -> Result<(), AllocError>
-    requires change { IsChange blocks.old.items range new.now }
-    requires groups { AreGroups blocks.old.items groups.old.items }
-    ensures are { IsTextBuffer blocks.new.items groups.new.items }
-    ensures changed { OnOk result (concat blocks.new.items
-        ≡ text_after blocks.old.items range new.now) }
-    ensures unchanged { OnErr result (concat blocks.new.items ≡ concat blocks.old.items) }
-{
-    if stays_inside(blocks, range, new) {
-        replace_inside(blocks, groups, range, new)
-    } else {
-        replace_across(blocks, groups, range, new)
-    }
 }

@@ -1,7 +1,7 @@
 use Rattle.std.proofs.Common.{◌≡◌, ◌-◌, length, arith, ap}
 use Rattle.lsp_buffer.specs.Blocks.{block_ends}
 use Rattle.lsp_buffer.proofs.Blocks.CountLemmas.{ends_low}
-use Rattle.lsp_buffer.proofs.shared_text.SharedText.counts.Goals as goal
+use Rattle.lsp_buffer.proofs.block.SharedText.counts.Goals as goal
 use Rattle.std.proofs.lemmas.Grind.{common_steps}
 
 pub overflow_cast-result-2 : goal.overflow_cast-result-2
