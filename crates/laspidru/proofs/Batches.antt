@@ -1,11 +1,9 @@
 -- The canonical batch that a document returns is the one that C gets.
-use Rattle.std.proofs.Common.{List, map}
+use Rattle.laspidru.proofs.Prelude.{List, map, content_change, Asked, IsBatchOf}
 use Rattle.lsp_text.specs.Units.{units_in}
 use Rattle.lsp_edit.specs.declared.change.Change.{Change}
 use Rattle.lsp_edit.specs.declared.composed.TheConstants.{MAX_OLD_TEXT}
-use Rattle.lsp_edit.specs.Edited.{content_change}
 use Rattle.lsp_edit.specs.Indexed.{IsCanonicalBatch}
-use Rattle.laspidru.specs.Batches.{Asked, IsBatchOf}
 
 pub is_batch_of : (asked : Asked) (changes : List Change)
     → IsCanonicalBatch (units_in asked.encoding) MAX_OLD_TEXT asked.text asked.edits (map content_change changes)

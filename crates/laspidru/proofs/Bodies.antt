@@ -1,28 +1,12 @@
 -- What an end does with a body, and with a piece of its stream.
-use Rattle.std.proofs.Common.{◌≡◌, ◌≢◌, Bool, true, false, ℕ, List, Option, Some, None, Result, Ok, Err, IsOkAnd, inl, inr, ap, arith, refl, subst, sym, ◌∙◌}
-use Rattle.std.proofs.lemmas.Option.{none-some}
-use Rattle.std.specs.Prelude.{if◌then◌else◌}
+use Rattle.laspidru.proofs.Prelude.{◌≡◌, ◌≢◌, Bool, true, false, ℕ, List, Option, Some, None, Result, Ok, Err, IsOkAnd, inl, inr, ap, arith, refl, subst, sym, ◌∙◌, none-some, if◌then◌else◌, ClientFault, IsDelivered, IsFaultOf, ClientData, Delivery, DeliveredData, delivery_of, delivery_result, is_listening, OK, OUT_OF_MEMORY, WRONG_PHASE, Object, End, Client, Taken, delivered_out, sent_frame, HasNoBody, IsBodyOf, IsFedTo, EndData, call_code, StreamData}
 use Rattle.lsp_message.specs.Message.{reading}
-use Rattle.lsp_client.specs.declared.fault.ClientFault.{ClientFault}
-use Rattle.lsp_client.specs.declared.fault.ClientFault.TheVariants as client
-use Rattle.lsp_client.specs.Seen.{IsDelivered, IsFaultOf}
-use Rattle.lsp_client.specs.Step.{ClientData, Delivery, DeliveredData, delivery_of, delivery_result, is_listening}
 use Rattle.laspidru.specs.declared.answers.Answer.{Answer}
-use Rattle.laspidru.specs.declared.codes.TheConstants.{OK, OUT_OF_MEMORY, WRONG_PHASE}
-use Rattle.laspidru.specs.declared.object.Object.{Object}
-use Rattle.laspidru.specs.declared.object.Object.TheVariants.{End}
 use Rattle.laspidru.specs.declared.party.Party.{Party}
-use Rattle.laspidru.specs.declared.party.Party.TheVariants.{Client}
-use Rattle.laspidru.specs.declared.taken.Taken.{Taken}
-use Rattle.laspidru.specs.Clients.{delivered_out, sent_frame}
 use Rattle.laspidru.specs.Codes.{IsAnswerOrNoMemory, IsRefusedOr, OnRefused, unless}
-use Rattle.laspidru.specs.Ends.{Handling, IsHandled, IsHandledBy, as_end, closed, handling_by, handling_of}
-use Rattle.laspidru.specs.Ends.{heard_out, listening}
-use Rattle.laspidru.specs.Framers.{HasNoBody, IsBodyOf, IsFedTo}
-use Rattle.laspidru.specs.HeldEnds.{EndData}
-use Rattle.laspidru.specs.inside.Clients.{call_code}
-use Rattle.laspidru.specs.Streams.{StreamData}
+use Rattle.laspidru.specs.Ends.{Handling, IsHandled, IsHandledBy, as_end, closed, handling_by, handling_of, heard_out, listening}
 use Rattle.laspidru.specs.Taking.{IsTaken, as_handled}
+use Rattle.lsp_client.specs.declared.fault.ClientFault.TheVariants as client
 
 -- ---- a client's delivery
 
@@ -62,8 +46,7 @@ refused_if false s it fault code Fact why is = is ∙ ap call_code why
 
 -- A body that a client refuses.
 pub delivery_refused : (s : ClientData) (body : List ℕ) (fault : ClientFault) (new : ClientData) (frame : List ℕ)
-    (code : ℕ) (out : Answer)
-    → IsFaultOf (delivery_result s (reading body)) fault → code ≡ call_code fault
+    (code : ℕ) (out : Answer) → IsFaultOf (delivery_result s (reading body)) fault → code ≡ call_code fault
     → IsAnswerOrNoMemory (handling_of (Client s) body) code (IsHandledBy (Client new) frame code out)
 delivery_refused s body fault new frame code out =
     refused_if (is_listening s.phase) s (delivery_of s (reading body)) fault code
@@ -73,8 +56,7 @@ delivery_refused s body fault new frame code out =
 
 -- What the party of an end does is what the end does.
 pub handled_in : (asked : Result Handling ℕ) (held : EndData) (party : Party) (frame : List ℕ) (code : ℕ)
-    (stored : Option Object) (out : Answer)
-    → IsAnswerOrNoMemory asked code (IsHandledBy party frame code out)
+    (stored : Option Object) (out : Answer) → IsAnswerOrNoMemory asked code (IsHandledBy party frame code out)
     → stored ≡ Some (End (record { party = party; frame = frame; stream = held.stream }))
     → IsAnswerOrNoMemory asked code (IsHandled held code stored out)
 handled_in (Err refusal) held party frame code stored out is left = is
@@ -168,10 +150,8 @@ one_taken old new stream piece body frame party code did taken before after fed 
 
 -- The end of an object takes a piece.
 pub taken_in : (object stored : Object) (held new : EndData) (piece : List ℕ) (code : ℕ) (taken : Taken)
-    (before after : Answer)
-    → object ≡ End held → closed held.party ≡ None → stored ≡ End new
-    → IsTaken held piece code new taken before after
-    → IsRefusedOr (listening (as_end object)) code
+    (before after : Answer) → object ≡ End held → closed held.party ≡ None → stored ≡ End new
+    → IsTaken held piece code new taken before after → IsRefusedOr (listening (as_end object)) code
     (λ h. IsOkAnd (as_end stored) (λ t. IsTaken h piece code t taken before after))
 taken_in object stored held new piece code taken before after is listens left took =
     subst (λ (o : Object). IsRefusedOr (listening (as_end o)) code

@@ -1,22 +1,10 @@
 -- What a call of a client sends, and the code of its refusal, by the tables of its steps.
-use Rattle.std.proofs.Common.{◌≡◌, ℕ, List, length, Option, Some, Result, Ok, Err, inl, inr, ap, subst, ◌∙◌}
-use Rattle.lsp_client.specs.declared.fault.ClientFault.{ClientFault}
+use Rattle.laspidru.proofs.Prelude.{◌≡◌, ℕ, List, length, Option, Some, Result, Ok, Err, inl, inr, ap, subst, ◌∙◌, ClientFault, IsSent, IsFaultOf, ClientData, Sending, OK, Object, End, Client, FaultAt, StreamData, IsCallReport, call_code, IsCalled, IsRefusedCall, IsWritten}
 use Rattle.lsp_client.specs.declared.fault.ClientFault.TheVariants as client
-use Rattle.lsp_client.specs.Seen.{IsSent, IsFaultOf}
-use Rattle.lsp_client.specs.Step.{ClientData, Sending}
-use Rattle.laspidru.specs.declared.codes.TheConstants.{OK}
-use Rattle.laspidru.specs.declared.object.Object.{Object}
-use Rattle.laspidru.specs.declared.object.Object.TheVariants.{End}
-use Rattle.laspidru.specs.declared.party.Party.TheVariants.{Client}
-use Rattle.laspidru.specs.declared.structs.FaultAt.{FaultAt}
-use Rattle.laspidru.specs.Streams.{StreamData}
-use Rattle.laspidru.specs.inside.Clients.{IsCallReport, call_code}
-use Rattle.laspidru.specs.Clients.{IsCalled, IsRefusedCall, IsWritten}
 
 -- A call that sends a frame is accepted.
 pub accepted : (stream : StreamData) (r : Result Sending ClientFault) (bytes : List ℕ) (new : ClientData) (code len : ℕ)
-    (stored : Option Object)
-    → IsSent r bytes new → code ≡ OK
+    (stored : Option Object) → IsSent r bytes new → code ≡ OK
     → stored ≡ Some (End (record { party = Client new; frame = bytes; stream = stream }))
     → len ≡ length bytes
     → IsCalled stream r code stored len
@@ -38,8 +26,7 @@ code_is client.NoMemory fault code why is = is ∙ ap call_code why
 
 -- A call with a fault is refused, or out of memory.
 pub call_refused : (stream : StreamData) (r : Result Sending ClientFault) (fault : ClientFault) (code len : ℕ)
-    (stored : Option Object)
-    → IsFaultOf r fault → code ≡ call_code fault → IsCalled stream r code stored len
+    (stored : Option Object) → IsFaultOf r fault → code ≡ call_code fault → IsCalled stream r code stored len
 call_refused stream (Ok sending) fault code len stored why is = inl (is ∙ ap call_code why)
 call_refused stream (Err refusal) fault code len stored why is = code_is refusal fault code why is
 

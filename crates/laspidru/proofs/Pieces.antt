@@ -1,10 +1,6 @@
 -- What is taken of a piece of a stream.
-use Rattle.std.proofs.Common.{◌≡◌, ◌≢◌, ℕ, Bool, List, false, true, subst, sym}
+use Rattle.laspidru.proofs.Prelude.{◌≡◌, ◌≢◌, ℕ, Bool, List, false, true, subst, sym, BAD_FRAME, OK, Taken, IsFedTo, IsNext, IsPieceFed, IsReleased, nothing_taken, StreamData}
 use Rattle.lsp_frame.specs.Stream.{FramerData}
-use Rattle.laspidru.specs.declared.codes.TheConstants.{BAD_FRAME, OK}
-use Rattle.laspidru.specs.declared.taken.Taken.{Taken}
-use Rattle.laspidru.specs.Framers.{IsFedTo, IsNext, IsPieceFed, IsReleased, nothing_taken}
-use Rattle.laspidru.specs.Streams.{StreamData}
 
 -- A message that was handled is released.
 pub released_next : (is_handled : Bool) (old new : FramerData) → is_handled ≡ true → IsReleased old new

@@ -1,30 +1,9 @@
 -- A `RawBox` by value: how it is stored, and how it is opened and closed. Assumes `Logic`.
 --     pair, pair_fits         its machine value at a pointer and a handle, which has its type
 --     opens_raw, closes_raw   by value it is [what is behind the pointer, with the right to free it; the handle]
-use Rattle.std.proofs.Common.{◌≡◌, ℕ, List, [], ◌∷◌, ◌++◌, refl, subst}
-use mathlib.Core.Bool.{true, ◌&&◌}
-use lib.Dec.{T}
-use seplogic.Ra.Ura.{Ura}
-use mir.Syntax.{impl, tnil, dnil}
+use Rattle.laspidru.proofs.Prelude.{◌≡◌, ℕ, List, [], ◌∷◌, ◌++◌, refl, subst, true, ◌&&◌, T, Ura, impl, tnil, dnil, Val, vptr, vstruct, vcons, vnil, of_list, has_ty, WT, never, fst∗, Logic, sem, Item, Goal, Seq, Step, step, ‵, ◌$◌, move, drop, fsplit, fjoin, fpick, fpack, feq_i, feq_l, RattleType, Valss, RawPtr, lone, Ptr, block_ptr, null_ptr, ptr_val, in_a_block, nothing, layout, Laws, within, shape, Al, handle_tells, Good, box_owns, and_tt}
 use mir.Raw.{raw as bare}
-use mir.Val.{Val, vptr, vstruct, vcons, vnil, of_list, has_ty, WT}
-use base.Logic.{never, fst∗}
-use types.Logic.{Logic, sem}
-use types.Kit.{Item, Goal, Seq, Step, step, ‵, ◌$◌, move, drop, fsplit, fjoin, fpick, fpack, feq_i, feq_l}
-use denote.RattleType.{RattleType, Valss}
-use denote.Builtin.{RawPtr}
-use denote.Memory.{lone}
-use denote.RawPtr.{Ptr, block_ptr, null_ptr, ptr_val, in_a_block}
-use denote.Steps.{nothing}
-use denote.Param.{layout}
-use denote.Param.Laws.{Laws}
-use denote.Struct.Struct.{within}
-use denote.Struct.Owning.{shape}
 use Rattle.core.specs.declared.alloc.Allocator.{Ghosts}
-use Rattle.core.proofs.alloc.Calls.{Al, handle_tells}
-use Rattle.core.proofs.cell.Inside.{Good}
-use Rattle.std_alloc.specs.Box.Ownership.{box_owns}
-use Rattle.std_alloc.proofs.ResultValues.{and_tt}
 use Rattle.laspidru.specs.contracts.raw_box.RawBox as raw_box
 
 -- a pointer and a handle
@@ -45,8 +24,7 @@ module _ (R A : RattleType) (laws : Laws A) (g : Ghosts A.Denot) where
     pub opens_raw : K → (raw : Row.Denot) (vs : List Val)
         → ((b o : ℕ) (h : Val) → raw.pointer ≡ block_ptr b o → vs ≡ pair b o h ∷ [] → Good (layout A) h
         → Seq K 𝓛 (‵ (box_owns (g.dealloc_token raw.alloc) R (block_ptr b o) raw.value)
-        ∷ ‵ (A.own_val raw.alloc (h ∷ [])) ∷ Γ) G)
-        → Seq K 𝓛 (‵ (Row.own_val raw vs) ∷ Γ) G
+        ∷ ‵ (A.own_val raw.alloc (h ∷ [])) ∷ Γ) G) → Seq K 𝓛 (‵ (Row.own_val raw vs) ∷ Γ) G
     opens_raw t raw vs next =
         let stored : List Val → List Val → Type 0 = λ ps hs. vs ≡ vstruct (of_list (ps ++ (hs ++ []))) ∷ [] in
         -- [the fields; what is behind the pointer]

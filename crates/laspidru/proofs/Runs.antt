@@ -1,22 +1,18 @@
 -- A command on a log.
-use Rattle.std.proofs.Common.{◌≡◌, ◌<◌, ◌^◌, ◌⊎◌, ℕ, Bool, false, true, List, [], length, Option, Result, Err, inl, inr, sym, ◌∙◌, arith}
-use Rattle.std.specs.Prelude.{◌≢◌}
+use Rattle.laspidru.proofs.Prelude.{◌≡◌, ◌<◌, ◌^◌, ◌⊎◌, ℕ, Bool, false, true, List, [], length, Option, Result, Err, inl, inr, sym, ◌∙◌, arith, ◌≢◌, OUT_OF_MEMORY, Object}
 use Rattle.lsp_stream.specs.declared.fault.EngineFault.{EngineFault}
 use Rattle.lsp_stream.specs.declared.fault.EngineFault.TheVariants.{TooManyTurns, Write}
 use Rattle.lsp_replay.specs.declared.commands.Settings.{Settings}
 use Rattle.lsp_replay.specs.Run.{IsEngineRun}
 use Rattle.lsp_replay.specs.declared.outcome.Outcome.{Outcome}
-use Rattle.laspidru.specs.declared.codes.TheConstants.{OUT_OF_MEMORY}
 use Rattle.laspidru.specs.declared.command.Command.{Command}
 use Rattle.laspidru.specs.declared.endings.Ending.{Ending}
 use Rattle.laspidru.specs.declared.endings.LogSettings.{LogSettings}
-use Rattle.laspidru.specs.declared.object.Object.{Object}
 use Rattle.laspidru.specs.Logs.{IsCommand, IsCommandRun, IsEnded, IsKeptRun, RanOn, RunAsked, command_engine, command_turns, log_ports}
 
 -- It ran, and its output was kept, or out of memory.
 pub ran_and_kept : (it : Command) (settings : Settings) (log output : List ℕ) (answer : Result Outcome EngineFault)
-    (code : ℕ) (stored : Option Object) (out : Ending)
-    → RanOn it settings log output answer
+    (code : ℕ) (stored : Option Object) (out : Ending) → RanOn it settings log output answer
     → (code ≡ OUT_OF_MEMORY) ⊎ IsEnded output answer code stored out
     → (code ≡ OUT_OF_MEMORY) ⊎ IsKeptRun it settings log code stored out
 ran_and_kept it settings log output answer code stored out ran (inl none) = inl none
@@ -25,8 +21,7 @@ ran_and_kept it settings log output answer code stored out ran (inr ended) =
 
 -- It is the command of a name.
 pub command_ran : (asked : RunAsked) (settings : LogSettings) (log : List ℕ) (it : Command) (code : ℕ)
-    (stored : Option Object) (out : Ending)
-    → IsCommand asked.name settings asked.uri it
+    (stored : Option Object) (out : Ending) → IsCommand asked.name settings asked.uri it
     → (code ≡ OUT_OF_MEMORY) ⊎ IsKeptRun it asked.settings log code stored out
     → (code ≡ OUT_OF_MEMORY) ⊎ IsCommandRun asked settings log code stored out
 command_ran asked settings log it code stored out is (inl none) = inl none

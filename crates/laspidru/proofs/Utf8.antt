@@ -1,5 +1,5 @@
 -- Texts in UTF-8, by the test.
-use Rattle.std.proofs.Common.{◌≡◌, ℕ, true, false, List, inl, inr, IsUtf8}
+use Rattle.laspidru.proofs.Prelude.{◌≡◌, ℕ, true, false, List, inl, inr, IsUtf8}
 use Rattle.std.proofs.lemmas.Bool.{cases_Bool}
 use Rattle.std.proofs.lemmas.Str.{IsUtf8-from_is_utf8, is_utf8-from_IsUtf8}
 use Rattle.std.specs.Str.{is_utf8}

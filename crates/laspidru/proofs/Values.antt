@@ -3,35 +3,11 @@
 --     opens_handle, closes_handle  by value it is [what it owns; the allocator]
 --     tuple_of                     a tuple of two values
 --     is_there, says_full          what a full handle owns, and that the flag says whether it is full
-use Rattle.std.proofs.Common.{◌≡◌, ℕ, Bool, true, false, List, [], ◌∷◌, ◌++◌, refl, subst, lit<}
-use mathlib.Core.Bool.{◌&&◌, false≢true}
-use lib.Dec.{T}
-use seplogic.Ra.Ura.{Ura}
+use Rattle.laspidru.proofs.Prelude.{◌≡◌, ℕ, Bool, true, false, List, [], ◌∷◌, ◌++◌, refl, subst, lit<, ◌&&◌, false≢true, T, Ura, ty_ptr, impl, tnil, dnil, Val, vbool, vstruct, vcons, vnil, of_list, has_ty, WT, ftrue, never, never_e, fst∗, Logic, sem, Item, Goal, Seq, Step, step, ‵, given, learn, ◌$◌, move, drop, use1, fsplit, fjoin, fjoin3, fpick, fpack, feq_i, feq_l, RattleType, Valss, lone, layout, Ptr, block_ptr, null_ptr, ptr_val, in_a_block, nothing, within, Tuple, shape, to, fields, Al, handle_tells, Good, Option, Some, None, IsSome, is_some, Global, ghosts, object_at, object_if}
 use mir.Raw.{raw as bare}
-use mir.Syntax.{ty_ptr, impl, tnil, dnil}
-use mir.Val.{Val, vbool, vstruct, vcons, vnil, of_list, has_ty, WT}
-use base.Fml.{ftrue}
-use base.Logic.{never, never_e, fst∗}
-use types.Logic.{Logic, sem}
-use types.Kit.{Item, Goal, Seq, Step, step, ‵, given, learn, ◌$◌, move, drop, use1, fsplit, fjoin, fjoin3, fpick, fpack, feq_i, feq_l}
-use denote.RattleType.{RattleType, Valss}
-use denote.Memory.{lone}
-use denote.Param.{layout}
-use denote.RawPtr.{Ptr, block_ptr, null_ptr, ptr_val, in_a_block}
-use denote.Steps.{nothing}
-use denote.Struct.Struct.{within}
-use denote.Struct.Tuple.{Tuple}
-use denote.Struct.Owning.{shape, to, fields}
-use Rattle.core.proofs.alloc.Calls.{Al, handle_tells}
-use Rattle.core.proofs.cell.Inside.{Good}
-use Rattle.std.specs.Prelude.{Option, Some, None, IsSome}
-use Rattle.std.specs.Option.{is_some}
-use Rattle.std.specs.declared.alloc.Global.{Global}
 use Rattle.std.specs.contracts.alloc.Global as global
 use Rattle.std.proofs.alloc.Global.TheLaws as global-laws
-use Rattle.std.specs.contracts.impls.GlobalAllocator.TheImpl.{ghosts}
 use Rattle.laspidru.specs.contracts.object.Object as object
-use Rattle.laspidru.specs.inside.Stored.{object_at, object_if}
 use Rattle.laspidru.specs.contracts.handle.Handle as handle
 
 abbrev pub A : RattleType
@@ -103,8 +79,7 @@ module _ {M : Type 1} {𝓤 : Ura M} {𝓛 : Logic 𝓤} {K : Type 0} {Γ : List
 
   pub is_there : K → (full : Bool) (a : Global) (p : Ptr) (value : Option Object) → IsSome value
       → ((b o : ℕ) (x : Object) → full ≡ true → p ≡ block_ptr b o → value ≡ Some x
-      → Seq K 𝓛 (‵ (object_at a (block_ptr b o) x) ∷ Γ) G)
-      → Seq K 𝓛 (‵ (object_if full a p value) ∷ Γ) G
+      → Seq K 𝓛 (‵ (object_at a (block_ptr b o) x) ∷ Γ) G) → Seq K 𝓛 (‵ (object_if full a p value) ∷ Γ) G
   is_there t true a p (Some x) is next = in_a_block t p (λ q. object_at a q x)
       (fst∗ 𝓤 (never 𝓤) (sem 𝓛 (ghosts.dealloc_token a (bare (lone (object.the_row).mir)) null_ptr)))
       (λ b o at. next b o x refl at refl)

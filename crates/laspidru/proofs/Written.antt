@@ -1,13 +1,8 @@
 -- A canonical message that is refused.
-use Rattle.std.proofs.Common.{◌≡◌, ◌⊎◌, ℕ, List, Option, Some, None, inl, inr, ap, subst, sym, ◌∙◌}
-use Rattle.std.proofs.lemmas.Option.{none-some}
+use Rattle.laspidru.proofs.Prelude.{◌≡◌, ◌⊎◌, ℕ, List, Option, Some, None, inl, inr, ap, subst, sym, ◌∙◌, none-some, OUT_OF_MEMORY, Object, FaultAt, IsStoreReport}
 use Rattle.lsp_store.specs.declared.fault.StoreFault.{StoreFault}
 use Rattle.lsp_store.specs.Faults.{IsRefusal, refusal_fault}
 use Rattle.lsp_store.specs.Table.{Refusal}
-use Rattle.laspidru.specs.declared.codes.TheConstants.{OUT_OF_MEMORY}
-use Rattle.laspidru.specs.declared.object.Object.{Object}
-use Rattle.laspidru.specs.declared.structs.FaultAt.{FaultAt}
-use Rattle.laspidru.specs.Clients.{IsStoreReport}
 use Rattle.laspidru.specs.Messages.{IsMessageLeft, frame_unless}
 use Rattle.laspidru.specs.Servers.{store_code}
 

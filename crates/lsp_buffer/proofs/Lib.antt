@@ -4,5 +4,6 @@
 -- texts, one after the other; by it `Blocks/CountLemmas` says that counts of texts are added. `replace_range.changed`
 -- is `range_is` of `Changes/ChangeLemmas`, after `put_text` inside a block, or `cut_text` where blocks are cut again.
 pub mod Blocks
+mod Prelude
 pub mod Queries
 pub mod Changes

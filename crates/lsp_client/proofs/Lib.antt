@@ -4,5 +4,6 @@
 -- Their `error` is `order_fault` there, and `OrderLemmas` says which refusal comes first. The calls of the lifecycle
 -- and `deliver` need no lemma: the check goes by the table itself.
 pub mod OrderLemmas
+mod Prelude
 pub mod SentLemmas
 pub mod WholeLemmas

@@ -1,22 +1,11 @@
 -- What is sent for a command, and why a command is refused.
-use Rattle.std.proofs.Common.{◌≡◌, ◌≢◌, ℕ, ℤ, List, Option, Some, None, refl, sym, ap, ◌∙◌, ⊎_elim, inl, inr}
-use Rattle.lsp_frame.specs.Frame.{frame}
-use Rattle.lsp_text.specs.declared.encoding.Encoding.{Encoding}
-use Rattle.lsp_text.specs.Units.{units_in}
-use Rattle.lsp_edit.specs.Batch.{ContentChange}
-use Rattle.lsp_message.specs.declared.agreement.SyncKind.{SyncKind}
-use Rattle.lsp_message.specs.declared.agreement.SyncKind.TheVariants.{Off, Full, Incremental}
-use Rattle.lsp_store.specs.declared.fault.StoreFault.{StoreFault}
-use Rattle.lsp_store.specs.declared.fault.StoreFault.TheVariants as faults
-use Rattle.lsp_store.specs.Faults as documents
-use Rattle.lsp_store.specs.Faults.{IsRefusal}
+use Rattle.lsp_client.proofs.Prelude.{◌≡◌, ◌≢◌, ℕ, ℤ, List, Option, Some, None, refl, sym, ap, ◌∙◌, ⊎_elim, inl, inr, frame, Encoding, units_in, ContentChange, SyncKind, Off, Full, Incremental, StoreFault, IsRefusal, DocumentItem, already_open, too_many_documents, text_too_long, not_open, too_many_changes, stale_version, edit, body_too_long, changes, command_refusal, table_after, IsFaultOf, IsSent, client_fault}
 use Rattle.lsp_store.specs.Message.{else_refused, body_refusal, change_body, canonical_body}
-use Rattle.lsp_store.specs.Table as documents_table
-use Rattle.lsp_message.specs.Params.{DocumentItem}
-use Rattle.lsp_store.specs.Table.{already_open, too_many_documents, text_too_long, not_open, too_many_changes, stale_version, edit, body_too_long, changes, command_refusal, table_after}
 use Rattle.lsp_client.specs.declared.fault.ClientFault.TheVariants.{Store, NoMemory}
 use Rattle.lsp_client.specs.Step.{ClientData, Sending, sent_body, sending_unless, command_result}
-use Rattle.lsp_client.specs.Seen.{IsFaultOf, IsSent, client_fault}
+use Rattle.lsp_store.specs.declared.fault.StoreFault.TheVariants as faults
+use Rattle.lsp_store.specs.Faults as documents
+use Rattle.lsp_store.specs.Table as documents_table
 
 -- ---- refusals
 

@@ -1,28 +1,14 @@
 -- What an order sends, and what it leaves.
-use Rattle.std.proofs.Common.{◌≡◌, ◌≢◌, ℕ, ℤ, List, [], ◌∷◌, Option, Some, None, Ok, refl, sym, ap, ◌∙◌}
-use Rattle.lsp_frame.specs.Frame.{frame}
+use Rattle.lsp_client.proofs.Prelude.{◌≡◌, ◌≢◌, ℕ, ℤ, List, [], ◌∷◌, Option, Some, None, Ok, refl, sym, ap, ◌∙◌, frame, Encoding, units_in, ContentChange, SyncKind, Full, did_open, did_close, body_of, DocumentItem, StoreFault, IsRefusal, StoreData, Takes, Command, entry_at, command_refusal, table_after, IsSent, IsFaultOf, client_fault, IsOrderFault, order_refusal}
 use Rattle.lsp_frame.specs.Limits.{LimitsData}
 use Rattle.lsp_message.specs.declared.agreement.Offers.{Offers}
-use Rattle.lsp_text.specs.declared.encoding.Encoding.{Encoding}
-use Rattle.lsp_text.specs.Units.{units_in}
-use Rattle.lsp_edit.specs.Batch.{ContentChange}
-use Rattle.lsp_message.specs.declared.agreement.SyncKind.{SyncKind}
-use Rattle.lsp_message.specs.declared.agreement.SyncKind.TheVariants.{Full}
-use Rattle.lsp_message.specs.Outgoing.{did_open, did_close, body_of}
-use Rattle.lsp_message.specs.Params.{DocumentItem}
-use Rattle.lsp_store.specs.declared.fault.StoreFault.{StoreFault}
-use Rattle.lsp_store.specs.Faults.{IsRefusal}
 use Rattle.lsp_store.specs.Message.{body_refusal, change_body, whole_batch, else_refused, message_refusal, canonical_frame}
-use Rattle.lsp_store.specs.Opened.{StoreData, Takes}
-use Rattle.lsp_store.specs.Table as documents
-use Rattle.lsp_store.specs.Table.{Command, entry_at, command_refusal, table_after}
 use Rattle.lsp_client.specs.declared.agreed.Agreed.{Agreed}
 use Rattle.lsp_client.specs.declared.phase.Phase.{Phase}
 use Rattle.lsp_client.specs.declared.phase.Phase.TheVariants.{Ready}
 use Rattle.lsp_client.specs.Step.{ClientData, Order, edits, orders, agreement, sent_body, command_result, call_result}
-use Rattle.lsp_client.specs.Seen.{IsSent, IsFaultOf, client_fault}
-use Rattle.lsp_client.specs.inside.Orders.{IsOrderFault, order_refusal}
 use Rattle.lsp_client.proofs.OrderLemmas.{refused, refused_later, sent_if, canonical_sent}
+use Rattle.lsp_store.specs.Table as documents
 
 -- a client with these documents
 abbrev pub with_store : Offers → Phase → Option Agreed → StoreData → ClientData
@@ -127,8 +113,7 @@ second_none (Some refusal) later none = absurd (cc)
 pub change_within : (limits : LimitsData) (table : List DocumentItem) (s : ClientData) (agreed : Agreed) (uri : List ℕ)
     (version : ℤ) (batch : List ContentChange)
     → limits ≡ s.limits → table ≡ s.table → agreed ≡ agreement s → (agreement s).kind ≢ Full
-    → message_refusal limits (units_in agreed.encoding) table uri version batch ≡ None
-    → body_refusal s.limits
+    → message_refusal limits (units_in agreed.encoding) table uri version batch ≡ None → body_refusal s.limits
     (sent_body (agreement s).kind s.table (documents.changes uri version (agreement s).encoding batch)) ≡ None
 change_within limits table s agreed uri version batch same there is not none =
     second_none (command_refusal s.limits s.table (documents.changes uri version (agreement s).encoding batch)) _
@@ -140,8 +125,7 @@ change_within limits table s agreed uri version batch same there is not none =
     ) at none)
 
 pub change_framed : (table : List DocumentItem) (s : ClientData) (agreed : Agreed) (uri : List ℕ) (version : ℤ)
-    (batch : List ContentChange) (bytes : List ℕ)
-    → table ≡ s.table → agreed ≡ agreement s → (agreement s).kind ≢ Full
+    (batch : List ContentChange) (bytes : List ℕ) → table ≡ s.table → agreed ≡ agreement s → (agreement s).kind ≢ Full
     → bytes ≡ canonical_frame (units_in agreed.encoding) table uri version batch
     → bytes ≡ frame (sent_body (agreement s).kind s.table (documents.changes uri version (agreement s).encoding batch))
 change_framed table s agreed uri version batch bytes there is not framed =

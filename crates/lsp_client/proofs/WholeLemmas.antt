@@ -1,23 +1,14 @@
 -- The text that a batch leaves of an open document.
-use Rattle.std.proofs.Common.{◌≡◌, ℕ, ℤ, true, false, List, [], ◌∷◌, map, Some, None, refl, sym, ap, ◌∙◌, ⊎_elim, bytes_eq, string_bytes, String}
+use Rattle.lsp_client.proofs.Prelude.{◌≡◌, ℕ, ℤ, true, false, List, [], ◌∷◌, map, Some, None, refl, sym, ap, ◌∙◌, ⊎_elim, bytes_eq, string_bytes, String, Encoding, units_in, ContentChange, did_change, body_of, content_change_view, StoreData, DocumentItem, entry_at, changed, after_change, whole_change}
 use Rattle.std.proofs.lemmas.Bool.{cases_Bool}
 use Rattle.std.proofs.lemmas.Str.{IsUtf8-string_bytes, encodes-chars}
 use Rattle.std.specs.declared.alloc.Global.{Global}
 use Rattle.lsp_edit.specs.declared.change.Change.{Change}
-use Rattle.lsp_text.specs.declared.encoding.Encoding.{Encoding}
-use Rattle.lsp_text.specs.Units.{units_in}
-use Rattle.lsp_edit.specs.Batch.{ContentChange}
 use Rattle.lsp_edit.specs.Delta.{bytes_after}
-use Rattle.lsp_message.specs.Outgoing.{did_change, body_of}
-use Rattle.lsp_message.specs.Seen.{content_change_view}
 use Rattle.lsp_store.specs.declared.store.plan.Plan.{Plan}
-use Rattle.lsp_store.specs.Opened.{StoreData}
 use Rattle.lsp_store.specs.Plan.{IsPlanOf}
 use Rattle.lsp_store.proofs.Tables.RefusalLemmas.{meaning_accepted}
 use Rattle.lsp_store.specs.Message.{change_body, whole_batch, whole_text}
-use Rattle.lsp_message.specs.Params.{DocumentItem}
-use Rattle.lsp_store.specs.Table.{entry_at, changed, after_change}
-use Rattle.lsp_client.specs.inside.Orders.{whole_change}
 use Rattle.lsp_client.proofs.OrderLemmas.{some_same}
 
 -- ---- the document that a change leaves

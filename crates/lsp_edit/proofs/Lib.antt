@@ -8,3 +8,4 @@ pub mod Composing
 pub mod Canonical
 pub mod Batches
 pub mod Deltas
+mod Prelude

@@ -1,27 +1,14 @@
 -- Whether a frame begins somewhere is decided by the bytes, and so are the frames of a stream.
-use Rattle.std.proofs.Common.{◌≡◌, ◌≢◌, ℕ, zero, suc, ◌+◌, ◌≤◌, false, List, [], ◌∷◌, ◌++◌, length, take, drop, refl, sym, ◌∙◌, ap, subst, append_assoc, append-nil, take-append-drop, arith, inl, inr}
-use Rattle.std.specs.Prelude.{◌⊎◌, Result, Ok, Err}
-use Rattle.std.proofs.lemmas.Bool.{cases_lt, cases_eq}
-use Rattle.std.proofs.lemmas.List.{length-append, length-take-le}
-use Rattle.lsp_frame.specs.Header.{Line, IsLine, AreLines, IsNameByte, IsValueByte, line_bytes, lines_bytes, header_of, BeginsHeader}
-use Rattle.lsp_frame.specs.Verdict.{judge_header}
-use Rattle.lsp_frame.specs.Frame.{IsFrameOf, HasNoFrame}
-use Rattle.lsp_frame.specs.laws.Frames.{BeginsFrame, DecisionLaw, AllFrames, AllFramesLaw}
-use Rattle.lsp_frame.specs.inside.Stage.{IsPartOfLine, is_over}
-use Rattle.lsp_frame.specs.inside.Progress.{StopsHeader}
-use Rattle.lsp_frame.specs.declared.fault.HeaderFault.{HeaderFault}
-use Rattle.lsp_frame.specs.declared.framer.shape.Shape.{Shape}
-use Rattle.lsp_frame.specs.declared.framer.shape.Shape.TheVariants as shape
+use Rattle.lsp_frame.proofs.Prelude.{◌≡◌, ◌≢◌, ℕ, zero, suc, ◌+◌, ◌≤◌, false, List, [], ◌∷◌, ◌++◌, length, take, drop, refl, sym, ◌∙◌, ap, subst, append_assoc, append-nil, take-append-drop, arith, inl, inr, ◌⊎◌, Result, Ok, Err, cases_lt, cases_eq, length-append, length-take-le, Line, IsLine, AreLines, IsNameByte, IsValueByte, line_bytes, lines_bytes, header_of, BeginsHeader, judge_header, IsFrameOf, HasNoFrame, BeginsFrame, DecisionLaw, AllFrames, AllFramesLaw, IsPartOfLine, is_over, StopsHeader, HeaderFault, Shape, common_steps}
 use Rattle.lsp_frame.proofs.Lists.{All_push}
 use Rattle.lsp_frame.proofs.HeaderLemmas.{same_header, lines_bytes-append, stops_behind, stops_at_start, stops_at_name, stops_at_value, stops_at_return, stops_at_last, begins_part, begins_behind, colon_part, value_part}
 use Rattle.lsp_frame.proofs.FaultLemmas.{one_front, begins_none, header_begins_none}
-use Rattle.std.proofs.lemmas.Grind.{common_steps}
+use Rattle.lsp_frame.specs.declared.framer.shape.Shape.TheVariants as shape
 
 -- ---- one byte
 
 name_or_not : (b : ℕ) → IsNameByte b ⊎ (IsNameByte b → ⊥)
-name_or_not b =
-    grind (arith, common_steps, cases_lt, inl, inr, cases_eq)
+name_or_not b = grind (arith, common_steps, cases_lt, inl, inr, cases_eq)
 
 not_value : (b : ℕ) → ((32 ≤ b) × (b ≤ 126) → ⊥) → b ≢ 9 → IsValueByte b → ⊥
 not_value b hidden no_tab (inl visible) = hidden visible
@@ -68,19 +55,13 @@ next_byte shape.Value part b is line_open =
     elim (value_or_not b) [
       | inl value ↦ inl (shape.Value, value_part shape.Value b refl value part is)
       | inr no_value ↦ elim (cases_eq b 13) [
-        | inl return ↦ inl (
-          shape.Return,
-          grind (arith, common_steps, append_assoc),
-        )
+        | inl return ↦ inl (shape.Return, grind (arith, common_steps, append_assoc))
         | inr no_return ↦ inr (stops_at_value shape.Value b refl no_value no_return part is)
       ]
     ]
 next_byte shape.Return part b is line_open =
     elim (cases_eq b 10) [
-      | inl feed ↦ inl (
-        shape.Whole,
-        grind (arith, common_steps, append_assoc),
-      )
+      | inl feed ↦ inl (shape.Whole, grind (arith, common_steps, append_assoc))
       | inr no_feed ↦ inr (stops_at_return shape.Return b refl no_feed part is)
     ]
 next_byte shape.Whole part b is line_open = cc
@@ -161,8 +142,7 @@ header_decided (b ∷ rest) lines s part each is line_open =
   where
     with_line : (line : Line) → part ++ b ∷ [] ≡ line_bytes line → lines_bytes (lines ++ line ∷ []) ++ rest
         ≡ lines_bytes lines ++ ((part ++ b ∷ []) ++ rest)
-    with_line line e =
-        grind (arith, common_steps, lines_bytes-append, append_assoc, append-nil)
+    with_line line e = grind (arith, common_steps, lines_bytes-append, append_assoc, append-nil)
 
 -- ---- a frame
 
@@ -181,8 +161,7 @@ frame_decided max_body bytes front =
   where
     same : (frame body more : List ℕ) (s : IsFrameOf max_body frame body) → bytes ≡ frame ++ more
         → (front.lines ≡ s.lines) × (front.rest ≡ body ++ more)
-    same frame body more s e =
-        grind (arith, common_steps, same_header, append_assoc)
+    same frame body more s e = grind (arith, common_steps, same_header, append_assoc)
 
     judged : length (header_of front.lines) ≤ 8192 → (verdict : Result ℕ HeaderFault)
         → judge_header max_body front.lines ≡ verdict → BeginsFrame max_body bytes ⊎ HasNoFrame max_body bytes
@@ -222,12 +201,10 @@ frame_some max_body frame body s = grind (arith, common_steps, length-append)
 
 first_shorter : (max_body : ℕ) (stream : List ℕ) (first : BeginsFrame max_body stream)
     → length first.rest + 2 ≤ length stream
-first_shorter max_body stream first =
-    grind (arith, common_steps, length-append, frame_some)
+first_shorter max_body stream first = grind (arith, common_steps, length-append, frame_some)
 
 frames_within : (n max_body : ℕ) (stream : List ℕ) → length stream ≤ n → AllFrames max_body stream
-frames_within zero max_body stream within =
-    grind (arith, common_steps, decision_law, inl, first_shorter, inr)
+frames_within zero max_body stream within = grind (arith, common_steps, decision_law, inl, first_shorter, inr)
 frames_within (suc n) max_body stream within =
     elim (decision_law max_body stream) [
       | inl first ↦

@@ -1,28 +1,10 @@
 -- After a fault no frame can come, and no more than one frame is ever held.
-use Rattle.std.proofs.Common.{◌≡◌, ℕ, ◌+◌, ◌-◌, ◌≤◌, Bool, true, false, List, [], ◌∷◌, ◌++◌, length, take, drop, refl, sym, ◌∙◌, ap, subst, append_assoc, append-nil, take-append-drop, arith, inl, inr}
-use Rattle.std.specs.Prelude.{Ok, Err, ◌⊎◌}
-use Rattle.std.proofs.lemmas.List.{length-append, length-take, take-take, nil_from_length}
-use Rattle.std.proofs.Math.Seq.{take-append-add}
-use Rattle.lsp_frame.specs.Header.{Line, AreLines, header_of, BeginsHeader}
-use Rattle.lsp_frame.specs.Verdict.{judge_header}
-use Rattle.lsp_frame.specs.Frame.{IsFrameOf, IsHopeless}
-use Rattle.lsp_frame.specs.Limits.{LimitsData}
-use Rattle.lsp_frame.specs.Stream.{FramerData, IsFrame, IsPart, HoldsOne, IsStreamFault, IsFeedFault}
-use Rattle.lsp_frame.specs.declared.fault.FrameFault.{FrameFault}
-use Rattle.lsp_frame.specs.declared.fault.FrameFault.TheVariants.{Failed}
-use Rattle.lsp_frame.specs.Faults.{IsBadHeaderAt, IsHeaderTooLongAt, IsJudgedAt, IsDecidedAt, header_fault_at, place_after}
-use Rattle.lsp_frame.specs.inside.Stage.{IsInBody, IsAtStage}
-use Rattle.lsp_frame.specs.Stream.{has_failed}
-use Rattle.lsp_frame.specs.inside.Progress.{IsHeaderStop, stage_after, stopped_at}
-use Rattle.lsp_frame.specs.declared.framer.header.Stop.{Stop}
-use Rattle.lsp_frame.specs.declared.framer.header.Stop.TheVariants as stop
-use Rattle.lsp_frame.specs.declared.fault.HeaderFault.{HeaderFault}
-use Rattle.lsp_frame.specs.declared.fault.HeaderFault.TheVariants as header
-use Rattle.lsp_frame.specs.declared.framer.stage.Stage.{Stage}
-use Rattle.lsp_frame.specs.declared.framer.stage.Stage.TheVariants as stage
+use Rattle.lsp_frame.proofs.Prelude.{◌≡◌, ℕ, ◌+◌, ◌-◌, ◌≤◌, Bool, true, false, List, [], ◌∷◌, ◌++◌, length, take, drop, refl, sym, ◌∙◌, ap, subst, append_assoc, append-nil, take-append-drop, arith, inl, inr, Ok, Err, ◌⊎◌, length-append, length-take, take-take, nil_from_length, take-append-add, Line, AreLines, header_of, BeginsHeader, judge_header, IsFrameOf, IsHopeless, LimitsData, FramerData, IsFrame, IsPart, HoldsOne, IsStreamFault, IsFeedFault, FrameFault, Failed, IsBadHeaderAt, IsHeaderTooLongAt, IsJudgedAt, IsDecidedAt, header_fault_at, place_after, IsInBody, IsAtStage, has_failed, IsHeaderStop, stage_after, stopped_at, Stop, HeaderFault, Stage, common_steps}
 use Rattle.lsp_frame.proofs.HeaderLemmas.{same_header}
 use Rattle.lsp_frame.proofs.ProgressLemmas.{so_far_begins}
-use Rattle.std.proofs.lemmas.Grind.{common_steps}
+use Rattle.lsp_frame.specs.declared.framer.header.Stop.TheVariants as stop
+use Rattle.lsp_frame.specs.declared.fault.HeaderFault.TheVariants as header
+use Rattle.lsp_frame.specs.declared.framer.stage.Stage.TheVariants as stage
 
 -- Of two fronts of the same bytes one begins the other.
 pub record Front (a b x y : List ℕ) : Type 0 where
@@ -166,8 +148,7 @@ pub stage_part : (max_body : ℕ) (buffered : List ℕ) (s : Stage) → IsAtStag
     → IsPart max_body buffered
 stage_part max_body buffered (stage.Header header) at sound =
     inl (record { begins = so_far_begins max_body buffered header at.so_far at.line_open; short = at.short })
-stage_part max_body buffered (stage.Body start stop_at) at sound =
-    grind (arith, common_steps, inr, length-append)
+stage_part max_body buffered (stage.Body start stop_at) at sound = grind (arith, common_steps, inr, length-append)
 stage_part max_body buffered stage.Failed at sound = cc
 
 -- Where a whole frame is held, its body is all there.
@@ -220,8 +201,7 @@ pub same_framing : (place : ℕ) (buffered other : List ℕ) (failed other_faile
       failed = other_failed;
       limits = limits;
     } in f)
-same_framing place buffered other failed other_failed limits e f =
-    grind (arith, common_steps)
+same_framing place buffered other failed other_failed limits e f = grind (arith, common_steps)
 
 -- A fault of the stream, from what the framer held.
 pub stream_fault : (old : FramerData) (piece : List ℕ) (new : FramerData) (kind : HeaderFault) (k place : ℕ)

@@ -1,20 +1,10 @@
 -- What a header says, and the frame that it begins.
-use Rattle.std.proofs.Common.{◌≡◌, ℕ, ◌+◌, ◌-◌, ◌<◌, ◌≤◌, Bool, true, false, ◌||◌, List, [], ◌∷◌, ◌++◌, length, refl, sym, ◌∙◌, ap, subst, arith}
-use Rattle.std.specs.Prelude.{codes, nat_lt, Result, Ok, Err}
-use Rattle.std.proofs.lemmas.Bool.{lt-ltb, ltb-false}
-use Rattle.std.proofs.lemmas.List.{length-append, take_at}
-use Rattle.lsp_frame.specs.Header.{Line}
+use Rattle.lsp_frame.proofs.Prelude.{◌≡◌, ℕ, ◌+◌, ◌-◌, ◌<◌, ◌≤◌, Bool, true, false, ◌||◌, List, [], ◌∷◌, ◌++◌, length, refl, sym, ◌∙◌, ap, subst, arith, codes, nat_lt, Result, Ok, Err, lt-ltb, ltb-false, length-append, take_at, Line, IsFrame, IsJudgedAt, IsDecidedAt, both_judged, length_judged, judge_notes, HeaderFault, Notes, common_steps}
 use Rattle.lsp_frame.specs.Verdict.{values_of, judge_header, judge_values, judge_single}
-use Rattle.lsp_frame.specs.Stream.{IsFrame}
-use Rattle.lsp_frame.specs.Faults.{IsJudgedAt, IsDecidedAt}
 use Rattle.lsp_frame.specs.inside.Stage.{IsWhole, IsInBody, length_said, length_of, charset_of, notes_of}
-use Rattle.lsp_frame.specs.inside.Progress.{both_judged, length_judged, judge_notes}
-use Rattle.lsp_frame.specs.declared.fault.HeaderFault.{HeaderFault}
 use Rattle.lsp_frame.specs.declared.fault.HeaderFault.TheVariants as header
 use Rattle.lsp_frame.specs.declared.framer.notes.Length.TheVariants as said
 use Rattle.lsp_frame.specs.declared.framer.notes.Charset.TheVariants as named
-use Rattle.lsp_frame.specs.declared.framer.notes.Notes.{Notes}
-use Rattle.std.proofs.lemmas.Grind.{common_steps}
 
 pub or-true : (b : Bool) → (b || true) ≡ true
 or-true true = refl
@@ -26,23 +16,19 @@ many a b xs = lt-ltb 1 (length (a ∷ b ∷ xs)) (omega arith)
 
 pub judged_one : (max_body : ℕ) (value : List ℕ) → length_judged (length_said max_body value) named.Missing
     ≡ judge_single max_body (value ∷ []) []
-judged_one max_body value =
-    grind (arith, common_steps)
+judged_one max_body value = grind (arith, common_steps)
 
 pub judged_two : (max_body : ℕ) (value content : List ℕ) → both_judged (length_said max_body value)
     (charset_of (content ∷ [])) ≡ judge_single max_body (value ∷ []) (content ∷ [])
-judged_two max_body value content =
-    grind (arith, common_steps)
+judged_two max_body value content = grind (arith, common_steps)
 
 pub missing_one : (max_body : ℕ) (content : List ℕ) → both_judged said.Missing (charset_of (content ∷ []))
     ≡ Err header.MissingLength
-missing_one max_body content =
-    grind (arith, common_steps)
+missing_one max_body content = grind (arith, common_steps)
 
 pub repeated_one : (content : List ℕ) → both_judged said.Repeated (charset_of (content ∷ []))
     ≡ Err header.RepeatedHeader
-repeated_one content =
-    grind (arith, common_steps)
+repeated_one content = grind (arith, common_steps)
 
 -- The notes of a header say what its lines say.
 pub judged_values : (max_body : ℕ) (lengths types : List (List ℕ)) → both_judged (length_of max_body lengths)
@@ -76,13 +62,11 @@ IsVerdict max_body (Err header.BadCharset) = Unit {0}
 pub single_verdict : (max_body : ℕ) (lengths types : List (List ℕ))
     → IsVerdict max_body (judge_single max_body lengths types)
 single_verdict max_body [] types = tt
-single_verdict max_body (value ∷ values) types =
-    grind (arith, common_steps, ltb-false)
+single_verdict max_body (value ∷ values) types = grind (arith, common_steps, ltb-false)
 
 pub is_verdict : (max_body : ℕ) (lines : List Line) → IsVerdict max_body (judge_header max_body lines)
 unfolding judge_header
-is_verdict max_body lines =
-    grind (arith, common_steps, single_verdict)
+is_verdict max_body lines = grind (arith, common_steps, single_verdict)
 
 pub judge_within : (max_body : ℕ) (lines : List Line) (n : ℕ) → judge_header max_body lines ≡ Ok n → n ≤ max_body
 judge_within max_body lines n e = subst (IsVerdict max_body) e (is_verdict max_body lines)
@@ -139,8 +123,7 @@ whole_body max_body buffered body notes wanted start stop_at whole error within 
 -- A body that is all here.
 pub body_frame : (max_body : ℕ) (buffered : List ℕ) (start stop_at : ℕ) → IsInBody max_body buffered start stop_at
     → length buffered ≡ stop_at → IsFrame max_body buffered
-body_frame max_body buffered start stop_at in_body all =
-    grind (arith, common_steps, length-append)
+body_frame max_body buffered start stop_at in_body all = grind (arith, common_steps, length-append)
 
 pub whole_wanted : (max_body : ℕ) (buffered : List ℕ) (notes : Notes) (wanted : ℕ) → IsWhole max_body buffered notes
     → Ok wanted ≡ judge_notes notes → wanted ≤ max_body

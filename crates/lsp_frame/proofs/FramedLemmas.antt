@@ -1,19 +1,8 @@
 -- Which frames a stream begins with, and that they are the same however it is read.
-use Rattle.std.proofs.Common.{◌≡◌, ℕ, ◌+◌, ◌-◌, ◌<◌, ◌≤◌, List, [], ◌∷◌, ◌++◌, length, take, drop, refl, sym, ◌∙◌, ap, subst, append_assoc, append-nil, take-append-drop, arith, inl, inr}
-use Rattle.std.specs.Prelude.{Err, ◌⊎◌, Option}
-use Rattle.std.proofs.lemmas.List.{length-append, length-take, length-drop, take-take}
-use Rattle.lsp_frame.specs.Header.{Line, AreLines, lines_bytes, header_of, BeginsHeader}
-use Rattle.lsp_frame.specs.Verdict.{judge_header}
-use Rattle.lsp_frame.specs.Frame.{IsFrameOf, HasNoFrame}
-use Rattle.lsp_frame.specs.Faults.{IsBadHeaderAt, IsHeaderTooLongAt, IsJudgedAt, IsDecidedAt, IsDecided, header_fault_at, place_after}
-use Rattle.lsp_frame.specs.Stream.{IsFrame, IsPart, AreFrames, IsRead}
-use Rattle.lsp_frame.specs.laws.Frames.{SameFrame}
-use Rattle.lsp_frame.specs.declared.fault.HeaderFault.{HeaderFault}
-use Rattle.lsp_frame.specs.declared.fault.HeaderFault.TheVariants as header
-use Rattle.lsp_frame.specs.declared.fault.FrameFault.{FrameFault}
+use Rattle.lsp_frame.proofs.Prelude.{◌≡◌, ℕ, ◌+◌, ◌-◌, ◌<◌, ◌≤◌, List, [], ◌∷◌, ◌++◌, length, take, drop, refl, sym, ◌∙◌, ap, subst, append_assoc, append-nil, take-append-drop, arith, inl, inr, Err, ◌⊎◌, Option, length-append, length-take, length-drop, take-take, Line, AreLines, lines_bytes, header_of, BeginsHeader, judge_header, IsFrameOf, HasNoFrame, IsBadHeaderAt, IsHeaderTooLongAt, IsJudgedAt, IsDecidedAt, IsDecided, header_fault_at, place_after, IsFrame, IsPart, AreFrames, IsRead, SameFrame, HeaderFault, FrameFault, common_steps}
 use Rattle.lsp_frame.proofs.HeaderLemmas.{same_header}
 use Rattle.lsp_frame.proofs.FaultLemmas.{header_begins_none}
-use Rattle.std.proofs.lemmas.Grind.{common_steps}
+use Rattle.lsp_frame.specs.declared.fault.HeaderFault.TheVariants as header
 
 -- Fronts of one length of the same bytes are one.
 pub same_length_front : (a b x y : List ℕ) → length a ≡ length b → a ++ x ≡ b ++ y → (a ≡ b) × (x ≡ y)
@@ -164,8 +153,7 @@ same_fault max_body start bytes fault other a b =
 -- A stream is read in one way.
 pub same_read : (max_body : ℕ) (stream : List ℕ) (bodies others : List (List ℕ)) (fault other : Option FrameFault)
     → IsRead max_body stream bodies fault → IsRead max_body stream others other → (bodies ≡ others) × (fault ≡ other)
-same_read max_body stream bodies others fault other a b =
-    grind (arith, common_steps, same_frames, same_fault)
+same_read max_body stream bodies others fault other a b = grind (arith, common_steps, same_frames, same_fault)
 
 pub no_empty_frame : (max_body : ℕ) → IsFrame max_body [] → ⊥
 no_empty_frame max_body frame =
@@ -177,8 +165,7 @@ no_empty_frame max_body frame =
     )
 
 pub nothing_part : (max_body : ℕ) → IsPart max_body []
-nothing_part max_body =
-    grind (arith, common_steps, inl)
+nothing_part max_body = grind (arith, common_steps, inl)
 
 -- A frame more, and bytes more.
 pub framed_push : (max_body : ℕ) (stream : List ℕ) (bodies : List (List ℕ)) (buffered body : List ℕ)

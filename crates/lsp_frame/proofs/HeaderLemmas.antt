@@ -1,14 +1,7 @@
 -- A header has one reading, and none is a proper beginning of another.
-use Rattle.std.proofs.Common.{◌≡◌, ◌≢◌, ℕ, ◌+◌, ◌-◌, ◌<◌, ◌≤◌, get_or, true, false, List, [], ◌∷◌, ◌++◌, length, refl, sym, ◌∙◌, ap, subst, append_assoc, arith, inl, inr}
-use Rattle.std.proofs.lemmas.List.{length-append}
-use Rattle.std.specs.List.{AllByRecursion}
-use Rattle.lsp_frame.specs.Header.{Line, IsLine, AreLines, IsNameByte, IsValueByte, line_bytes, lines_bytes, header_of, BeginsHeader}
-use Rattle.lsp_frame.specs.inside.Stage.{IsPartOfLine, is_over}
-use Rattle.lsp_frame.specs.inside.Progress.{StopsHeader}
-use Rattle.lsp_frame.specs.declared.framer.shape.Shape.{Shape}
-use Rattle.lsp_frame.specs.declared.framer.shape.Shape.TheVariants as shape
+use Rattle.lsp_frame.proofs.Prelude.{◌≡◌, ◌≢◌, ℕ, ◌+◌, ◌-◌, ◌<◌, ◌≤◌, get_or, true, false, List, [], ◌∷◌, ◌++◌, length, refl, sym, ◌∙◌, ap, subst, append_assoc, arith, inl, inr, length-append, AllByRecursion, Line, IsLine, AreLines, IsNameByte, IsValueByte, line_bytes, lines_bytes, header_of, BeginsHeader, IsPartOfLine, is_over, StopsHeader, Shape, common_steps}
 use Rattle.lsp_frame.proofs.Lists.{same_front, All_push}
-use Rattle.std.proofs.lemmas.Grind.{common_steps}
+use Rattle.lsp_frame.specs.declared.framer.shape.Shape.TheVariants as shape
 
 pub colon_not : IsNameByte 58 → ⊥
 colon_not h = h.2 refl
@@ -30,8 +23,7 @@ no_name (b ∷ name) x y some all e = let h : 13 ≡ b = cc in let low : 33 ≤ 
 pub same_line : (line other : Line) (x y : List ℕ) → IsLine line → IsLine other
     → line.name ++ (58 ∷ (line.value ++ (13 ∷ x))) ≡ other.name ++ (58 ∷ (other.value ++ (13 ∷ y)))
     → (line.name ≡ other.name) × (line.value ≡ other.value) × (x ≡ y)
-same_line line other x y a b e =
-    grind (arith, common_steps, same_front, colon_not, return_not)
+same_line line other x y a b e = grind (arith, common_steps, same_front, colon_not, return_not)
 
 pub same_record : (line other : Line) → line.name ≡ other.name → line.value ≡ other.value → line ≡ other
 same_record line other n v = ap (λ (p : List ℕ × List ℕ). record { name = p.0; value = p.1 })
@@ -41,10 +33,8 @@ same_record line other n v = ap (λ (p : List ℕ × List ℕ). record { name = 
 pub same_header : (lines others : List Line) (x y : List ℕ) → AreLines lines → AreLines others → header_of lines ++ x
     ≡ header_of others ++ y → (lines ≡ others) × (x ≡ y)
 same_header [] [] x y a b e = let t : x ≡ y = cc in (refl, t)
-same_header [] (other ∷ others) x y a b e =
-    grind (arith, common_steps, no_name, append_assoc)
-same_header (line ∷ lines) [] x y a b e =
-    grind (arith, common_steps, no_name, append_assoc)
+same_header [] (other ∷ others) x y a b e = grind (arith, common_steps, no_name, append_assoc)
+same_header (line ∷ lines) [] x y a b e = grind (arith, common_steps, no_name, append_assoc)
 same_header (line ∷ lines) (other ∷ others) x y a b e =
     let left : header_of (line ∷ lines) ++ x ≡ line.name ++ (58 ∷ (line.value ++ (13 ∷ 10 ∷ (header_of lines ++ x)))) =
     simp append_assoc in
@@ -78,8 +68,7 @@ pub record Goes (x : List ℕ) : Type 0 where
 pub after_lines : (lines others : List Line) (x : List ℕ) → AreLines lines → AreLines others → header_of others
     ≡ lines_bytes lines ++ x → Goes x
 after_lines [] others x a b e = record { lines = others; each = b; is = e }
-after_lines (line ∷ lines) [] x a b e =
-    grind (arith, common_steps, no_name, append_assoc)
+after_lines (line ∷ lines) [] x a b e = grind (arith, common_steps, no_name, append_assoc)
 after_lines (line ∷ lines) (other ∷ others) x a b e =
     let right : lines_bytes (line ∷ lines) ++ x
     ≡ line.name ++ (58 ∷ (line.value ++ (13 ∷ 10 ∷ (lines_bytes lines ++ x)))) = simp append_assoc in
@@ -181,34 +170,28 @@ begins_part shape.End part is open_line = cc
 -- Whole lines before it change nothing.
 pub begins_behind : (lines : List Line) (part : List ℕ) → AreLines lines → BeginsHeader part
     → BeginsHeader (lines_bytes lines ++ part)
-begins_behind lines part each b =
-    grind (arith, common_steps, header_of-append, append_assoc)
+begins_behind lines part each b = grind (arith, common_steps, header_of-append, append_assoc)
 
 -- The same by the shape of the line.
 pub stops_at_start : (s : Shape) (b : ℕ) → s ≡ shape.Start → (IsNameByte b → ⊥) → b ≢ 13 → (part : List ℕ)
     → IsPartOfLine s part → StopsHeader (part ++ b ∷ [])
-stops_at_start s b e name_byte return part is =
-    grind (arith, common_steps, stops_start)
+stops_at_start s b e name_byte return part is = grind (arith, common_steps, stops_start)
 
 pub stops_at_name : (s : Shape) (b : ℕ) → s ≡ shape.Name → (IsNameByte b → ⊥) → b ≢ 58 → (part : List ℕ)
     → IsPartOfLine s part → StopsHeader (part ++ b ∷ [])
-stops_at_name s b e name_byte colon part is =
-    grind (arith, common_steps, stops_name)
+stops_at_name s b e name_byte colon part is = grind (arith, common_steps, stops_name)
 
 pub stops_at_value : (s : Shape) (b : ℕ) → s ≡ shape.Value → (IsValueByte b → ⊥) → b ≢ 13 → (part : List ℕ)
     → IsPartOfLine s part → StopsHeader (part ++ b ∷ [])
-stops_at_value s b e value_byte return part is =
-    grind (arith, common_steps, stops_value)
+stops_at_value s b e value_byte return part is = grind (arith, common_steps, stops_value)
 
 pub stops_at_return : (s : Shape) (b : ℕ) → s ≡ shape.Return → b ≢ 10 → (part : List ℕ) → IsPartOfLine s part
     → StopsHeader (part ++ b ∷ [])
-stops_at_return s b e feed part is =
-    grind (arith, common_steps, stops_return)
+stops_at_return s b e feed part is = grind (arith, common_steps, stops_return)
 
 pub stops_at_last : (s : Shape) (b : ℕ) → s ≡ shape.LastReturn → b ≢ 10 → (part : List ℕ) → IsPartOfLine s part
     → StopsHeader (part ++ b ∷ [])
-stops_at_last s b e feed part is =
-    grind (arith, common_steps, stops_last)
+stops_at_last s b e feed part is = grind (arith, common_steps, stops_last)
 
 -- One more byte of a line.
 pub colon_part : (s : Shape) (b : ℕ) → s ≡ shape.Name → b ≡ 58 → (part : List ℕ) → IsPartOfLine s part

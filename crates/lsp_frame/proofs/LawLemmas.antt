@@ -1,12 +1,8 @@
 -- The laws over frames, streams and faults.
-use Rattle.std.proofs.Common.{◌≡◌, ℕ, ◌+◌, ◌<◌, [], ◌++◌, length, sym, ap, subst, append-nil, arith}
-use Rattle.std.proofs.lemmas.List.{length-append}
-use Rattle.lsp_frame.specs.Frame.{frame, IsFrameOf}
-use Rattle.lsp_frame.specs.laws.Frames.{OneFrameLaw, BoundLaw, FramesLaw, FaultLaw, InjectiveLaw, SameFrame}
+use Rattle.lsp_frame.proofs.Prelude.{◌≡◌, ℕ, ◌+◌, ◌<◌, [], ◌++◌, length, sym, ap, subst, append-nil, arith, length-append, frame, IsFrameOf, OneFrameLaw, BoundLaw, FramesLaw, FaultLaw, InjectiveLaw, SameFrame, common_steps}
 use Rattle.lsp_frame.proofs.FrameLemmas.{judge_within}
 use Rattle.lsp_frame.proofs.FramedLemmas.{Way, same_frame, same_frames, way_of, not_before, same_kind}
 use Rattle.lsp_frame.proofs.WrittenLemmas.{written_is_frame}
-use Rattle.std.proofs.lemmas.Grind.{common_steps}
 
 pub one_frame_law : OneFrameLaw
 one_frame_law max_body raw more body other first second =
@@ -15,8 +11,7 @@ one_frame_law max_body raw more body other first second =
     (same.rest_is, same.body_is)
 
 pub bound_law : BoundLaw
-bound_law max_body raw body is_frame_of =
-    grind (arith, common_steps, judge_within, length-append)
+bound_law max_body raw body is_frame_of = grind (arith, common_steps, judge_within, length-append)
 
 pub frames_law : FramesLaw
 frames_law max_body stream bodies others rest other first second =

@@ -6,6 +6,7 @@
 pub mod Lists
 pub mod HeaderLemmas
 pub mod LineLemmas
+mod Prelude
 pub mod ProgressLemmas
 pub mod FrameLemmas
 pub mod FaultLemmas

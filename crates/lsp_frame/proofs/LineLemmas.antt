@@ -1,16 +1,8 @@
 -- Where the colon of a line stands, and what the notes of a header are behind one more line.
-use Rattle.std.proofs.Common.{◌≡◌, ℕ, ◌+◌, ◌-◌, ◌<◌, Bool, true, false, List, [], ◌∷◌, ◌++◌, length, get_or, take, drop, refl, sym, ◌∙◌, ap, append_assoc, append-nil, arith}
-use Rattle.std.specs.Prelude.{Option, Some, None, if◌then◌else◌}
-use Rattle.std.proofs.lemmas.List.{length-append, take_at, drop_at, get_or_at, get_or_append_left}
-use Rattle.std.proofs.lemmas.Bool.{eqb-true}
-use Rattle.memchr.specs.Find.{IsFirstByte, is_byte}
-use Rattle.lsp_frame.specs.Header.{Line, IsLine, line_bytes}
-use Rattle.lsp_frame.specs.Charset.{is_text, has_good_charset}
-use Rattle.lsp_frame.specs.Verdict.{values_of}
+use Rattle.lsp_frame.proofs.Prelude.{◌≡◌, ℕ, ◌+◌, ◌-◌, ◌<◌, Bool, true, false, List, [], ◌∷◌, ◌++◌, length, get_or, take, drop, refl, sym, ◌∙◌, ap, append_assoc, append-nil, arith, Option, Some, None, if◌then◌else◌, length-append, take_at, drop_at, get_or_at, get_or_append_left, eqb-true, IsFirstByte, is_byte, Line, IsLine, line_bytes, is_text, has_good_charset, values_of, common_steps}
 use Rattle.lsp_frame.specs.inside.Stage.{length_said, length_noted, length_of, charset_noted, charset_of, noted, notes_of}
 use Rattle.lsp_frame.specs.declared.framer.notes.Length.TheVariants as said
 use Rattle.lsp_frame.specs.declared.framer.notes.Charset.TheVariants as named
-use Rattle.std.proofs.lemmas.Grind.{common_steps}
 
 -- The first colon of a line stands behind its name.
 pub colon_at : (line : Line) (place : Option ℕ) → IsLine line → IsFirstByte (is_byte 58) (line_bytes line) place
@@ -53,20 +45,17 @@ value_of_line line =
 pub split_is : (bytes : List ℕ) (place : Option ℕ) (k : ℕ) (line : Line) → IsFirstByte (is_byte 58) bytes place
     → ((at : ℕ) → place ≡ Some at → k ≡ at) → IsLine line → bytes ≡ line_bytes line → (take k bytes ≡ line.name)
     × (take (length bytes - 2 - (k + 1)) (drop (k + 1) bytes) ≡ line.value)
-split_is bytes place k line first chosen is e =
-    grind (arith, common_steps, colon_at, name_of_line, value_of_line)
+split_is bytes place k line first chosen is e = grind (arith, common_steps, colon_at, name_of_line, value_of_line)
 
 -- One more line.
 pub values_of-push : (name : List ℕ) (lines : List Line) (line : Line) → values_of name (lines ++ line ∷ [])
     ≡ values_of name lines ++ (if is_text name line.name then line.value ∷ [] else [])
 values_of-push name [] line = refl
-values_of-push name (other ∷ lines) line =
-    grind (arith, common_steps, (values_of-push name lines line))
+values_of-push name (other ∷ lines) line = grind (arith, common_steps, (values_of-push name lines line))
 
 pub said_twice : (max_body : ℕ) (value other : List ℕ) → length_noted max_body (length_said max_body value) other
     ≡ said.Repeated
-said_twice max_body value other =
-    grind (arith, common_steps)
+said_twice max_body value other = grind (arith, common_steps)
 
 pub length_of-push : (max_body : ℕ) (values : List (List ℕ)) (value : List ℕ)
     → length_of max_body (values ++ value ∷ []) ≡ length_noted max_body (length_of max_body values) value
@@ -76,8 +65,7 @@ length_of-push max_body (first ∷ second ∷ values) value = refl
 
 pub named_twice : (value other : List ℕ) → charset_noted (if has_good_charset value then named.Good else named.Bad)
     other ≡ named.Repeated
-named_twice value other =
-    grind (arith, common_steps)
+named_twice value other = grind (arith, common_steps)
 
 pub charset_of-push : (values : List (List ℕ)) (value : List ℕ) → charset_of (values ++ value ∷ [])
     ≡ charset_noted (charset_of values) value
@@ -100,5 +88,4 @@ charset_with values value false = ap charset_of (sym (append-nil values))
 pub noted_is : (max_body : ℕ) (lines : List Line) (line : Line) → noted max_body (notes_of max_body lines) line.name
     line.value ≡ notes_of max_body (lines ++ line ∷ [])
 unfolding notes_of
-noted_is max_body lines line =
-    grind (arith, common_steps, length_with, values_of-push, charset_with)
+noted_is max_body lines line = grind (arith, common_steps, length_with, values_of-push, charset_with)

@@ -1,6 +1,5 @@
 -- Lists of bytes, cut at the first that isn't of a kind.
-use Rattle.std.proofs.Common.{◌≡◌, ℕ, List, [], ◌∷◌, ◌++◌, refl, subst}
-use Rattle.std.specs.List.{AllByRecursion}
+use Rattle.lsp_frame.proofs.Prelude.{◌≡◌, ℕ, List, [], ◌∷◌, ◌++◌, refl, subst, AllByRecursion}
 
 -- Two lists that go up to the first element that isn't P are one.
 pub same_front : (P : ℕ → Type 0) (xs ys us vs : List ℕ) (x y : ℕ) → AllByRecursion P xs → AllByRecursion P ys

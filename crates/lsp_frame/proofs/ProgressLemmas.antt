@@ -1,21 +1,10 @@
 -- A header that is coming in, line by line.
-use Rattle.std.proofs.Common.{◌≡◌, ◌≢◌, ℕ, ◌+◌, ◌-◌, ◌<◌, ◌≤◌, false, List, [], ◌++◌, length, take, drop, refl, sym, ◌∙◌, ap, subst, append_assoc, append-nil, arith}
-use Rattle.std.proofs.lemmas.List.{length-append, length-take, length-drop, drop_at, take_rest, take-take, take-append-drop}
-use Rattle.std.proofs.Math.Seq.{take-append-add, take-add}
-use Rattle.lsp_frame.specs.Header.{Line, IsLine, line_bytes, lines_bytes, BeginsHeader}
-use Rattle.lsp_frame.specs.declared.fault.HeaderFault.{HeaderFault}
-use Rattle.lsp_frame.specs.declared.framer.header.Stop.{Stop}
-use Rattle.lsp_frame.specs.declared.framer.header.Stop.TheVariants as stop
-use Rattle.lsp_frame.specs.inside.Stage.{IsPartOfLine, IsSoFar, CanContinue, is_over, noted}
-use Rattle.lsp_frame.specs.inside.Progress.{IsBadByte, IsLineStop, IsHeaderStop, StopsHeader}
-use Rattle.lsp_frame.specs.Faults.{IsBadHeaderAt, IsHeaderTooLongAt, IsDecidedAt}
-use Rattle.lsp_frame.specs.declared.framer.notes.Notes.{Notes}
+use Rattle.lsp_frame.proofs.Prelude.{◌≡◌, ◌≢◌, ℕ, ◌+◌, ◌-◌, ◌<◌, ◌≤◌, false, List, [], ◌++◌, length, take, drop, refl, sym, ◌∙◌, ap, subst, append_assoc, append-nil, arith, length-append, length-take, length-drop, drop_at, take_rest, take-take, take-append-drop, take-append-add, take-add, Line, IsLine, line_bytes, lines_bytes, BeginsHeader, HeaderFault, Stop, IsPartOfLine, IsSoFar, CanContinue, is_over, noted, IsBadByte, IsLineStop, IsHeaderStop, StopsHeader, IsBadHeaderAt, IsHeaderTooLongAt, IsDecidedAt, Notes, Shape, common_steps}
 use Rattle.lsp_frame.specs.declared.framer.header.Header.{Header}
-use Rattle.lsp_frame.specs.declared.framer.shape.Shape.{Shape}
-use Rattle.lsp_frame.specs.declared.framer.shape.Shape.TheVariants as shape
 use Rattle.lsp_frame.proofs.HeaderLemmas.{lines_bytes-append, begins_part, begins_behind, stops_behind}
 use Rattle.lsp_frame.proofs.LineLemmas.{noted_is}
-use Rattle.std.proofs.lemmas.Grind.{common_steps}
+use Rattle.lsp_frame.specs.declared.framer.header.Stop.TheVariants as stop
+use Rattle.lsp_frame.specs.declared.framer.shape.Shape.TheVariants as shape
 
 -- The line that is whole becomes one of the lines.
 pub with_line_so_far : (max_body : ℕ) (buffered : List ℕ) (header : Header) (name value : List ℕ) (added : Notes)
@@ -58,8 +47,7 @@ bad_byte max_body buffered window header n i at so_far within there place goes s
 -- A header that is coming in goes on.
 pub so_far_begins : (max_body : ℕ) (buffered : List ℕ) (header : Header) → IsSoFar max_body buffered header
     → is_over header.shape ≡ false → BeginsHeader buffered
-so_far_begins max_body buffered header so_far line_open =
-    grind (arith, common_steps, begins_behind, begins_part)
+so_far_begins max_body buffered header so_far line_open = grind (arith, common_steps, begins_behind, begins_part)
 
 pub open_shape : (s : Shape) → s ≢ shape.Whole → s ≢ shape.End → is_over s ≡ false
 open_shape shape.Start not_whole not_end = refl
@@ -81,13 +69,11 @@ take_joined old piece at i =
 pub window_take : (piece window : List ℕ) (at room n : ℕ)
     → window ≡ take room (take (length piece - at) (drop at piece)) → n ≤ length window → take n window
     ≡ take n (drop at piece)
-window_take piece window at room n e within =
-    grind (arith, common_steps, take_rest, length-take, take-take)
+window_take piece window at room n e within = grind (arith, common_steps, take_rest, length-take, take-take)
 
 pub window_len : (piece window : List ℕ) (at room : ℕ) → window ≡ take room (take (length piece - at) (drop at piece))
     → (length window ≤ room) × (length window ≤ length piece - at)
-window_len piece window at room e =
-    grind (arith, common_steps, take_rest, length-take, length-drop)
+window_len piece window at room e = grind (arith, common_steps, take_rest, length-take, length-drop)
 
 pub held_more : (old piece buffered window : List ℕ) (at room n : ℕ) → buffered ≡ old ++ take at piece
     → window ≡ take room (take (length piece - at) (drop at piece)) → n ≤ length window → buffered ++ take n window
@@ -150,10 +136,8 @@ take_short buffered window new n e short =
 -- What is taken behind the first bytes of a piece.
 pub taken_more : (old piece buffered new : List ℕ) (n m : ℕ) → buffered ≡ old ++ take n piece
     → new ≡ buffered ++ take m (take (length piece - n) (drop n piece)) → new ≡ old ++ take (n + m) piece
-taken_more old piece buffered new n m first second =
-    grind (arith, common_steps, take_rest, append_assoc, take-add)
+taken_more old piece buffered new n m first second = grind (arith, common_steps, take_rest, append_assoc, take-add)
 
 pub all_of : (old piece buffered : List ℕ) (n : ℕ) → buffered ≡ old ++ take n piece
     → buffered ++ take (length piece - n) (drop n piece) ≡ old ++ piece
-all_of old piece buffered n first =
-    grind (arith, common_steps, take_rest, append_assoc, take-append-drop)
+all_of old piece buffered n first = grind (arith, common_steps, take_rest, append_assoc, take-append-drop)

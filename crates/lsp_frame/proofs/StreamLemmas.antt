@@ -1,25 +1,11 @@
 -- The frames of a whole stream, and that a stream has one reading.
-use Rattle.std.proofs.Common.{◌≡◌, ℕ, ◌+◌, ◌-◌, ◌<◌, ◌≤◌, true, false, List, [], ◌∷◌, ◌++◌, length, take, drop, refl, sym, ◌∙◌, ap, subst, append_assoc, append-nil, take-append-drop, arith, inl, inr}
-use Rattle.std.specs.Prelude.{Result, Ok, Err, OnErr, Some, None, replicate}
-use Rattle.std.proofs.lemmas.List.{length-append, take-append-le, length-replicate}
-use Rattle.lsp_frame.specs.Frame.{IsFrameOf, HasNoFrame}
-use Rattle.lsp_frame.specs.Faults.{IsJudgedAt, IsDecidedAt, place_after}
-use Rattle.lsp_frame.specs.Stream.{FramerData, IsFrame, IsPart, AreFrames, IsSound, IsRead, IsStreamFault, IsFeedFault, released}
-use Rattle.lsp_frame.specs.inside.Stream.{IsHolding, HasTaken, IsFaulty}
-use Rattle.lsp_frame.specs.declared.fault.HeaderFault.{HeaderFault}
-use Rattle.lsp_frame.specs.declared.fault.HeaderFault.TheVariants as header
-use Rattle.lsp_frame.specs.declared.fault.FrameFault.{FrameFault}
-use Rattle.lsp_frame.specs.declared.fault.FrameFault.TheVariants as fault_of
+use Rattle.lsp_frame.proofs.Prelude.{◌≡◌, ℕ, ◌+◌, ◌-◌, ◌<◌, ◌≤◌, true, false, List, [], ◌∷◌, ◌++◌, length, take, drop, refl, sym, ◌∙◌, ap, subst, append_assoc, append-nil, take-append-drop, arith, inl, inr, Result, Ok, Err, OnErr, Some, None, replicate, length-append, take-append-le, length-replicate, IsFrameOf, HasNoFrame, IsJudgedAt, IsDecidedAt, place_after, FramerData, IsFrame, IsPart, AreFrames, IsSound, IsRead, IsStreamFault, IsFeedFault, released, IsHolding, HasTaken, IsFaulty, HeaderFault, FrameFault, LimitsData, flat_map, length-flat_map-take, take_more, Vec, Global, get_or, common_steps}
 use Rattle.lsp_frame.proofs.ProgressLemmas.{all_of}
-use Rattle.lsp_frame.specs.Limits.{LimitsData}
-use Rattle.std.specs.List.{flat_map}
 use Rattle.std.proofs.lemmas.List.Concat.{flat_map-append}
-use Rattle.std.proofs.lemmas.List.Folds.{length-flat_map-take}
-use Rattle.std.proofs.lemmas.List.{take_more}
-use Rattle.std.proofs.Common.{Vec, Global, get_or}
 use Rattle.lsp_frame.proofs.FaultLemmas.{decided_hopeless, part_one}
 use Rattle.lsp_frame.proofs.FramedLemmas.{begins_front, way_of, ends_here, way_within, no_empty_frame, nothing_part, framed_push, framed_more, framed_len}
-use Rattle.std.proofs.lemmas.Grind.{common_steps}
+use Rattle.lsp_frame.specs.declared.fault.HeaderFault.TheVariants as header
+use Rattle.lsp_frame.specs.declared.fault.FrameFault.TheVariants as fault_of
 
 -- The place behind one more frame.
 pub place_more : (whole buffered place : ℕ) → buffered ≤ whole → place ≡ place_after 0 (whole - buffered)
@@ -67,15 +53,13 @@ front_more bytes more k there = sym (take-append-le (k + 1) bytes more (omega ar
 
 pub judged_more : (max_body : ℕ) (bytes more : List ℕ) (k : ℕ) (kind : HeaderFault) → IsJudgedAt max_body bytes k kind
     → IsJudgedAt max_body (bytes ++ more) k kind
-judged_more max_body bytes more k kind at =
-    grind (arith, common_steps, front_more, length-append)
+judged_more max_body bytes more k kind at = grind (arith, common_steps, front_more, length-append)
 
 pub decided_more : (max_body : ℕ) (bytes more : List ℕ) (k : ℕ) (kind : HeaderFault) → IsDecidedAt max_body bytes k kind
     → IsDecidedAt max_body (bytes ++ more) k kind
 decided_more max_body bytes more k header.BadHeader at =
     grind (arith, common_steps, front_more, length-append, take-append-le)
-decided_more max_body bytes more k header.HeaderTooLong at =
-    grind (arith, common_steps, length-append, front_more)
+decided_more max_body bytes more k header.HeaderTooLong at = grind (arith, common_steps, length-append, front_more)
 decided_more max_body bytes more k header.MissingLength at = judged_more max_body bytes more k header.MissingLength at
 decided_more max_body bytes more k header.RepeatedHeader at = judged_more max_body bytes more k header.RepeatedHeader at
 decided_more max_body bytes more k header.BadLength at = judged_more max_body bytes more k header.BadLength at
@@ -199,8 +183,7 @@ new_behind limits f e =
 pub joined_more : (f : Vec ℕ Global → List ℕ) (pieces : List (Vec ℕ Global)) (i : ℕ) (piece : Vec ℕ Global)
     → i < length pieces → piece ≡ get_or pieces i piece → flat_map f (take i pieces) ++ f piece
     ≡ flat_map f (take (i + 1) pieces)
-joined_more f pieces i piece within is =
-    grind (arith, common_steps, take_more, append-nil, flat_map-append)
+joined_more f pieces i piece within is = grind (arith, common_steps, take_more, append-nil, flat_map-append)
 
 pub joined_all : (f : Vec ℕ Global → List ℕ) (pieces : List (Vec ℕ Global)) (i : ℕ) → flat_map f (take i pieces)
     ++ flat_map f (drop i pieces) ≡ flat_map f pieces
@@ -225,15 +208,13 @@ pub piece_behind : (max_body : ℕ) (f : Vec ℕ Global → List ℕ) (pieces : 
     (piece : Vec ℕ Global) (now : List ℕ) (bodies : List (List ℕ)) (g : FramerData) → i < length pieces
     → piece ≡ get_or pieces i piece → now ≡ f piece → HasTaken max_body (flat_map f (take i pieces) ++ now) bodies g
     → HasTaken max_body (flat_map f (take (i + 1) pieces)) bodies g
-piece_behind max_body f pieces i piece now bodies g within is e rest_after =
-    grind (arith, common_steps, joined_more)
+piece_behind max_body f pieces i piece now bodies g within is e rest_after = grind (arith, common_steps, joined_more)
 
 -- A stream has the bytes of each of its pieces.
 pub piece_some : (f : Vec ℕ Global → List ℕ) (pieces : List (Vec ℕ Global)) (i : ℕ) (piece : Vec ℕ Global)
     (now : List ℕ) → i < length pieces → piece ≡ get_or pieces i piece → now ≡ f piece → 0 < length now
     → 0 < length (flat_map f pieces)
-piece_some f pieces i piece now within is e some =
-    grind (arith, common_steps, length-flat_map-take)
+piece_some f pieces i piece now within is e some = grind (arith, common_steps, length-flat_map-take)
 
 pub on_err : {X Y Z : Type 0} (r : Result X Y) → Z → OnErr r Z
 on_err (Ok x) z = tt

@@ -1,15 +1,8 @@
 -- What stands round the first `=`, and how numbers grow.
-use Rattle.std.proofs.Common.{◌≡◌, ℕ, ◌+◌, ◌-◌, ◌*◌, ◌<◌, ◌≤◌, Bool, true, false, not, ◌&&◌, List, [], ◌∷◌, length, get_or, take, drop, refl, sym, ◌∙◌, ap, subst, arith}
-use Rattle.std.specs.Prelude.{Some, None, fold, codes, if◌then◌else◌}
-use Rattle.std.specs.List.{list_any, list_all, slice_split, position_or_len}
+use Rattle.lsp_frame.proofs.Prelude.{◌≡◌, ℕ, ◌+◌, ◌-◌, ◌*◌, ◌<◌, ◌≤◌, Bool, true, false, not, ◌&&◌, List, [], ◌∷◌, length, get_or, take, drop, refl, sym, ◌∙◌, ap, subst, arith, Some, None, fold, codes, if◌then◌else◌, list_any, list_all, slice_split, position_or_len, take_rest, at_drop_more, get_or_default, length-take, length-drop, number, IsFirstByte, is_byte, is_equals, is_semicolon, is_text, is_good_trimmed, is_good_parameter, has_good_charset, is_utf8_name, unquoted, trimmed, common_steps}
 use Rattle.std.proofs.lemmas.List.Sums.{position_or_len_is}
 use Rattle.std.proofs.lemmas.List.Recursion.{or_from_places, or_at}
-use Rattle.std.proofs.lemmas.List.{take_rest, at_drop_more, get_or_default, length-take, length-drop}
 use Rattle.std.proofs.lemmas.List.Splits.{slice_split_first, slice_split_none}
-use Rattle.lsp_frame.specs.Verdict.{number}
-use Rattle.memchr.specs.Find.{IsFirstByte, is_byte}
-use Rattle.lsp_frame.specs.Charset.{is_equals, is_semicolon, is_text, is_good_trimmed, is_good_parameter, has_good_charset, is_utf8_name, unquoted, trimmed}
-use Rattle.std.proofs.lemmas.Grind.{common_steps}
 
 -- a test that isn't passed
 pub not_true : (b : Bool) → (b ≡ true → ⊥) → b ≡ false
@@ -18,8 +11,7 @@ not_true false h = refl
 
 pub first_place : (a : ℕ) (hay : List ℕ) (k : ℕ) → IsFirstByte (is_byte a) hay (Some k)
     → position_or_len (is_byte a) hay ≡ k
-first_place a hay k first =
-    grind (arith, common_steps, position_or_len_is, not_true)
+first_place a hay k first = grind (arith, common_steps, position_or_len_is, not_true)
 
 pub some_equals : (hay : List ℕ) (k : ℕ) → IsFirstByte (is_byte 61) hay (Some k) → list_any is_equals hay ≡ true
 some_equals hay k first = or_at (list_any is_equals) is_equals refl (λ x xs. refl) hay k 0 first.0.high first.1
@@ -69,14 +61,12 @@ parameter_charset part t name value inner k r answer e first named asked is valu
 
 pub number_above : (digits : List ℕ) (n i most : ℕ) → fold (λ (m b : ℕ). 10 * m + (b - 48)) n (drop i digits)
     ≡ number digits → i < length digits → most < n * 10 + (get_or digits i 0 - 48) → most < number digits
-number_above digits n i most is within above =
-    grind (arith, common_steps, at_drop_more, number_grows)
+number_above digits n i most is within above = grind (arith, common_steps, at_drop_more, number_grows)
 
 -- What is cut at the first `;`.
 pub split_some : (hay : List ℕ) (k : ℕ) → IsFirstByte (is_byte 59) hay (Some k) → slice_split is_semicolon hay
     ≡ take k hay ∷ slice_split is_semicolon (take (length hay - (k + 1)) (drop (k + 1) hay))
-split_some hay k first =
-    grind (arith, common_steps, first_place, slice_split_first, take_rest)
+split_some hay k first = grind (arith, common_steps, first_place, slice_split_first, take_rest)
 
 pub split_none : (hay : List ℕ) → IsFirstByte (is_byte 59) hay None → slice_split is_semicolon hay ≡ hay ∷ []
 split_none hay first =

@@ -1,20 +1,10 @@
 -- A header in the written raw is one as it is read.
-use Rattle.std.proofs.Common.{◌≡◌, ℕ, ◌+◌, ◌<◌, ◌≤◌, Bool, true, false, ◌&&◌, List, [], ◌∷◌, ◌++◌, length, take, drop, get_or, refl, sym, ◌∙◌, ap, append_assoc, arith, inl, inr}
-use Rattle.std.specs.Prelude.{codes, nat_le, nat_lt, if◌then◌else◌, Ok, Some, None}
-use Rattle.std.specs.List.{list_all}
+use Rattle.lsp_frame.proofs.Prelude.{◌≡◌, ℕ, ◌+◌, ◌<◌, ◌≤◌, Bool, true, false, ◌&&◌, List, [], ◌∷◌, ◌++◌, length, take, drop, get_or, refl, sym, ◌∙◌, ap, append_assoc, arith, inl, inr, codes, nat_le, nat_lt, if◌then◌else◌, Ok, Some, None, list_all, take-append-add, take-append_seam, drop-append_seam, get_or-append_seam, length-append, length-take, take-take, get_or-take, list_all_at, cases_order, leb-true, lt-ltb, le-ltb, ltb-false, Line, header_of, trimmed, BeginsWritten, IsInBody, common_steps}
 use Rattle.std.proofs.Math.ListN.{get_or-append}
-use Rattle.std.proofs.Math.Seq.{take-append-add, take-append_seam, drop-append_seam, get_or-append_seam}
-use Rattle.std.proofs.lemmas.List.{length-append, length-take, take-take, get_or-take}
-use Rattle.std.proofs.lemmas.List.Folds.{list_all_at}
-use Rattle.std.proofs.lemmas.Bool.{cases_order, leb-true, lt-ltb, le-ltb, ltb-false}
-use Rattle.lsp_frame.specs.Header.{Line, header_of}
-use Rattle.lsp_frame.specs.Charset.{trimmed}
 use Rattle.lsp_frame.specs.Verdict.{is_digit, number, judge_header}
-use Rattle.lsp_frame.specs.inside.Stage.{BeginsWritten, IsInBody}
 use Rattle.lsp_frame.specs.declared.written.WrittenHeader.{WrittenHeader}
 use Rattle.lsp_frame.proofs.FramedLemmas.{same_length_front}
 use Rattle.lsp_frame.proofs.WrittenLemmas.{AreDigits, all_digits, digits_are_values, trimmed_digits, name_from_test}
-use Rattle.std.proofs.lemmas.Grind.{common_steps}
 
 -- the one line of such a header
 abbrev pub digits_line : List ℕ → Line
@@ -71,8 +61,7 @@ written_in_body max_body bytes header w =
 -- The digits at the front, as they are found in the first bytes alone.
 pub digits_front : (rest window digits : List ℕ) (most n : ℕ) → window ≡ take most rest → n ≤ length window
     → digits ≡ take n rest → list_all is_digit (take n window) ≡ true → list_all is_digit digits ≡ true
-digits_front rest window digits most n e within front each =
-    grind (arith, common_steps, length-take, take-take)
+digits_front rest window digits most n e within front each = grind (arith, common_steps, length-take, take-take)
 
 -- The parts of the header, as they are found.
 pub begins_written : (max_body : ℕ) (bytes rest digits rest_after : List ℕ) (len body : ℕ)
@@ -151,5 +140,4 @@ found_parts max_body bytes rest window digits rest_after n header w named cut wi
 pub within_told : (max_body : ℕ) (bytes digits : List ℕ) (header : WrittenHeader)
     (w : BeginsWritten max_body bytes header) → digits ≡ w.digits
     → None ≡ (if nat_lt max_body (number digits) then None else Some (number digits)) → ⊥
-within_told max_body bytes digits header w same error =
-    grind (arith, common_steps, le-ltb)
+within_told max_body bytes digits header w same error = grind (arith, common_steps, le-ltb)

@@ -1,17 +1,9 @@
 -- A written frame is a frame as it is read.
-use Rattle.std.proofs.Common.{◌≡◌, ℕ, ◌+◌, ◌-◌, ◌*◌, ◌^◌, ◌<◌, ◌≤◌, Bool, true, false, not, ◌&&◌, lit<, List, [], ◌∷◌, length, get_or, reverse, refl, sym, ap, subst, append_assoc, arith, inl}
-use Rattle.std.proofs.Common.{Vec, Global}
-use Rattle.std.specs.Prelude.{IfOk, codes, decimal, fold, nat_le, nat_lt, Result, Ok, Err, ◌==◌}
-use Rattle.std.specs.List.{AllByRecursion, list_all}
-use Rattle.std.proofs.lemmas.List.{length-append, length-reverse, get_or-reverse, reverse-reverse}
-use Rattle.std.proofs.lemmas.Bool.{le-leb, leb-true, eqb-false, ne_eqb, lt-ltb, le-ltb}
+use Rattle.lsp_frame.proofs.Prelude.{◌≡◌, ℕ, ◌+◌, ◌-◌, ◌*◌, ◌^◌, ◌<◌, ◌≤◌, Bool, true, false, not, ◌&&◌, lit<, List, [], ◌∷◌, length, get_or, reverse, refl, sym, ap, subst, append_assoc, arith, inl, Vec, Global, IfOk, codes, decimal, fold, nat_le, nat_lt, Result, Ok, Err, ◌==◌, AllByRecursion, list_all, length-append, length-reverse, get_or-reverse, reverse-reverse, le-leb, leb-true, eqb-false, ne_eqb, lt-ltb, le-ltb, Line, IsNameByte, IsValueByte, is_blank, trimmed, trimmed_start, trimmed_end, common_steps}
 use Rattle.std.proofs.lemmas.Fmt.{length-decimal-le, decimal_nonempty, digits_decimal, digits_value-decimal}
 use Rattle.std.proofs.lemmas.Str.Parse.{IsNumeralModel, IsDigitsTest, FoldsDigits, numerals_by_fold}
-use Rattle.lsp_frame.specs.Header.{Line, IsNameByte, IsValueByte}
-use Rattle.lsp_frame.specs.Charset.{is_blank, trimmed, trimmed_start, trimmed_end}
 use Rattle.lsp_frame.specs.Verdict.{is_digit, number, judge_header}
 use Rattle.lsp_frame.specs.Frame.{frame, IsFrameOf}
-use Rattle.std.proofs.lemmas.Grind.{common_steps}
 
 -- a digit
 abbrev pub IsDigit : ℕ → Type 0
@@ -46,8 +38,7 @@ digits_are_values (b ∷ bs) all = let low : 48 ≤ b = all.0.0 in let high : b 
     (inl (omega arith, omega arith), digits_are_values bs all.1)
 
 pub digit_not_blank : (b : ℕ) → IsDigit b → is_blank b ≡ false
-digit_not_blank b h =
-    grind (arith, common_steps, ne_eqb)
+digit_not_blank b h = grind (arith, common_steps, ne_eqb)
 
 pub start_same : (bs : List ℕ) → (0 < length bs → is_blank (get_or bs 0 0) ≡ false) → trimmed_start bs ≡ bs
 start_same [] first = refl
@@ -58,8 +49,7 @@ end_same bs all =
     grind (arith, common_steps, reverse, length-reverse, get_or-reverse, digit_not_blank, start_same, reverse-reverse)
 
 pub trimmed_digits : (bs : List ℕ) → AreDigits bs → trimmed (32 ∷ bs) ≡ bs
-trimmed_digits bs all =
-    grind (arith, common_steps, digit_not_blank, start_same, end_same)
+trimmed_digits bs all = grind (arith, common_steps, digit_not_blank, start_same, end_same)
 
 -- the one line of a written header
 abbrev pub length_line : ℕ → Line

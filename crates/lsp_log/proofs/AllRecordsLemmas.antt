@@ -1,21 +1,7 @@
 -- Each input has a list of all records that are whole in it.
-use Rattle.std.proofs.Common.{◌≡◌, ◌≢◌, ℕ, zero, suc, ◌+◌, ◌≤◌, Bool, true, false, List, [], ◌∷◌, ◌++◌, length, drop, refl, sym, ◌∙◌, ap, append_assoc, arith, inl, inr}
-use Rattle.std.specs.Prelude.{◌⊎◌, nat_eq}
-use Rattle.std.specs.List.{starts_with}
-use Rattle.std.proofs.lemmas.Bool.{cases_Bool, cases_eq}
-use Rattle.std.proofs.lemmas.List.{length-append}
-use Rattle.lsp_frame.specs.Frame.{IsFrameOf, HasNoFrame}
-use Rattle.lsp_frame.specs.laws.Frames.{DecisionLaw}
-use Rattle.lsp_frame.specs.Faults.{place_after}
-use Rattle.lsp_log.specs.declared.record.Version.{Version}
-use Rattle.lsp_log.specs.declared.record.Version.TheVariants.{One, Two}
-use Rattle.lsp_log.specs.declared.record.Sender.{Sender}
-use Rattle.lsp_log.specs.declared.record.Sender.TheVariants.{Client, Server}
-use Rattle.lsp_log.specs.Log.{LogRules, Record, AreRecords, IsVersion, together, record_bytes, mark_of, line_of, is_line_due, version_line}
-use Rattle.lsp_log.specs.laws.Logs.{AllRecords, AllRecordsLaw}
+use Rattle.lsp_log.proofs.Prelude.{◌≡◌, ◌≢◌, ℕ, zero, suc, ◌+◌, ◌≤◌, Bool, true, false, List, [], ◌∷◌, ◌++◌, length, drop, refl, sym, ◌∙◌, ap, append_assoc, arith, inl, inr, ◌⊎◌, nat_eq, starts_with, cases_Bool, cases_eq, length-append, IsFrameOf, HasNoFrame, DecisionLaw, place_after, Version, One, Two, Sender, Client, Server, LogRules, Record, AreRecords, IsVersion, together, record_bytes, mark_of, line_of, is_line_due, version_line, AllRecords, AllRecordsLaw, common_steps}
 use Rattle.lsp_log.proofs.OpeningLemmas.{starts_front, starts_known}
 use Rattle.lsp_log.proofs.UniqueLemmas.{IsEnd, same_version}
-use Rattle.std.proofs.lemmas.Grind.{common_steps}
 
 -- ---- the version
 
@@ -111,12 +97,10 @@ module _ (decision : DecisionLaw) where
 
   shorter : (max_body : ℕ) (version : Version) (bytes : List ℕ) (next : NextRecord max_body version bytes)
       → suc (length next.more) ≤ length bytes
-  shorter max_body version bytes next =
-      grind (arith, common_steps, length-append)
+  shorter max_body version bytes next = grind (arith, common_steps, length-append)
 
   with_first : (max_body place : ℕ) (version : Version) (due : Bool) (bytes : List ℕ)
-      (next : NextRecord max_body version bytes)
-      → AllFrom max_body version
+      (next : NextRecord max_body version bytes) → AllFrom max_body version
       (place + length (record_bytes version (record_of max_body place version due bytes next))) false next.more
       → AllFrom max_body version place due bytes
   with_first max_body place version due bytes next others =
@@ -131,8 +115,7 @@ module _ (decision : DecisionLaw) where
 
   all_within : (n max_body place : ℕ) (version : Version) (due : Bool) (bytes : List ℕ) → length bytes ≤ n
       → AllFrom max_body version place due bytes
-  all_within zero max_body place version due bytes within =
-      grind (arith, common_steps, next_record, inl, inr)
+  all_within zero max_body place version due bytes within = grind (arith, common_steps, next_record, inl, inr)
   all_within (suc n) max_body place version due bytes within =
       elim (next_record max_body version bytes) [
         | inl next ↦ with_first max_body place version due bytes next

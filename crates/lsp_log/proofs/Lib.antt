@@ -3,6 +3,7 @@
 -- `read_opening` is in `OpeningLemmas`. `reading_laws` is `unique_law` of `UniqueLemmas`, `all_records_law` of
 -- `AllRecordsLemmas` and `rest_law` of `RestLemmas`; `LogLemmas` has records one after another.
 pub mod LogLemmas
+mod Prelude
 pub mod SplitLemmas
 pub mod OpeningLemmas
 pub mod UniqueLemmas

@@ -1,11 +1,5 @@
 -- Records one after another.
-use Rattle.std.proofs.Common.{◌≡◌, ℕ, ◌+◌, Bool, false, List, [], ◌∷◌, ◌++◌, length, refl, ap, arith, drop, Some, None}
-use Rattle.std.specs.Prelude.{slice_get}
-use Rattle.std.proofs.lemmas.List.{length-append}
-use Rattle.lsp_log.specs.declared.record.Version.{Version}
-use Rattle.lsp_log.specs.declared.record.Version.TheVariants.{One, Two}
-use Rattle.lsp_log.specs.Log.{Record, IsRecord, AreRecords, LogRules, Log, IsReadAs, together, record_bytes, line_of, is_line_due}
-use Rattle.std.proofs.lemmas.Grind.{common_steps}
+use Rattle.lsp_log.proofs.Prelude.{◌≡◌, ℕ, ◌+◌, Bool, false, List, [], ◌∷◌, ◌++◌, length, refl, ap, arith, drop, Some, None, slice_get, length-append, Version, One, Two, Record, IsRecord, AreRecords, LogRules, Log, IsReadAs, together, record_bytes, line_of, is_line_due, common_steps}
 
 pub together_push : (version : Version) (rs : List Record) (r : Record) (rest : List ℕ)
     → together version (rs ++ r ∷ []) rest ≡ together version rs (record_bytes version r ++ rest)
@@ -15,14 +9,12 @@ together_push version (q ∷ rs) r rest = ap (λ z. record_bytes version q ++ z)
 pub together_len : (version : Version) (rs : List Record) (rest : List ℕ) → length (together version rs rest)
     ≡ length (together version rs []) + length rest
 together_len version [] rest = omega arith
-together_len version (q ∷ rs) rest =
-    grind (arith, common_steps, length-append, (together_len version rs rest))
+together_len version (q ∷ rs) rest = grind (arith, common_steps, length-append, (together_len version rs rest))
 
 -- how long the input is
 pub input_len : (log_rules : LogRules) (input : List ℕ) (log : Log) → IsReadAs log_rules input log
     → length input ≡ length (line_of log.version) + length (together log.version log.records []) + length log.rest
-input_len log_rules input log reads =
-    grind (arith, common_steps, length-append, together_len)
+input_len log_rules input log reads = grind (arith, common_steps, length-append, together_len)
 
 -- whether a record behind these has the line
 abbrev pub due_after : Bool → List Record → Bool
@@ -49,8 +41,7 @@ pub are_push : (max_body : ℕ) (version : Version) (place : ℕ) (due : Bool) (
     → AreRecords max_body version place due rs
     → IsRecord max_body version (place + length (together version rs [])) (due_after due rs) r
     → AreRecords max_body version place due (rs ++ r ∷ [])
-are_push max_body version place due [] r each is =
-    grind (arith, common_steps)
+are_push max_body version place due [] r each is = grind (arith, common_steps)
 are_push max_body version place due (q ∷ rs) r each is =
     let len : place + length (together version (q ∷ rs) []) ≡ place + length (record_bytes version q)
     + length (together version rs []) =

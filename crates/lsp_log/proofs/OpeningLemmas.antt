@@ -1,20 +1,10 @@
 -- The first bytes of an input, and its version.
-use Rattle.std.proofs.Common.{◌≡◌, ℕ, ◌+◌, ◌-◌, ◌<◌, ◌≤◌, Bool, true, List, [], ◌++◌, length, take, drop, Option, refl, sym, ◌∙◌, ap, arith, append_assoc, append-nil, inl, inr}
-use Rattle.std.specs.Prelude.{nat_eq}
-use Rattle.std.proofs.lemmas.List.{length-append, take-append-drop, length-take, take-take, take_at, take-append-le}
+use Rattle.lsp_log.proofs.Prelude.{◌≡◌, ℕ, ◌+◌, ◌-◌, ◌<◌, ◌≤◌, Bool, true, List, [], ◌++◌, length, take, drop, Option, refl, sym, ◌∙◌, ap, arith, append_assoc, append-nil, inl, inr, nat_eq, length-append, take-append-drop, length-take, take-take, take_at, take-append-le, cases_lt, starts_with, Consumes, Version, One, Two, IsVersion, version_line, IsLineFront, common_steps}
 use Rattle.std.proofs.lemmas.Slice.{take-put_mid}
 use Rattle.std.proofs.lemmas.Slice.Eq.{starts_is}
-use Rattle.std.proofs.lemmas.Bool.{cases_lt}
 use Rattle.std.proofs.lemmas.Bool.Decides.{Decides-eqb}
 use Rattle.std.proofs.Math.Seq.{take-append-add}
-use Rattle.std.specs.List.{starts_with}
-use Rattle.std.specs.Io.KnownBytes.{Consumes}
 use borrow.Rule.Slice.PartMut.{put_mid}
-use Rattle.lsp_log.specs.declared.record.Version.{Version}
-use Rattle.lsp_log.specs.declared.record.Version.TheVariants.{One, Two}
-use Rattle.lsp_log.specs.Log.{IsVersion, version_line}
-use Rattle.lsp_log.specs.Opening.{IsLineFront}
-use Rattle.std.proofs.lemmas.Grind.{common_steps}
 
 -- bytes that begin with others
 pub starts_front : (bytes front : List ℕ) (r : Bool) → r ≡ starts_with nat_eq bytes front → r ≡ true
@@ -47,15 +37,12 @@ next_bytes len n buf part within long few =
 
 pub next_len : (len n : ℕ) (buf part : List ℕ) → len ≤ length buf → length part ≡ length buf - len → n ≤ length part
     → length (take (len + n) (put_mid len (length buf - len) buf part)) ≡ len + n
-next_len len n buf part within long few =
-    grind (arith, common_steps, next_bytes, length-append, length-take)
+next_len len n buf part within long few = grind (arith, common_steps, next_bytes, length-append, length-take)
 
 pub next_read : (old mid new : Option (List ℕ)) (len n : ℕ) (buf part : List ℕ) → len ≤ length buf → length part
-    ≡ length buf - len → n ≤ length part
-    → Consumes old mid (take len buf) → Consumes mid new (take n part)
+    ≡ length buf - len → n ≤ length part → Consumes old mid (take len buf) → Consumes mid new (take n part)
     → Consumes old new (take (len + n) (put_mid len (length buf - len) buf part))
-next_read old mid new len n buf part within long few before now =
-    grind (arith, common_steps, next_bytes)
+next_read old mid new len n buf part within long few before now = grind (arith, common_steps, next_bytes)
 
 -- A version that is known stays.
 two_stays : (versions : Bool) (bytes more : List ℕ) → IsVersion versions Two bytes

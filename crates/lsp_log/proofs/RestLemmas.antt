@@ -1,17 +1,6 @@
 -- What is left where no whole record is buffered.
-use Rattle.std.proofs.Common.{◌≡◌, ◌≢◌, ◌⊎◌, ℕ, List, [], ◌∷◌, ◌++◌, length, drop, Option, refl, ◌∙◌, ap, subst, arith, append-nil, inl, inr}
-use Rattle.std.proofs.lemmas.List.{length-append}
-use Rattle.lsp_frame.specs.Frame.{IsFrameOf}
-use Rattle.lsp_log.specs.declared.record.Version.{Version}
-use Rattle.lsp_log.specs.declared.record.Version.TheVariants.{One, Two}
-use Rattle.lsp_log.specs.declared.record.Sender.{Sender}
-use Rattle.lsp_log.specs.declared.record.Sender.TheVariants.{Client, Server}
-use Rattle.lsp_log.specs.declared.splitter.Splitter.{Splitter}
-use Rattle.lsp_log.specs.Log.{LogRules, Record, HasNoRecord, mark_of}
-use Rattle.lsp_log.specs.Splitting.{IsReady, IsAfter, log_at, buffered_of, mark_part}
-use Rattle.lsp_log.specs.laws.Logs.{BufferedLaw, RestLaw}
+use Rattle.lsp_log.proofs.Prelude.{◌≡◌, ◌≢◌, ◌⊎◌, ℕ, List, [], ◌∷◌, ◌++◌, length, drop, Option, refl, ◌∙◌, ap, subst, arith, append-nil, inl, inr, length-append, IsFrameOf, Version, One, Two, Sender, Client, Server, Splitter, LogRules, Record, HasNoRecord, mark_of, IsReady, IsAfter, log_at, buffered_of, mark_part, BufferedLaw, RestLaw, common_steps}
 use Rattle.lsp_log.proofs.SplitLemmas.{given_reads, some_side, some_or}
-use Rattle.std.proofs.lemmas.Grind.{common_steps}
 
 -- Two marks of one version have one length.
 behind_mark : (version : Version) (side other : Sender) (a b : List ℕ) → mark_of version side ++ a ≡ mark_of version other

@@ -1,24 +1,11 @@
 -- A splitter on its way through a log.
-use Rattle.std.proofs.Common.{◌≡◌, ℕ, ◌+◌, ◌-◌, ◌≤◌, ◌^◌, Bool, true, false, List, [], ◌∷◌, ◌++◌, length, take, drop, Option, Some, None, refl, sym, ◌∙◌, ap, subst, arith, append_assoc, inl, inr, ◌⊎◌}
-use Rattle.std.specs.Prelude.{min, not, is_some}
-use Rattle.std.proofs.lemmas.List.{length-append, take-append-drop}
-use Rattle.lsp_frame.specs.Frame.{IsFrameOf}
-use Rattle.lsp_frame.specs.Faults.{place_after, IsDecided}
-use Rattle.lsp_frame.specs.Stream.{FramerData, IsFrame, IsPart, HoldsOne, IsFeedFault, IsStreamFault, released}
+use Rattle.lsp_log.proofs.Prelude.{◌≡◌, ℕ, ◌+◌, ◌-◌, ◌≤◌, ◌^◌, Bool, true, false, List, [], ◌∷◌, ◌++◌, length, take, drop, Option, Some, None, refl, sym, ◌∙◌, ap, subst, arith, append_assoc, inl, inr, ◌⊎◌, min, not, is_some, length-append, take-append-drop, IsFrameOf, place_after, IsDecided, FramerData, IsFrame, IsPart, HoldsOne, IsFeedFault, IsStreamFault, released, Version, One, Two, Sender, Client, Splitter, LogRules, Record, IsRecord, IsReadAs, IsMalformed, line_of, mark_of, is_line_due, together, record_bytes, IsFed, IsReady, IsAfter, IsSplitFault, IsSide, IsOpen, mark_part, buffered_of, log_at, side_of, record_at, common_steps}
 use Rattle.lsp_stream.specs.Faults.{engine_fault}
-use Rattle.lsp_stream.specs.declared.fault.EngineFault.TheVariants as engine
 use Rattle.lsp_frame.specs.declared.fault.FrameFault.{FrameFault}
-use Rattle.lsp_frame.specs.declared.fault.FrameFault.TheVariants as fault_of
 use Rattle.lsp_frame.proofs.FramedLemmas.{nothing_part}
-use Rattle.lsp_log.specs.declared.record.Version.{Version}
-use Rattle.lsp_log.specs.declared.record.Version.TheVariants.{One, Two}
-use Rattle.lsp_log.specs.declared.record.Sender.{Sender}
-use Rattle.lsp_log.specs.declared.record.Sender.TheVariants.{Client}
-use Rattle.lsp_log.specs.declared.splitter.Splitter.{Splitter}
-use Rattle.lsp_log.specs.Log.{LogRules, Record, IsRecord, IsReadAs, IsMalformed, line_of, mark_of, is_line_due, together, record_bytes}
-use Rattle.lsp_log.specs.Splitting.{IsFed, IsReady, IsAfter, IsSplitFault, IsSide, IsOpen, mark_part, buffered_of, log_at, side_of, record_at}
 use Rattle.lsp_log.proofs.LogLemmas.{together_push, input_len, are_push, due_now, not_due}
-use Rattle.std.proofs.lemmas.Grind.{common_steps}
+use Rattle.lsp_stream.specs.declared.fault.EngineFault.TheVariants as engine
+use Rattle.lsp_frame.specs.declared.fault.FrameFault.TheVariants as fault_of
 
 -- A frame has at least two bytes, so nothing is none.
 pub frame_len : (max_body : ℕ) (raw body : List ℕ) → IsFrameOf max_body raw body → 2 ≤ length raw
@@ -54,8 +41,7 @@ fed_bytes buffered piece k = append_assoc buffered (take k piece) (drop k piece)
 
 fed_held : (mark buffered piece : List ℕ) (k : ℕ) → (mark ++ (buffered ++ take k piece)) ++ drop k piece
     ≡ (mark ++ buffered) ++ piece
-fed_held mark buffered piece k =
-    grind (arith, common_steps, append_assoc, fed_bytes)
+fed_held mark buffered piece k = grind (arith, common_steps, append_assoc, fed_bytes)
 
 pub fed_stands : (log_rules : LogRules) (input piece : List ℕ) (records : List Record) (s : Splitter) (f : FramerData)
     (k : ℕ) → f ≡ record s.framer { buffered = s.framer.buffered ++ take k piece }

@@ -1,15 +1,5 @@
 -- An input is taken apart in one way.
-use Rattle.std.proofs.Common.{◌≡◌, ◌≢◌, ℕ, ◌+◌, Bool, false, List, [], ◌∷◌, ◌++◌, length, refl, sym, ap, ◌∙◌, subst, arith, append_assoc, append-nil}
-use Rattle.std.proofs.lemmas.List.{append_cancel_left}
-use Rattle.lsp_frame.specs.Frame.{IsFrameOf}
-use Rattle.lsp_frame.specs.laws.Frames.{FrontLaw, SameFrame}
-use Rattle.lsp_log.specs.declared.record.Version.{Version}
-use Rattle.lsp_log.specs.declared.record.Version.TheVariants.{One, Two}
-use Rattle.lsp_log.specs.declared.record.Sender.{Sender}
-use Rattle.lsp_log.specs.declared.record.Sender.TheVariants.{Client, Server}
-use Rattle.lsp_log.specs.Log.{Record, IsRecord, AreRecords, HasNoRecord, together, record_bytes, mark_of, line_of, is_line_due}
-use Rattle.lsp_log.specs.laws.Logs.{UniqueLaw, FirstLaw, VersionLaw}
-use Rattle.std.proofs.lemmas.Grind.{common_steps}
+use Rattle.lsp_log.proofs.Prelude.{◌≡◌, ◌≢◌, ℕ, ◌+◌, Bool, false, List, [], ◌∷◌, ◌++◌, length, refl, sym, ap, ◌∙◌, subst, arith, append_assoc, append-nil, append_cancel_left, IsFrameOf, FrontLaw, SameFrame, Version, One, Two, Sender, Client, Server, Record, IsRecord, AreRecords, HasNoRecord, together, record_bytes, mark_of, line_of, is_line_due, UniqueLaw, FirstLaw, VersionLaw, common_steps}
 
 pub same_version : VersionLaw
 same_version versions One One input is also = refl
@@ -31,10 +21,8 @@ same_mark Two Client Server a b one also e = let byte = first_byte 62 60 a b e i
 same_mark Two Server Client a b one also e = let byte = first_byte 60 62 a b e in absurd (omega arith)
 
 same_head : (max_body : ℕ) (version : Version) (place : ℕ) (due : Bool) (r q : Record) → r.head.side ≡ q.head.side
-    → IsRecord max_body version place due r → IsRecord max_body version place due q
-    → r.head ≡ q.head
-same_head max_body version place due r q side is also =
-    grind (arith, common_steps)
+    → IsRecord max_body version place due r → IsRecord max_body version place due q → r.head ≡ q.head
+same_head max_body version place due r q side is also = grind (arith, common_steps)
 
 record IsSame (r q : Record) (rest other : List ℕ) : Type 0 where
   record_is : r ≡ q

@@ -1,30 +1,11 @@
 -- The value of each written message: it is not deep, and its text is read back as it.
-use Rattle.std.proofs.Common.{◌≡◌, ℕ, ◌^◌, ◌<◌, ◌≤◌, suc, List, [], ◌∷◌, map, true, Option, Some, None, FitsSigned, IsUtf8, IfSome, All, codes, refl, sym, ap, ◌∙◌, subst, arith}
+use Rattle.lsp_message.proofs.Prelude.{◌≡◌, ℕ, ◌^◌, ◌<◌, ◌≤◌, suc, List, [], ◌∷◌, map, true, Option, Some, None, FitsSigned, IsUtf8, IfSome, All, codes, refl, sym, ap, ◌∙◌, subst, arith, ℤ, IsUtf8-are_ascii, Data, number, string, array, object, no_members, member, depth, items_depth, of_integer, read, max_depth, items_of, Encoding, Utf8, Utf16, Utf32, Position, Range, Offers, SyncKind, Off, Full, Incremental, ErrorCode, ParseError, InvalidRequest, MethodNotFound, InvalidParams, ServerNotInitialized, IdData, whole, text, DocumentItem, ContentChangeData, ChangeData, CloseData, OutgoingData, IsProper, IsProperId, IsProperDocument, IsProperChange, IsProperEdit, IsProperRange, IsProperPosition}
 use Rattle.std.specs.Int.{w32}
-use Rattle.std.specs.Prelude.{ℤ}
-use Rattle.json.proofs.Printed.Utf8.{IsUtf8-are_ascii}
-use Rattle.serde_json.specs.Data.{Data, number, string, array, object, no_members, member, depth, items_depth}
-use Rattle.serde_json.specs.Find.{of_integer}
-use Rattle.serde_json.specs.Read.{read, max_depth}
-use Rattle.serde_json.specs.View.{items_of}
-use Rattle.lsp_text.specs.declared.encoding.Encoding.{Encoding}
-use Rattle.lsp_text.specs.declared.encoding.Encoding.TheVariants.{Utf8, Utf16, Utf32}
-use Rattle.lsp_text.specs.declared.position.Position.{Position}
-use Rattle.lsp_text.specs.declared.position.Range.{Range}
 use Rattle.lsp_text.specs.Units.{name_of}
-use Rattle.lsp_message.specs.declared.agreement.Offers.{Offers}
-use Rattle.lsp_message.specs.declared.agreement.SyncKind.{SyncKind}
-use Rattle.lsp_message.specs.declared.agreement.SyncKind.TheVariants.{Off, Full, Incremental}
-use Rattle.lsp_message.specs.declared.outgoing.ErrorCode.{ErrorCode}
-use Rattle.lsp_message.specs.declared.outgoing.ErrorCode.TheVariants.{ParseError, InvalidRequest, MethodNotFound, InvalidParams, ServerNotInitialized}
-use Rattle.lsp_message.specs.Message.{IdData, whole, text}
-use Rattle.lsp_message.specs.Params.{DocumentItem, ContentChangeData, ChangeData, CloseData}
-use Rattle.lsp_message.specs.Outgoing as spec
-use Rattle.lsp_message.specs.Written as values
-use Rattle.lsp_message.specs.Outgoing.{OutgoingData}
-use Rattle.lsp_message.specs.laws.Sent.{IsProper, IsProperId, IsProperDocument, IsProperChange, IsProperEdit, IsProperRange, IsProperPosition}
 use Rattle.lsp_message.proofs.BodyLemmas.{body_is}
 use Rattle.lsp_message.proofs.Sound.{Sound, SoundItems, sound_null, sound_boolean, sound_string, sound_unsigned, sound_integer, sound_array, sound_object, sound_item, sound_no_items, read-compact_text}
+use Rattle.lsp_message.specs.Outgoing as spec
+use Rattle.lsp_message.specs.Written as values
 
 -- ---- the depth
 

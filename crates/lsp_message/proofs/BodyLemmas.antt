@@ -1,27 +1,10 @@
 -- The body of a message is the compact text of its value.
-use Rattle.std.proofs.Common.{◌≡◌, ℕ, Bool, true, false, List, [], ◌∷◌, ◌++◌, map, Option, Some, None, codes, refl, sym, ap, ap₂, ◌∙◌, append_assoc}
+use Rattle.lsp_message.proofs.Prelude.{◌≡◌, ℕ, Bool, true, false, List, [], ◌∷◌, ◌++◌, map, Option, Some, None, codes, refl, sym, ap, ap₂, ◌∙◌, append_assoc, join_by, flat_map, decimal, Data, null, of_integer, items_of, compact_text, items_text, number_text, Encoding, Utf8, Utf16, Utf32, Position, Range, Offers, SyncKind, Off, Full, Incremental, ErrorCode, ParseError, InvalidRequest, MethodNotFound, InvalidParams, ServerNotInitialized, IdData, whole, text, DocumentItem, ContentChangeData, ChangeData, CloseData}
 use Rattle.std.specs.Fmt.{digits, signed_decimal}
-use Rattle.std.specs.List.{join_by, flat_map}
-use Rattle.std.specs.Prelude.{decimal}
 use Rattle.json.specs.Print.{quoted, escape_byte}
-use Rattle.serde_json.specs.Data.{Data, null}
-use Rattle.serde_json.specs.Find.{of_integer}
-use Rattle.serde_json.specs.View.{items_of}
-use Rattle.serde_json.specs.Written.{compact_text, items_text, number_text}
-use Rattle.lsp_text.specs.declared.encoding.Encoding.{Encoding}
-use Rattle.lsp_text.specs.declared.encoding.Encoding.TheVariants.{Utf8, Utf16, Utf32}
-use Rattle.lsp_text.specs.declared.position.Position.{Position}
-use Rattle.lsp_text.specs.declared.position.Range.{Range}
-use Rattle.lsp_message.specs.declared.agreement.Offers.{Offers}
-use Rattle.lsp_message.specs.declared.agreement.SyncKind.{SyncKind}
-use Rattle.lsp_message.specs.declared.agreement.SyncKind.TheVariants.{Off, Full, Incremental}
-use Rattle.lsp_message.specs.declared.outgoing.ErrorCode.{ErrorCode}
-use Rattle.lsp_message.specs.declared.outgoing.ErrorCode.TheVariants.{ParseError, InvalidRequest, MethodNotFound, InvalidParams, ServerNotInitialized}
-use Rattle.lsp_message.specs.Message.{IdData, whole, text}
-use Rattle.lsp_message.specs.Params.{DocumentItem, ContentChangeData, ChangeData, CloseData}
 use Rattle.lsp_message.specs.Outgoing.{OutgoingData, initialize, initialized, did_open, did_change, did_close, shutdown, exit, initialize_result, shutdown_result, error_reply, error_text, id_text, document_text, position_text, range_text, content_change_text, notification_text, result_text, body_of}
-use Rattle.lsp_message.specs.Written as values
 use Rattle.lsp_message.proofs.Tokens.{integer_text}
+use Rattle.lsp_message.specs.Written as values
 
 -- ---- lists, one after another
 
@@ -119,8 +102,7 @@ open_is : (p : DocumentItem) → codes "{\"textDocument\":" ++ document_text p +
 unfolding escape_byte
 open_is p = ap (λ s. codes "{\"textDocument\":" ++ s ++ codes "}") (document_is p)
 
-change_is : (p : ChangeData)
-    → codes "{\"contentChanges\":[" ++ join_by content_change_text (codes ",") p.changes
+change_is : (p : ChangeData) → codes "{\"contentChanges\":[" ++ join_by content_change_text (codes ",") p.changes
     ++ codes "],\"textDocument\":{\"uri\":"
     ++ quoted p.uri ++ codes ",\"version\":" ++ signed_decimal p.version ++ codes "}}"
     ≡ compact_text (values.change_params p)

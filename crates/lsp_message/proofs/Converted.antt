@@ -1,10 +1,5 @@
 -- What `converted` does at each outcome, and results under a weaker fact.
-use Rattle.std.proofs.Common.{◌≡◌, List, [], ◌∷◌, Option, Some, None, ◌⊎◌, inl, inr, Result, Ok, Err, OnOk, OnErr, option_map, option_and_then, refl, sym, ap, ◌∙◌, subst}
-use Rattle.std.specs.Prelude.{⊤}
-use Rattle.json.specs.Token.{Token}
-use Rattle.json.specs.Json.{Json, if_last}
-use Rattle.serde_json.specs.Data.{Data}
-use Rattle.serde_json.specs.Read.{of_json, converted}
+use Rattle.lsp_message.proofs.Prelude.{◌≡◌, List, [], ◌∷◌, Option, Some, None, ◌⊎◌, inl, inr, Result, Ok, Err, OnOk, OnErr, option_map, option_and_then, refl, sym, ap, ◌∙◌, subst, ⊤, Token, Json, if_last, Data, of_json, converted}
 
 pub on_err : {A E P : Type 0} (r : Result A E) → P → OnErr r P
 on_err (Ok a) h = tt

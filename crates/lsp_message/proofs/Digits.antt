@@ -1,13 +1,9 @@
 -- Digits alone are the whole number that they write.
-use Rattle.std.proofs.Common.{◌≡◌, ℕ, ◌+◌, ◌*◌, ◌^◌, ◌<◌, List, [], ◌∷◌, ◌++◌, take, length, get_or, false, Some, sym, ap, ◌∙◌, arith, append-nil, lt-ltb, ne_eqb}
+use Rattle.lsp_message.proofs.Prelude.{◌≡◌, ℕ, ◌+◌, ◌*◌, ◌^◌, ◌<◌, List, [], ◌∷◌, ◌++◌, take, length, get_or, false, Some, sym, ap, ◌∙◌, arith, append-nil, lt-ltb, ne_eqb, AllDigits, digits_value, Parts, scan, IsWellFormed, unsigned, common_steps}
 use Rattle.std.proofs.lemmas.Int.Digits.{digits_more, digits_value_more}
 use Rattle.std.specs.Char.{digit_value}
-use Rattle.std.specs.Str.Parse.{AllDigits, digits_value}
-use Rattle.fast_float.specs.Text.{Parts, scan, IsWellFormed}
 use Rattle.fast_float.proofs.Writing.{scan-text_of}
-use Rattle.serde_json.specs.Data.{unsigned}
 use Rattle.serde_json.specs.Read.{number_of}
-use Rattle.std.proofs.lemmas.Grind.{common_steps}
 
 -- the digits as a numeral's whole part
 abbrev only_whole : List ℕ → Parts

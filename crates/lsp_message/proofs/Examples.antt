@@ -1,5 +1,5 @@
 -- Bodies, computed on the definitions.
-use Rattle.std.proofs.Common.{refl}
+use Rattle.lsp_message.proofs.Prelude.{refl}
 use Rattle.std.proofs.Math.Utf8.{encode}
 use Rattle.std.specs.Str.{is_utf8, chars}
 use Rattle.std.specs.Float.Numeral.{scan_numeral}

@@ -1,15 +1,7 @@
 -- `value_at`, `items_at` and `members_at`, a token or a turn at a time.
-use Rattle.std.proofs.Common.{◌≡◌, ℕ, zero, suc, ◌-◌, ◌<◌, ◌≤◌, List, [], ◌∷◌, length, inl, inr, Bool, Option, Some, None, option_map, option_and_then, refl, sym, ap, ◌∙◌, arith}
-use Rattle.json.specs.Token.{Token}
-use Rattle.json.specs.Json as json
-use Rattle.json.specs.Json.{Json, parse_map, after_end_array, read_key, value}
-use Rattle.json.proofs.Grammar.{value_is, value-begin_array, value-begin_object, items_more, items_fail, items_end, members_more, members_fail, members_no_key, members_end}
-use Rattle.serde_json.specs.Data.{Num, Data, null, boolean, number, string, array, object, Items, no_items, item, Members, no_members, put}
-use Rattle.serde_json.specs.Read.{number_of, of_json, of_items, of_members, converted}
-use Rattle.lsp_message.specs.inside.Reading.{value_at, items_at, members_at}
-use Rattle.lsp_message.specs.inside.Scalars.{kept_number}
+use Rattle.lsp_message.proofs.Prelude.{◌≡◌, ℕ, zero, suc, ◌-◌, ◌<◌, ◌≤◌, List, [], ◌∷◌, length, inl, inr, Bool, Option, Some, None, option_map, option_and_then, refl, sym, ap, ◌∙◌, arith, Token, Json, parse_map, after_end_array, read_key, value, value_is, value-begin_array, value-begin_object, items_more, items_fail, items_end, members_more, members_fail, members_no_key, members_end, Num, Data, null, boolean, number, string, array, object, Items, no_items, item, Members, no_members, put, number_of, of_json, of_items, of_members, converted, value_at, items_at, members_at, kept_number, common_steps}
 use Rattle.lsp_message.proofs.Converted.{Failure, source, failure, no_some, some_value}
-use Rattle.std.proofs.lemmas.Grind.{common_steps}
+use Rattle.json.specs.Json as json
 
 -- ---- no turn is left
 
@@ -39,8 +31,7 @@ value_at-string depth s ts = ap (converted of_json) (value_is depth (Token.strin
 
 pub number_read : (depth : ℕ) (s : List ℕ) (ts : List Token) (o : Option Num) → number_of s ≡ o
     → value_at depth (Token.number s ∷ ts) ≡ option_map (λ d. (d, ts)) (option_map number o)
-number_read depth s ts o is =
-    grind (arith, common_steps, value_is)
+number_read depth s ts o is = grind (arith, common_steps, value_is)
 
 number_at : (depth : ℕ) (s : List ℕ) (ts : List Token) (f : Data) (o : Option Num) → number_of s ≡ o
     → Some f ≡ option_map kept_number o
@@ -80,20 +71,17 @@ mapped_twice d ts None = refl
 mapped_twice d ts (Some b) = refl
 
 converted_inside : {A B : Type 0} (j : A → Json) (d : B → Data) (f : A → Option B) (r : Option (A × List Token))
-    → ((a : A) → of_json (j a) ≡ option_map d (f a))
-    → converted of_json (parse_map j r) ≡ parse_map d (converted f r)
+    → ((a : A) → of_json (j a) ≡ option_map d (f a)) → converted of_json (parse_map j r) ≡ parse_map d (converted f r)
 converted_inside j d f None is = refl
 converted_inside j d f (Some p) is = ap (option_map (λ x. (x, p.1))) (is p.0) ∙ mapped_twice d p.1 (f p.0)
 
 pub value_at-array : (depth : ℕ) (ts : List Token) → 0 < depth → value_at depth (Token.begin_array ∷ ts)
     ≡ parse_map array (items_at (depth - 1) (length ts) ts)
-value_at-array depth ts h =
-    grind (arith, common_steps, value-begin_array, converted_inside)
+value_at-array depth ts h = grind (arith, common_steps, value-begin_array, converted_inside)
 
 pub value_at-object : (depth : ℕ) (ts : List Token) → 0 < depth → value_at depth (Token.begin_object ∷ ts)
     ≡ parse_map object (members_at (depth - 1) (length ts) no_members ts)
-value_at-object depth ts h =
-    grind (arith, common_steps, value-begin_object, converted_inside)
+value_at-object depth ts h = grind (arith, common_steps, value-begin_object, converted_inside)
 
 -- ---- a turn of an array
 
@@ -106,8 +94,7 @@ item_at d ts (Some js) = refl
 item_converted : (j : Json) (d : Data) (r : Option (json.Items × List Token)) → of_json j ≡ Some d
     → converted of_items (parse_map (json.item j) r) ≡ parse_map (item d) (converted of_items r)
 item_converted j d None is = refl
-item_converted j d (Some p) is =
-    grind (arith, common_steps, option_and_then, item_at)
+item_converted j d (Some p) is = grind (arith, common_steps, option_and_then, item_at)
 
 item_refused : (j : Json) (r : Option (json.Items × List Token)) → of_json j ≡ None
     → converted of_items (parse_map (json.item j) r) ≡ None
@@ -116,8 +103,7 @@ item_refused j (Some p) is =
     ap (λ o. option_map (λ x. (x, p.1)) (option_and_then (λ e. option_map (item e) (of_items p.0)) o)) is
 
 pub items_at-more : (depth n : ℕ) (ts rest : List Token) (d : Data) → 0 < n → after_end_array ts ≡ None
-    → value_at depth ts ≡ Some (d, rest)
-    → items_at depth n ts ≡ parse_map (item d) (items_at depth (n - 1) rest)
+    → value_at depth ts ≡ Some (d, rest) → items_at depth n ts ≡ parse_map (item d) (items_at depth (n - 1) rest)
 items_at-more depth n ts rest d some going read =
     let s = source of_json (value depth ts) d rest read in
     ap (converted of_items) (items_more (value depth) n ts rest s.0 some going s.1)
@@ -146,8 +132,7 @@ abbrev into : Members → json.Members → Option Members
 into found ms = of_members ms found
 
 member_converted : (k : List ℕ) (j : Json) (d : Data) (found : Members) (r : Option (json.Members × List Token))
-    → of_json j ≡ Some d
-    → converted (into found) (parse_map (json.member k j) r) ≡ converted (into (put k d found)) r
+    → of_json j ≡ Some d → converted (into found) (parse_map (json.member k j) r) ≡ converted (into (put k d found)) r
 member_converted k j d found None is = refl
 member_converted k j d found (Some p) is =
     ap (λ o. option_map (λ x. (x, p.1)) (option_and_then (λ e. of_members p.0 (put k e found)) o)) is

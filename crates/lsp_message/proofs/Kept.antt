@@ -1,10 +1,5 @@
 -- What is kept of a value is enough for what the protocol wants of it.
-use Rattle.std.proofs.Common.{◌≡◌, Some, refl}
-use Rattle.std.specs.Prelude.{Bool, false, Float}
-use Rattle.serde_json.specs.Data.{Data, null, boolean, number, string, array, object, Items, Members, unsigned, negative, float}
-use Rattle.lsp_message.specs.Message.{is_version_two}
-use Rattle.lsp_message.specs.Values.{is_null, text_in}
-use Rattle.lsp_message.specs.inside.Scalars.{kept}
+use Rattle.lsp_message.proofs.Prelude.{◌≡◌, Some, refl, Bool, false, Float, Data, null, boolean, number, string, array, object, Items, Members, unsigned, negative, float, is_version_two, is_null, text_in, kept}
 
 -- a function that is alike for all values of no interest
 kept_same : {A : Type 0} (f : Data → A) → ((x : Float) → f (boolean false) ≡ f (number (float x)))

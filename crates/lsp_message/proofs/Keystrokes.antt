@@ -1,19 +1,7 @@
 -- What the lexemes of a message with one change of a range are read as.
-use Rattle.std.proofs.Common.{◌≡◌, ℕ, ℤ, suc, List, [], ◌∷◌, Option, Some, None, option_and_then, refl, sym, ap, ◌∙◌, codes}
-use Rattle.std.specs.Prelude.{Bool, true, false, ⊤}
-use Rattle.json.specs.Token.{end_object}
+use Rattle.lsp_message.proofs.Prelude.{◌≡◌, ℕ, ℤ, suc, List, [], ◌∷◌, Option, Some, None, option_and_then, refl, sym, ap, ◌∙◌, codes, Bool, true, false, ⊤, end_object, Num, Data, number, string, array, object, Members, no_members, put, no_items, item, unsigned, of_json, number_of, read, Position, Range, message_of, coordinate_in, version_in, position_in, range_in, content_change_in, member_at, natural_in, incoming_of, did_change, lengths_of, RangeDigits, AreLengthDigits, params_lexemes, head_lexemes, one_change, IsKeystroke}
 use Rattle.json.specs.Lex.{Lexeme, token, fresh, punctuate}
 use Rattle.json.specs.Json.{if_last, value, items, members}
-use Rattle.serde_json.specs.Data.{Num, Data, number, string, array, object, Members, no_members, put, no_items, item, unsigned}
-use Rattle.serde_json.specs.Read.{of_json, number_of, read}
-use Rattle.lsp_text.specs.declared.position.Position.{Position}
-use Rattle.lsp_text.specs.declared.position.Range.{Range}
-use Rattle.lsp_message.specs.Message.{message_of}
-use Rattle.lsp_message.specs.Params.{coordinate_in, version_in, position_in, range_in, content_change_in}
-use Rattle.lsp_message.specs.Values.{member_at, natural_in}
-use Rattle.lsp_message.specs.Incoming.{incoming_of, did_change}
-use Rattle.lsp_message.specs.Lengths.{lengths_of}
-use Rattle.lsp_message.specs.inside.Lexemes.{RangeDigits, AreLengthDigits, params_lexemes, head_lexemes, one_change, IsKeystroke}
 
 -- ---- the value
 
@@ -33,8 +21,7 @@ edit_data length range text =
     object (put (codes "text") (string text) (with_length length (put (codes "range") range no_members)))
 
 abbrev document_data : List ℕ → Num → Data
-document_data uri version =
-    object (put (codes "version") (number version) (put (codes "uri") (string uri) no_members))
+document_data uri version = object (put (codes "version") (number version) (put (codes "uri") (string uri) no_members))
 
 abbrev params_data : Data → Data → Data
 params_data document edit =
@@ -74,8 +61,7 @@ module _ (uri version text : List ℕ) (range : RangeDigits) (v l c m e : Num) (
   reads true None None is depth = rw (version_is, line_is, character_is, end_line_is, end_character_is) refl
   reads false (Some s) (Some n) is depth =
       rw (version_is, line_is, character_is, end_line_is, end_character_is, is) refl
-  reads true (Some s) (Some n) is depth =
-      rw (version_is, line_is, character_is, end_line_is, end_character_is, is) refl
+  reads true (Some s) (Some n) is depth = rw (version_is, line_is, character_is, end_line_is, end_character_is, is) refl
   reads by_name None (Some n) is depth = absurd is
   reads by_name (Some s) None is depth = absurd is
 

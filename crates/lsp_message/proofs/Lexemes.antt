@@ -1,18 +1,11 @@
 -- The lexemes of the parts of a message with one change of a range.
-use Rattle.std.proofs.Common.{◌≡◌, ℕ, List, [], ◌∷◌, ◌++◌, take, drop, length, get_or, true, false, Option, Some, ◌≤◌, ◌<◌, refl, sym, ap, ap₂, ◌∙◌, arith, codes, ◌==◌, ◌⊎◌, inl, inr, get_or-take, length-take-le, take-append-drop, drop-cons, suc}
-use Rattle.std.proofs.lemmas.Bool.{or_cases, eqb-true}
-use Rattle.std.specs.Prelude.{◌||◌, Bool, not}
+use Rattle.lsp_message.proofs.Prelude.{◌≡◌, ℕ, List, [], ◌∷◌, ◌++◌, take, drop, length, get_or, true, false, Option, Some, ◌≤◌, ◌<◌, refl, sym, ap, ap₂, ◌∙◌, arith, codes, ◌==◌, ◌⊎◌, inl, inr, get_or-take, length-take-le, take-append-drop, drop-cons, suc, or_cases, eqb-true, ◌||◌, Bool, not, ends_word, is_stop, IsNumber, escape, name_lexemes, number_lexemes, RangeDigits, range_lexemes, length_lexemes, document_lexemes, changes_lexemes, head_lexemes, common_steps}
 use Rattle.json.specs.Token.{begin_object, end_object, string, number}
 use Rattle.json.specs.Text.{content}
-use Rattle.json.specs.Word.{ends_word}
 use Rattle.json.specs.Lex.{Lexeme, token, comma, lex, between}
-use Rattle.json.specs.Run.{is_stop}
-use Rattle.json.specs.Print.{IsNumber, escape}
 use Rattle.json.proofs.Printed.Strings.{content-escape, lex-escape}
 use Rattle.json.proofs.Printed.Numbers.{lex-number}
 use Rattle.json.proofs.Printed.Plain.{escape_on_plain}
-use Rattle.lsp_message.specs.inside.Lexemes.{name_lexemes, number_lexemes, RangeDigits, range_lexemes, length_lexemes, document_lexemes, changes_lexemes, head_lexemes}
-use Rattle.std.proofs.lemmas.Grind.{common_steps}
 
 -- ---- what may be missing
 
@@ -50,8 +43,7 @@ blank_read text i within blank =
 
 pub split_is : (text beginning rest : List ℕ) (at : ℕ) → beginning ≡ take at text → rest ≡ drop at text
     → text ≡ beginning ++ rest
-split_is text beginning rest at front back =
-    sym (take-append-drop at text) ∙ ap₂ (λ a b. a ++ b) (sym front) (sym back)
+split_is text beginning rest at front back = sym (take-append-drop at text) ∙ ap₂ (λ a b. a ++ b) (sym front) (sym back)
 
 ended_by : (byte mark : ℕ) (rest : List ℕ) → (byte == mark) ≡ true → ends_word (mark ∷ rest) ≡ true
     → ends_word (byte ∷ rest) ≡ true
@@ -111,15 +103,13 @@ pub two_read : (t a b c d e f g p q n m : List ℕ) (x y : List Lexeme → List 
     → lex between t ≡ token begin_object ∷ name_lexemes n (x (comma ∷ name_lexemes m
     (y (token end_object ∷ lex between g))))
 unfolding lex
-two_read t a b c d e f g p q n m x y is_p is_q t1 t2 t3 t4 t5 t6 t7 =
-    grind (arith, common_steps)
+two_read t a b c d e f g p q n m x y is_p is_q t1 t2 t3 t4 t5 t6 t7 = grind (arith, common_steps)
 
 pub length_read : (t a b c digits : List ℕ) → Takes t (codes "\"rangeLength\":") a
     → lex between a ≡ number_lexemes digits (lex between b) → Takes b (codes ",") c
     → lex between t ≡ length_lexemes (Some digits) (lex between c)
 unfolding lex content
-length_read t a b c digits t1 t2 t3 =
-    t1 ∙ ap (name_lexemes (codes "rangeLength")) (t2 ∙ ap (number_lexemes digits) t3)
+length_read t a b c digits t1 t2 t3 = t1 ∙ ap (name_lexemes (codes "rangeLength")) (t2 ∙ ap (number_lexemes digits) t3)
 
 pub document_read : (t a b c d e f g h uri version : List ℕ) → Takes t (codes "\"textDocument\":") a
     → Takes a (codes "{") b → Takes b (codes "\"uri\":") c → lex between c ≡ token (string uri) ∷ lex between d
@@ -127,8 +117,7 @@ pub document_read : (t a b c d e f g h uri version : List ℕ) → Takes t (code
     → lex between f ≡ number_lexemes version (lex between g) → Takes g (codes "}") h
     → lex between t ≡ document_lexemes uri version (lex between h)
 unfolding lex content
-document_read t a b c d e f g h uri version t1 t2 t3 t4 t5 t6 t7 t8 =
-    grind (arith, common_steps, codes)
+document_read t a b c d e f g h uri version t1 t2 t3 t4 t5 t6 t7 t8 = grind (arith, common_steps, codes)
 
 pub changes_read : (by_name : Bool) (t a b c d e f g h i j k text : List ℕ) (range : RangeDigits)
     (length : Option (List ℕ)) → Takes t (codes "\"contentChanges\":") a → Takes a (codes "[") b
@@ -144,8 +133,7 @@ changes_read by_name t a b c d e f g h i j k text range length t1 t2 t3 t4 t5 t6
 -- the two members of params, by what each is
 pub params_read : (t a b c d e : List ℕ) (x y : List Lexeme → List Lexeme) → Takes t (codes "{") a
     → lex between a ≡ x (lex between b) → Takes b (codes ",") c → lex between c ≡ y (lex between d)
-    → Takes d (codes "}") e
-    → lex between t ≡ token begin_object ∷ x (comma ∷ y (token end_object ∷ lex between e))
+    → Takes d (codes "}") e → lex between t ≡ token begin_object ∷ x (comma ∷ y (token end_object ∷ lex between e))
 unfolding lex
 params_read t a b c d e x y t1 t2 t3 t4 t5 =
     t1 ∙ ap (λ ls. token begin_object ∷ ls) (t2 ∙ ap x (t3 ∙ ap (λ ls. comma ∷ ls) (t4 ∙ ap y t5)))
@@ -155,8 +143,7 @@ pub head_read : (t a b c d e f g h : List ℕ) → Takes t (codes "{") a → Tak
     → Takes e (codes "\"textDocument/didChange\"") f → Takes f (codes ",") g → Takes g (codes "\"params\":") h
     → lex between t ≡ head_lexemes (lex between h)
 unfolding lex content
-head_read t a b c d e f g h t1 t2 t3 t4 t5 t6 t7 t8 =
-    grind (arith, common_steps, codes)
+head_read t a b c d e f g h t1 t2 t3 t4 t5 t6 t7 t8 = grind (arith, common_steps, codes)
 
 pub end_read : (t a : List ℕ) → Takes t (codes "}") a → lex between a ≡ [] → lex between t ≡ token end_object ∷ []
 unfolding lex

@@ -9,6 +9,7 @@
 -- a kept member is then, `Kept` why a scalar is enough, and `Messages` what the message is by its members. A
 -- keystroke is read by its bytes: `Lexemes` has the tokens of its two layouts, and `keystroke_read` of `Keystrokes`
 -- what these mean. `Growing` is for the list of changes, `Digits` for numbers, `Converted` for results.
+mod Prelude
 pub mod Readings
 pub mod Sound
 pub mod Bodies

@@ -1,12 +1,5 @@
 -- Which values are changes, by a look at them, and that some are there where memory is taken for them.
-use Rattle.std.proofs.Common.{◌≡◌, ◌<◌, ℕ, true, ◌&&◌, List, [], ◌∷◌, length, Option, None, Some, option_and_then, refl, arith}
-use Rattle.std.specs.Prelude.{ℤ, is_some, IsSomeAnd}
-use Rattle.std.specs.List.{list_all}
-use Rattle.serde_json.specs.View.{view, items_view}
-use Rattle.serde_json.specs.declared.value.Value.{Value}
-use Rattle.lsp_message.specs.Params.{ContentChangeData, ChangeData, HasChanges, content_change_in}
-use Rattle.lsp_message.specs.inside.Params.{content_changes_in}
-use Rattle.std.proofs.lemmas.Grind.{common_steps}
+use Rattle.lsp_message.proofs.Prelude.{◌≡◌, ◌<◌, ℕ, true, ◌&&◌, List, [], ◌∷◌, length, Option, None, Some, option_and_then, refl, arith, ℤ, is_some, IsSomeAnd, list_all, view, items_view, Value, ContentChangeData, ChangeData, HasChanges, content_change_in, content_changes_in, common_steps}
 
 one_more : (edit : Option ContentChangeData) (edits : Option (List ContentChangeData)) →
     is_some (option_and_then (λ e. option_and_then (λ es. Some (e ∷ es)) edits) edit) ≡ (is_some edit && is_some edits)
@@ -17,8 +10,7 @@ one_more (Some e) (Some es) = refl
 pub edits_there : (values : List Value) → list_all (λ v. is_some (content_change_in (view v))) values
     ≡ is_some (content_changes_in (items_view values))
 edits_there [] = refl
-edits_there (value ∷ values) =
-    grind (arith, common_steps, (edits_there values))
+edits_there (value ∷ values) = grind (arith, common_steps, (edits_there values))
 
 some_more : (edit : Option ContentChangeData) (edits : Option (List ContentChangeData)) →
     is_some (option_and_then (λ e. option_and_then (λ es. Some (e ∷ es)) edits) edit) ≡ true →
@@ -34,9 +26,7 @@ has_edits (value ∷ values) some there = some_more (content_change_in (view val
     (items_view values)) there
 
 pub has_changes : (uri : Option (List ℕ)) (version : Option ℤ) (edits : Option (List ContentChangeData))
-    → is_some uri ≡ true
-    → is_some version ≡ true → IsSomeAnd edits (λ es. 0 < length es) →
-    IsSomeAnd (option_and_then
+    → is_some uri ≡ true → is_some version ≡ true → IsSomeAnd edits (λ es. 0 < length es) → IsSomeAnd (option_and_then
     (λ u. option_and_then
     (λ v. option_and_then (λ es. Some (let c : ChangeData = record { uri = u; version = v; changes = es } in c)) edits)
     version) uri) HasChanges

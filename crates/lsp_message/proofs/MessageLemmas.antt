@@ -1,15 +1,6 @@
 -- The rows of the table of messages, over the six members that make an object a message.
-use Rattle.std.proofs.Common.{◌≡◌, ℕ, Bool, true, false, not, List, Option, Some, None, option_map, codes, refl, ap, ◌∙◌}
-use Rattle.std.specs.Prelude.{ℤ, if◌then◌else◌}
-use Rattle.std.specs.Option.{option_map_or}
+use Rattle.lsp_message.proofs.Prelude.{◌≡◌, ℕ, Bool, true, false, not, List, Option, Some, None, option_map, codes, refl, ap, ◌∙◌, ℤ, if◌then◌else◌, option_map_or, bytes_eq-Decides, Data, null, boolean, number, string, array, object, Members, as_str, as_i64, text_in, is_null, is_missing, IdData, whole, text, given, failed, request, response, not_a_message, message, id_in, id_found, is_version_two, message_of, call_of, outcome_of, answer_of, reading_with, reading_by, NamesRequest, RefusedRows, MessageRows, IsIdOf, IdLaw, IsTwo, version_of, method_of, id_of, params_of, error_of, result_of}
 use Rattle.std.specs.Str.{bytes_eq}
-use Rattle.std.proofs.lemmas.Slice.Eq.{bytes_eq-Decides}
-use Rattle.serde_json.specs.Data.{Data, null, boolean, number, string, array, object, Members}
-use Rattle.serde_json.specs.Find.{as_str, as_i64}
-use Rattle.lsp_message.specs.Values.{text_in, is_null, is_missing}
-use Rattle.lsp_message.specs.Message.{IdData, whole, text, given, failed, request, response, not_a_message, message, id_in, id_found, is_version_two, message_of}
-use Rattle.lsp_message.specs.inside.Message.{call_of, outcome_of, answer_of, reading_with, reading_by}
-use Rattle.lsp_message.specs.laws.Messages.{NamesRequest, RefusedRows, MessageRows, IsIdOf, IdLaw, IsTwo, version_of, method_of, id_of, params_of, error_of, result_of}
 use Rattle.lsp_message.proofs.MemberLemmas.{message_of_object, message_of_other}
 
 -- ---- the version

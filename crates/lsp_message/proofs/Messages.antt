@@ -1,14 +1,5 @@
 -- A message by its parts.
-use Rattle.std.proofs.Common.{◌≡◌, ℕ, List, [], true, Option, Some, None, Result, Ok, Err, IfOk, IfSome, option_map, refl, sym, ap, ◌∙◌}
-use Rattle.std.specs.Option.{option_map_or}
-use Rattle.json.specs.Lex.{tokens}
-use Rattle.json.specs.Json.{value}
-use Rattle.serde_json.specs.Data.{Data}
-use Rattle.serde_json.specs.Find.{as_str}
-use Rattle.serde_json.specs.Read.{read}
-use Rattle.lsp_message.specs.Message.{Reading, is_version_two, not_a_message, id_found}
-use Rattle.lsp_message.specs.inside.Message.{call_of, answer_of, reading_with, reading_by}
-use Rattle.lsp_message.specs.inside.Reading.{value_at}
+use Rattle.lsp_message.proofs.Prelude.{◌≡◌, ℕ, List, [], true, Option, Some, None, Result, Ok, Err, IfOk, IfSome, option_map, refl, sym, ap, ◌∙◌, option_map_or, tokens, value, Data, as_str, read, Reading, is_version_two, not_a_message, id_found, call_of, answer_of, reading_with, reading_by, value_at}
 use Rattle.lsp_message.proofs.Converted.{whole_read}
 
 pub if_some_weaker : {A : Type 0} (o : Option A) (P Q : A → Type 0) → ((a : A) → P a → Q a) → IfSome o P → IfSome o Q

@@ -1,42 +1,28 @@
 -- A value by its first token.
-use Rattle.std.proofs.Common.{◌≡◌, ℕ, zero, suc, ◌-◌, List, ◌∷◌, length, Bool, true, false, Option, Some, None, refl, sym, ap, ◌∙◌, arith}
-use Rattle.json.specs.Token.{Token}
-use Rattle.json.specs.Json.{parse_map}
-use Rattle.json.specs.Reads.{token_of}
+use Rattle.lsp_message.proofs.Prelude.{◌≡◌, ℕ, zero, suc, ◌-◌, List, ◌∷◌, length, Bool, true, false, Option, Some, None, refl, sym, ap, ◌∙◌, arith, Token, parse_map, token_of, left_some, left-parse_map, value_is, Num, Data, boolean, number, array, object, Items, Members, as_array, as_object, of_json, converted, number_of, is_null, value_at, items_at, rest_of, kept, common_steps}
 use Rattle.json.specs.declared.token.Token.{Token as Read}
-use Rattle.json.specs.declared.token.Token.TheVariants as read
-use Rattle.json.proofs.Grammar.{left_some, left-parse_map, value_is}
-use Rattle.serde_json.specs.Data.{Num, Data, boolean, number, array, object, Items, Members}
-use Rattle.serde_json.specs.Find.{as_array, as_object}
-use Rattle.serde_json.specs.Read.{of_json, converted, number_of}
-use Rattle.lsp_message.specs.Values.{is_null}
-use Rattle.lsp_message.specs.inside.Reading.{value_at, items_at, rest_of}
 use Rattle.lsp_message.specs.inside.Objects.{IsArrayOpening}
-use Rattle.lsp_message.specs.inside.Scalars.{kept}
 use Rattle.lsp_message.proofs.Converted.{no_some, some_value}
 use Rattle.lsp_message.proofs.Grammar.{value_at-null, value_at-boolean, value_at-string, number_read, value_at-shallow_array, value_at-shallow_object, value_at-array, value_at-object}
-use Rattle.std.proofs.lemmas.Grind.{common_steps}
+use Rattle.json.specs.declared.token.Token.TheVariants as read
 
 -- ---- the value of a token that opens
 
 pub array_read : (depth : ℕ) (ts rest : List Token) → rest_of (value_at depth (Token.begin_array ∷ ts)) ≡ Some rest
     → (ds : Items) × (value_at depth (Token.begin_array ∷ ts) ≡ Some (array ds, rest))
 array_read zero ts rest e = no_some rest (sym (ap rest_of (value_at-shallow_array 0 ts refl)) ∙ e)
-array_read (suc d) ts rest e =
-    grind (arith, common_steps, value_at-array, left_some, left-parse_map)
+array_read (suc d) ts rest e = grind (arith, common_steps, value_at-array, left_some, left-parse_map)
 
 pub object_read : (depth : ℕ) (ts rest : List Token) → rest_of (value_at depth (Token.begin_object ∷ ts)) ≡ Some rest
     → (ms : Members) × (value_at depth (Token.begin_object ∷ ts) ≡ Some (object ms, rest))
 object_read zero ts rest e = no_some rest (sym (ap rest_of (value_at-shallow_object 0 ts refl)) ∙ e)
-object_read (suc d) ts rest e =
-    grind (arith, common_steps, value_at-object, left_some, left-parse_map)
+object_read (suc d) ts rest e = grind (arith, common_steps, value_at-object, left_some, left-parse_map)
 
 -- ---- the value of any other token
 
 -- a token that is a whole value
 one_token : (depth : ℕ) (t : Token) (ts rest : List Token) (d : Data) → value_at depth (t ∷ ts) ≡ Some (d, ts)
-    → rest_of (value_at depth (t ∷ ts)) ≡ Some rest
-    → value_at depth (t ∷ ts) ≡ Some (d, rest)
+    → rest_of (value_at depth (t ∷ ts)) ≡ Some rest → value_at depth (t ∷ ts) ≡ Some (d, rest)
 one_token depth t ts rest d is e = is ∙ ap (λ r. Some (d, r)) (some_value ts rest (sym (ap rest_of is) ∙ e))
 
 number_token : (depth : ℕ) (s : List ℕ) (ts rest : List Token) (o : Option Num) → number_of s ≡ o

@@ -1,10 +1,5 @@
 -- A member that was put in, and the others.
-use Rattle.std.proofs.Common.{◌≡◌, ℕ, List, Bool, true, false, Some, bytes_eq, true≢false, refl, sym, ap, ◌∙◌}
-use Rattle.std.specs.Prelude.{if◌then◌else◌}
-use Rattle.std.proofs.lemmas.Slice.Eq.{bytes_eq-Decides}
-use Rattle.serde_json.specs.Data.{Data, Members, put}
-use Rattle.serde_json.specs.Find.{get_member}
-use Rattle.serde_json.proofs.Views.{get_member-put, get_member-put_other}
+use Rattle.lsp_message.proofs.Prelude.{◌≡◌, ℕ, List, Bool, true, false, Some, bytes_eq, true≢false, refl, sym, ap, ◌∙◌, if◌then◌else◌, bytes_eq-Decides, Data, Members, put, get_member, get_member-put, get_member-put_other}
 
 -- two texts that differ
 pub differs : (k name : List ℕ) → (k ≡ name → ⊥) → bytes_eq k name ≡ false
@@ -20,5 +15,4 @@ get_put k name d ms = by_case (bytes_eq k name) refl where
   by_case : (same : Bool) → bytes_eq k name ≡ same
       → get_member name (put k d ms) ≡ (if same then Some d else get_member name ms)
   by_case true is = ap (λ n. get_member n (put k d ms)) (sym ((bytes_eq-Decides k name).0 is)) ∙ get_member-put k d ms
-  by_case false is =
-      get_member-put_other name k d ms (λ e. true≢false (sym ((bytes_eq-Decides k name).1 (sym e)) ∙ is))
+  by_case false is = get_member-put_other name k d ms (λ e. true≢false (sym ((bytes_eq-Decides k name).1 (sym e)) ∙ is))

@@ -1,35 +1,13 @@
 -- What is written is read as the same message, and no two messages have one text.
-use Rattle.std.proofs.Common.{◌≡◌, ℕ, ◌^◌, ◌<◌, suc, pos, negsuc, List, [], ◌∷◌, map, Bool, true, false, Option, Some, None, option_map, option_and_then, FitsSigned, IfSome, All, bytes_eq, codes, refl, sym, ap, ◌∙◌, arith, lt-ltb}
+use Rattle.lsp_message.proofs.Prelude.{◌≡◌, ℕ, ◌^◌, ◌<◌, suc, pos, negsuc, List, [], ◌∷◌, map, Bool, true, false, Option, Some, None, option_map, option_and_then, FitsSigned, IfSome, All, bytes_eq, codes, refl, sym, ap, ◌∙◌, arith, lt-ltb, ℤ, if◌then◌else◌, Data, number, get, of_integer, as_i64, read, items_of, Encoding, Utf8, Utf16, Utf32, Position, Range, Offers, SyncKind, Off, Full, Incremental, ErrorCode, ParseError, InvalidRequest, MethodNotFound, InvalidParams, ServerNotInitialized, text_in, is_null, offers_of, announced_of, IdData, whole, text, message_of, message, reading, id_in, id_found, DocumentItem, ContentChangeData, ChangeData, open_of, change_of, close_of, version_from, version_in, position_in, range_in, content_change_in, content_changes_in, OutgoingData, sent, IsReadBack, IsProper, IsProperId, IsProperDocument, IsProperChange, IsProperEdit, IsProperRange, IsProperPosition, common_steps}
 use Rattle.std.specs.Int.{w32, w64}
-use Rattle.std.specs.Prelude.{ℤ, if◌then◌else◌}
 use Rattle.std.proofs.lemmas.Bool.Decides.{nat_tests}
 use Rattle.std.proofs.lemmas.Option.{same_Some}
-use Rattle.serde_json.specs.Data.{Data, number}
-use Rattle.serde_json.specs.Find.{get, of_integer, as_i64}
-use Rattle.serde_json.specs.Read.{read}
-use Rattle.serde_json.specs.View.{items_of}
-use Rattle.lsp_text.specs.declared.encoding.Encoding.{Encoding}
-use Rattle.lsp_text.specs.declared.encoding.Encoding.TheVariants.{Utf8, Utf16, Utf32}
-use Rattle.lsp_text.specs.declared.position.Position.{Position}
-use Rattle.lsp_text.specs.declared.position.Range.{Range}
 use Rattle.lsp_message.specs.declared.agreement.Announced.{Announced}
-use Rattle.lsp_message.specs.declared.agreement.Offers.{Offers}
-use Rattle.lsp_message.specs.declared.agreement.SyncKind.{SyncKind}
-use Rattle.lsp_message.specs.declared.agreement.SyncKind.TheVariants.{Off, Full, Incremental}
-use Rattle.lsp_message.specs.declared.outgoing.ErrorCode.{ErrorCode}
-use Rattle.lsp_message.specs.declared.outgoing.ErrorCode.TheVariants.{ParseError, InvalidRequest, MethodNotFound, InvalidParams, ServerNotInitialized}
-use Rattle.lsp_message.specs.Values.{text_in, is_null}
-use Rattle.lsp_message.specs.Agreement.{offers_of, announced_of}
-use Rattle.lsp_message.specs.Message.{IdData, whole, text, message_of, message, reading, id_in, id_found}
-use Rattle.lsp_message.specs.Params.{DocumentItem, ContentChangeData, ChangeData, open_of, change_of, close_of, version_from, version_in, position_in, range_in, content_change_in}
-use Rattle.lsp_message.specs.inside.Params.{content_changes_in}
-use Rattle.lsp_message.specs.Outgoing as spec
-use Rattle.lsp_message.specs.Written as values
-use Rattle.lsp_message.specs.Outgoing.{OutgoingData}
-use Rattle.lsp_message.specs.laws.Sent.{sent, IsReadBack, IsProper, IsProperId, IsProperDocument, IsProperChange, IsProperEdit, IsProperRange, IsProperPosition}
 use Rattle.lsp_message.proofs.Readings.{reading_of_value}
 use Rattle.lsp_message.proofs.Bodies.{read-body_of, utf8-body_of}
-use Rattle.std.proofs.lemmas.Grind.{common_steps}
+use Rattle.lsp_message.specs.Outgoing as spec
+use Rattle.lsp_message.specs.Written as values
 
 -- ---- numbers
 
@@ -42,8 +20,7 @@ version_from-fits (pos n) h = let small : n < 2 ^ 31 = h.sfits in grind (arith, 
 version_from-fits (negsuc n) h = let small : n < 2 ^ 31 = h.sfits in grind (arith, nat_tests)
 
 version_in-of_integer : (z : ℤ) → FitsSigned w32 z → version_in (Some (number (of_integer z))) ≡ Some z
-version_in-of_integer z h =
-    grind (arith, common_steps, option_and_then, as_i64-of_integer, version_from-fits)
+version_in-of_integer z h = grind (arith, common_steps, option_and_then, as_i64-of_integer, version_from-fits)
 
 -- ---- which message it is
 
@@ -79,8 +56,7 @@ reading-body_of m h = reading_of_value (spec.body_of m) (values.value_of m) (utf
 -- ---- its parameters
 
 position_in-position_value : (p : Position) → IsProperPosition p → position_in (Some (values.position_value p)) ≡ Some p
-position_in-position_value p h =
-    grind (arith, common_steps, lt-ltb)
+position_in-position_value p h = grind (arith, common_steps, lt-ltb)
 
 range_in-range_value : (r : Range) → IsProperRange r → range_in (Some (values.range_value r)) ≡ Some r
 range_in-range_value r h = rw (position_in-position_value r.start h.start, position_in-position_value r.stop h.stop)
@@ -214,8 +190,7 @@ written_as-value_of spec.exit h = refl
 written_as-value_of (spec.initialize_result id encoding kind) h =
     rw (id_in-id_value id h) (ap (option_and_then (announced id)) (announced_of-initialize_value encoding kind))
 written_as-value_of (spec.shutdown_result id) h = rw (id_in-id_value id h) refl
-written_as-value_of (spec.error_reply id error) h =
-    grind (arith, common_steps, id_found-id_or_null, error_named-text)
+written_as-value_of (spec.error_reply id error) h = grind (arith, common_steps, id_found-id_or_null, error_named-text)
 
 -- two messages with one text are one message
 pub body_of-unique : (m n : OutgoingData) → IsProper m → IsProper n → spec.body_of m ≡ spec.body_of n → m ≡ n

@@ -1,23 +1,14 @@
 -- A body against the value that its bytes are.
-use Rattle.std.proofs.Common.{◌≡◌, ◌≢◌, ℕ, [], ◌∷◌, slice_index, ◌<◌, Bool, true, false, List, length, Some, None, Result, Ok, Err, IfOk, IfErr, IsErrAnd, MatchResult, IsUtf8, refl, sym, subst, ◌∙◌, arith}
-use Rattle.std.specs.Str.{is_utf8}
-use Rattle.std.proofs.lemmas.Str.{IsUtf8-from_is_utf8, is_utf8-from_IsUtf8}
+use Rattle.lsp_message.proofs.Prelude.{◌≡◌, ◌≢◌, ℕ, [], ◌∷◌, slice_index, ◌<◌, Bool, true, false, List, length, Some, None, Result, Ok, Err, IfOk, IfErr, IsErrAnd, MatchResult, IsUtf8, refl, sym, subst, ◌∙◌, arith, is_utf8, IsUtf8-from_is_utf8, is_utf8-from_IsUtf8, Data, read, view, Value, MessageData, Reading, message_of, not_json, message, reading, message_view, IsReadFault, IsFaultOfError, common_steps}
 use Rattle.json.specs.Json.{value}
 use Rattle.json.specs.Lex.{punctuate, lex}
 use Rattle.json.specs.Word.{word, after_number}
-use Rattle.serde_json.specs.Data.{Data}
-use Rattle.serde_json.specs.Read.{read}
-use Rattle.serde_json.specs.View.{view}
-use Rattle.serde_json.specs.declared.value.Value.{Value}
 use Rattle.lsp_message.specs.declared.message.Message.{Message}
 use Rattle.lsp_message.specs.declared.message.ReadFault.{ReadFault}
 use Rattle.lsp_message.specs.declared.message.ReadFault.TheVariants.{NotJson, NotAMessage, NoMemory}
-use Rattle.lsp_message.specs.Message.{MessageData, Reading, message_of, not_json, message, reading}
 use Rattle.serde_json.specs.Errors.{IsMemory}
 use Rattle.serde_json.specs.declared.error.Error.{Error}
-use Rattle.lsp_message.specs.Seen.{message_view, IsReadFault, IsFaultOfError}
 use Rattle.lsp_message.specs.inside.Seen.{Answers}
-use Rattle.std.proofs.lemmas.Grind.{common_steps}
 
 -- a body whose bytes are a value is read as what that value is
 pub reading_of_value : (body : List ℕ) (d : Data) → IsUtf8 body → read body ≡ Some d → reading body ≡ message_of d
@@ -52,8 +43,7 @@ fault_by_error body error (NotAMessage id) utf8 is refused memory unmarked = abs
 fault_by_error body error NoMemory utf8 is refused memory unmarked = (memory is, unmarked, utf8)
 
 read_of : (body : List ℕ) (parsed : Result Value Error) (answer : Result Message ReadFault) → IsUtf8 body →
-    IfOk parsed (λ value. read body ≡ Some (view value)) →
-    IfErr parsed (λ error. ¬ IsMemory error → read body ≡ None)
+    IfOk parsed (λ value. read body ≡ Some (view value)) → IfErr parsed (λ error. ¬ IsMemory error → read body ≡ None)
     → IfErr parsed (λ error. IsMemory error → 0 < length body) →
     slice_index body 0 ≢ 239 → MatchResult parsed (λ value. Answers answer (message_of (view value)))
     (λ error. IsErrAnd answer (IsFaultOfError error)) →
@@ -66,20 +56,17 @@ read_of body (Err error) (Err fault) utf8 ok refused memory unmarked h =
 
 -- What is answered to a body by what `serde_json` makes of its text.
 pub read_by : (text body : List ℕ) (parsed : Result Value Error) (answer : Result Message ReadFault) → text ≡ body →
-    IsUtf8 body →
-    IfOk parsed (λ value. read text ≡ Some (view value)) →
+    IsUtf8 body → IfOk parsed (λ value. read text ≡ Some (view value)) →
     IfErr parsed (λ error. ¬ IsMemory error → read text ≡ None)
     → IfErr parsed (λ error. IsMemory error → 0 < length text) →
     slice_index body 0 ≢ 239 → MatchResult parsed (λ value. Answers answer (message_of (view value)))
     (λ error. IsErrAnd answer (IsFaultOfError error)) →
     IfOk answer (λ m. reading body ≡ message (message_view m)) × IfErr answer (IsReadFault body)
-read_by text body parsed answer same utf8 ok refused memory unmarked h =
-    grind (arith, common_steps, read_of)
+read_by text body parsed answer same utf8 ok refused memory unmarked h = grind (arith, common_steps, read_of)
 
 utf8_at : (body : List ℕ) (m : MessageData) (b : Bool) → is_utf8 body ≡ b → reading body ≡ message m → IsUtf8 body
 utf8_at body m true valid is = IsUtf8-from_is_utf8 body valid
-utf8_at body m false broken is =
-    grind (arith, common_steps, not_json_at, is_utf8-from_IsUtf8)
+utf8_at body m false broken is = grind (arith, common_steps, not_json_at, is_utf8-from_IsUtf8)
 
 -- A body that is a message is UTF-8.
 pub message_utf8 : (body : List ℕ) (m : MessageData) → reading body ≡ message m → IsUtf8 body

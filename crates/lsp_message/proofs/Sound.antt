@@ -1,25 +1,12 @@
 -- Values whose compact text is read back as themselves.
-use Rattle.std.proofs.Common.{◌≡◌, ℕ, ◌^◌, ◌<◌, ◌≤◌, max, suc, pos, negsuc, List, [], ◌∷◌, Bool, true, false, Some, option_map, option_and_then, FitsSigned, IsUtf8, refl, sym, ap, ap₂, ◌∙◌, arith, append-nil}
-use Rattle.std.specs.Int.{w64}
-use Rattle.std.specs.Prelude.{ℤ, ⊤}
+use Rattle.lsp_message.proofs.Prelude.{◌≡◌, ℕ, ◌^◌, ◌<◌, ◌≤◌, max, suc, pos, negsuc, List, [], ◌∷◌, Bool, true, false, Some, option_map, option_and_then, FitsSigned, IsUtf8, refl, sym, ap, ap₂, ◌∙◌, arith, append-nil, w64, ℤ, ⊤, IsUtf8-append, IsUtf8-nil, IsUtf8-from_ascii, tokens, quoted, json_tokens, HasNumbers, ItemsHaveNumbers, MembersHaveNumbers, are_ascii, IsUtf8-are_ascii, IsUtf8-quoted, IsUtf8-boolean, Data, null, boolean, number, unsigned, string, array, object, Items, no_items, item, Members, no_members, member, put, depth, items_depth, members_depth, of_integer, read, max_depth, of_json, of_items, of_members, compact_text, members_text, items_text, comma_if, outline, items_outline, members_outline, print-outline, common_steps}
 use Rattle.std.proofs.lemmas.Fmt.{IsAscii-decimal, IsAscii-signed}
-use Rattle.std.proofs.lemmas.Str.{IsUtf8-append, IsUtf8-nil, IsUtf8-from_ascii}
-use Rattle.json.specs.Json as json
-use Rattle.json.specs.Lex.{tokens}
-use Rattle.json.specs.Print.{quoted}
-use Rattle.json.specs.Tree as tree
-use Rattle.json.specs.Tree.{json_tokens, HasNumbers, ItemsHaveNumbers, MembersHaveNumbers}
 use Rattle.json.proofs.Printed.Decimals.{IsNumber-decimal, IsNumber-signed_decimal}
 use Rattle.json.proofs.Printed.Tokens.{tokens-print}
 use Rattle.json.proofs.Printed.Trees.{value-json_tokens, ArePrintable-json_tokens}
-use Rattle.json.proofs.Printed.Utf8.{are_ascii, IsUtf8-are_ascii, IsUtf8-quoted, IsUtf8-boolean}
-use Rattle.serde_json.specs.Data.{Data, null, boolean, number, unsigned, string, array, object, Items, no_items, item, Members, no_members, member, put, depth, items_depth, members_depth}
-use Rattle.serde_json.specs.Find.{of_integer}
-use Rattle.serde_json.specs.Read.{read, max_depth, of_json, of_items, of_members}
-use Rattle.serde_json.specs.Written.{compact_text, members_text, items_text, comma_if, outline, items_outline, members_outline}
 use Rattle.serde_json.proofs.Numbers.{number_of-decimal, number_of-negative}
-use Rattle.serde_json.proofs.Texts.{print-outline}
-use Rattle.std.proofs.lemmas.Grind.{common_steps}
+use Rattle.json.specs.Json as json
+use Rattle.json.specs.Tree as tree
 
 pub record Sound (d : Data) : Type 0 where
   pub reads : of_json (outline d) ≡ Some d

@@ -1,20 +1,7 @@
 -- Tokens that are written one after another.
-use Rattle.std.proofs.Common.{◌≡◌, ℤ, pos, negsuc, List, [], ◌∷◌, ◌++◌, map, Option, Some, None, refl, sym, ap, ◌∙◌, append_assoc}
-use Rattle.std.proofs.lemmas.Result.{on_ok_weaker}
-use Rattle.std.specs.Fmt.{signed_decimal}
-use Rattle.std.specs.List.{flat_map}
-use Rattle.std.specs.Prelude.{Result, Ok, OnOk}
-use Rattle.json.specs.Token as token
-use Rattle.json.specs.Token.{Token}
-use Rattle.json.specs.Tree.{items_tokens, members_tokens}
+use Rattle.lsp_message.proofs.Prelude.{◌≡◌, ℤ, pos, negsuc, List, [], ◌∷◌, ◌++◌, map, Option, Some, None, refl, sym, ap, ◌∙◌, append_assoc, on_ok_weaker, signed_decimal, flat_map, Result, Ok, OnOk, Token, items_tokens, members_tokens, Data, Members, of_integer, items_of, number_text, items_outline, members_outline, Range, range_before, Appends, tokens_of, range_tokens}
 use Rattle.json.specs.Written.{Written, Writes}
-use Rattle.serde_json.specs.Data.{Data, Members}
-use Rattle.serde_json.specs.Find.{of_integer}
-use Rattle.serde_json.specs.View.{items_of}
-use Rattle.serde_json.specs.Written.{number_text, items_outline, members_outline}
-use Rattle.lsp_text.specs.declared.position.Range.{Range}
-use Rattle.lsp_message.specs.Written.{range_before}
-use Rattle.lsp_message.specs.inside.Tokens.{Appends, tokens_of, range_tokens}
+use Rattle.json.specs.Token as token
 
 -- some tokens, and then more
 pub add : {old mid new : Written} {xs ys : List Token} → Appends old mid xs → Appends mid new ys

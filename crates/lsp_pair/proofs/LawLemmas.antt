@@ -1,7 +1,5 @@
 -- The last event of a list, as its type has it.
-use Rattle.std.proofs.Common.{List, [], ◌∷◌, ◌++◌}
-use Rattle.lsp_pair.specs.Events.{EventData}
-use Rattle.lsp_pair.specs.laws.World.{IsProperEvent, AreProperEvents}
+use Rattle.lsp_pair.proofs.Prelude.{List, [], ◌∷◌, ◌++◌, EventData, IsProperEvent, AreProperEvents}
 
 pub last_proper : (events : List EventData) (event : EventData) → AreProperEvents (events ++ event ∷ [])
     → IsProperEvent event

@@ -4,6 +4,7 @@
 -- (`ArriveLemmas`, `ReturnLemmas`) and by the calls (`CallLemmas`). At the bottom is `Worlds/SaidLemmas`: a server
 -- accepts a command that was sent, also where its canonical batch or the whole text is sent instead.
 pub mod LawLemmas
+mod Prelude
 pub mod Worlds
 pub mod Steps
 pub mod Histories

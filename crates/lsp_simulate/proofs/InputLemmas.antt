@@ -1,14 +1,8 @@
 -- The lines of the input.
-use Rattle.std.proofs.Common.{◌≡◌, ◌<◌, ◌≤◌, ℕ, zero, suc, ◌+◌, ◌-◌, Bool, true, false, List, [], ◌∷◌, ◌++◌, length, get_or, take, drop, refl, sym, ap, ◌∙◌, arith, append_assoc}
-use Rattle.std.specs.Prelude.{Option, None, Some, IfSome}
+use Rattle.lsp_simulate.proofs.Prelude.{◌≡◌, ◌<◌, ◌≤◌, ℕ, zero, suc, ◌+◌, ◌-◌, Bool, true, false, List, [], ◌∷◌, ◌++◌, length, get_or, take, drop, refl, sym, ap, ◌∙◌, arith, append_assoc, Option, None, Some, IfSome, drop-drop, drop-take, length-take, take-append-drop, take_all, IsAtEnd, prepend_known, Spends, line_count, lines_from, Passed, is_begun}
+use Rattle.std.proofs.Common.{eqb-true}
 use Rattle.std.proofs.Math.Seq.{drop-cons}
-use Rattle.std.proofs.lemmas.List.{drop-drop, drop-take, length-take, take-append-drop, take_all}
-use Rattle.std.proofs.lemmas.Bool.{eqb-true}
-use Rattle.std.specs.Io.KnownBytes.{IsAtEnd, prepend_known}
-use Rattle.lsp_stream.specs.Turns.{Spends}
 use Rattle.memchr.specs.Find.{IsFirstByte, is_byte}
-use Rattle.lsp_simulate.specs.Session.{line_count, lines_from}
-use Rattle.lsp_simulate.specs.inside.Lines.{Passed, is_begun}
 
 -- ---- the lines of bytes one after another
 
@@ -62,8 +56,7 @@ first_line begun bytes more at first =
     let front = take at bytes in
     let back = drop (suc at) bytes in
     let there : get_or bytes at 0 ≡ 10 = eqb-true (get_or bytes at 0) 10 first.1 in
-    let plain : IsPlain front =
-    plain_before bytes at (λ k below. first.0.before k (omega arith) below) (omega arith) in
+    let plain : IsPlain front = plain_before bytes at (λ k below. first.0.before k (omega arith) below) (omega arith) in
     let cut : bytes ≡ front ++ (10 ∷ back) =
     sym (take-append-drop at bytes)
     ∙ ap (λ z. front ++ z) (drop-cons bytes at 0 within ∙ ap (λ z. z ∷ back) there) in

@@ -4,6 +4,7 @@
 pub mod InputLemmas
 pub mod LineLemmas
 pub mod OptionLemmas
+mod Prelude
 pub mod ProgramLemmas
 pub mod ReadLemmas
 pub mod SessionLemmas

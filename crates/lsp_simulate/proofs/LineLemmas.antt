@@ -1,33 +1,18 @@
 -- Lines that were written, and those that are written next.
-use Rattle.std.proofs.Common.{◌≡◌, ◌⊎◌, ◌≤◌, ◌<◌, inl, inr, ℕ, ◌+◌, suc, List, [], ◌∷◌, ◌++◌, length, codes, decimal, Option, Result, Ok, Err, refl, sym, ap, ◌∙◌, subst, arith, append_assoc, append-nil}
-use Rattle.std.proofs.KnownBytes.{Appends-nil, Appends-trans}
-use Rattle.std.specs.Io.KnownBytes.{Appends}
-use Rattle.lsp_stream.specs.declared.fault.EngineFault.{EngineFault}
-use Rattle.lsp_stream.specs.declared.fault.EngineFault.TheVariants as engine
-use Rattle.lsp_stream.specs.Ports.{WriterState}
-use Rattle.lsp_stream.specs.Turns.{AppendsFront, Spends, StaysWell, WritesWithin}
-use Rattle.lsp_program.proofs.CallLemmas.{front_after, front_before, rose_after, spends_more}
+use Rattle.lsp_simulate.proofs.Prelude.{◌≡◌, ◌⊎◌, ◌≤◌, ◌<◌, inl, inr, ℕ, ◌+◌, suc, List, [], ◌∷◌, ◌++◌, length, codes, decimal, Option, Result, Ok, Err, refl, sym, ap, ◌∙◌, subst, arith, append_assoc, append-nil, Appends-nil, Appends-trans, Appends, EngineFault, WriterState, AppendsFront, Spends, StaysWell, WritesWithin, front_after, front_before, rose_after, spends_more, DocumentItem, PairData, IsStep, RunFault, Write, run_fault, AppendsLines, AreSteps, AreWholeLines, PairStep, document_lines, end_document, next_line_number, step_line, step_lines, waiting_line, WroteLines, last_number}
 use Rattle.lsp_message.specs.Outgoing.{document_text}
-use Rattle.lsp_message.specs.Params.{DocumentItem}
 use Rattle.lsp_pair.specs.declared.event.Happened.{Happened}
-use Rattle.lsp_pair.specs.Pair.{PairData, IsStep}
-use Rattle.lsp_simulate.specs.declared.run.RunFault.{RunFault}
-use Rattle.lsp_simulate.specs.declared.run.RunFault.TheVariants.{Write}
-use Rattle.lsp_simulate.specs.Run.{run_fault}
 use Rattle.lsp_simulate.specs.Words.{happened_words}
-use Rattle.lsp_simulate.specs.Session.{AppendsLines, AreSteps, AreWholeLines, PairStep, document_lines, end_document, next_line_number, step_line, step_lines, waiting_line}
-use Rattle.lsp_simulate.specs.inside.Session.{WroteLines, last_number}
+use Rattle.lsp_stream.specs.declared.fault.EngineFault.TheVariants as engine
 
 abbrev EndsLine : List ℕ → Type 0
 EndsLine bytes = (front : List ℕ) × (bytes ≡ front ++ codes "\n")
 
 ends_line : (xs ys : List ℕ) → EndsLine ys → EndsLine (xs ++ ys)
-ends_line xs ys end =
-    (xs ++ end.0, ap (λ z. xs ++ z) end.1 ∙ sym (append_assoc xs end.0 (codes "\n")))
+ends_line xs ys end = (xs ++ end.0, ap (λ z. xs ++ z) end.1 ∙ sym (append_assoc xs end.0 (codes "\n")))
 
 pub lines-append : (xs ys : List ℕ) → AreWholeLines xs → AreWholeLines ys → AreWholeLines (xs ++ ys)
-lines-append xs ys whole (inl none) =
-    subst AreWholeLines (sym (append-nil xs) ∙ ap (λ z. xs ++ z) (sym none)) whole
+lines-append xs ys whole (inl none) = subst AreWholeLines (sym (append-nil xs) ∙ ap (λ z. xs ++ z) (sym none)) whole
 lines-append xs ys whole (inr end) = inr (ends_line xs ys end)
 
 whole_step : (number : ℕ) (happened : Happened) → AreWholeLines (step_line number happened)
@@ -66,8 +51,7 @@ pub no_lines : (old : Option (List ℕ)) (lines : List ℕ) → AppendsLines old
 no_lines old lines = ([], lines, refl, inl refl, Appends-nil old)
 
 pub lines_after : (old mid new : Option (List ℕ)) (before lines : List ℕ) → Appends old mid before
-    → AreWholeLines before
-    → AppendsLines mid new lines → AppendsLines old new (before ++ lines)
+    → AreWholeLines before → AppendsLines mid new lines → AppendsLines old new (before ++ lines)
 lines_after old mid new before lines wrote whole some = (
   before ++ some.0,
   some.1,
@@ -116,10 +100,7 @@ within_after before mid after left between right (Ok done) spent well calls = re
 }
 within_after before mid after left between right (Err fault) spent well calls = record {
   well = tt;
-  failed = λ is. (
-    (calls.failed is).0,
-    rose_after before.calls mid.calls after.calls spent.least (calls.failed is).1,
-  );
+  failed = λ is. ((calls.failed is).0, rose_after before.calls mid.calls after.calls spent.least (calls.failed is).1);
   well_else = λ other was. calls.well_else other (well was);
   none_left = calls.none_left;
   spent = spends_more before.calls mid.calls after.calls left between right spent calls.spent;
@@ -134,10 +115,8 @@ write_fault fault given is (inr at) = is ∙ ap run_fault at
 -- ---- one step more
 
 pub steps_more : (old : PairData) (steps : List PairStep) (mid : PairData) (s : PairStep) (new : PairData)
-    → AreSteps old steps mid
-    → IsStep mid s.event s.happened new → AreSteps old (steps ++ s ∷ []) new
-steps_more old [] mid s new are is =
-    (new, subst (λ (p : PairData). IsStep p s.event s.happened new) are is, refl)
+    → AreSteps old steps mid → IsStep mid s.event s.happened new → AreSteps old (steps ++ s ∷ []) new
+steps_more old [] mid s new are is = (new, subst (λ (p : PairData). IsStep p s.event s.happened new) are is, refl)
 steps_more old (t ∷ steps) mid s new are is = (are.0, are.1, steps_more are.0 steps mid s new are.2 is)
 
 pub last_more : (number : ℕ) (steps : List PairStep) (s : PairStep)

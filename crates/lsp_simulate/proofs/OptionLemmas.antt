@@ -1,12 +1,8 @@
 -- What is read of an option.
-use Rattle.std.proofs.Common.{◌≡◌, ◌<◌, ◌^◌, ◌∙◌, ℕ, List, [], ap, refl, subst, sym, inl, inr, false, true}
-use Rattle.std.specs.Prelude.{codes, unwrap_or, Option, Some, None, IfSome, IsSome, Result, Ok, Err}
-use Rattle.std.specs.Str.Parse.{IsNumeral, digits_value, without_leading_plus}
+use Rattle.lsp_simulate.proofs.Prelude.{◌≡◌, ◌<◌, ◌^◌, ◌∙◌, ℕ, List, [], ap, refl, subst, sym, inl, inr, false, true, codes, unwrap_or, Option, Some, None, IfSome, IsSome, Result, Ok, Err, IsNumeral, digits_value, without_leading_plus, ArgMatches, AreServerLimits, HasEither, HasNumber, IsFlag}
 use Rattle.clap.specs.Matches.{ReadsOne, found_of, one_text}
-use Rattle.clap.specs.declared.parser.matches.ArgMatches.{ArgMatches}
 use Rattle.std.specs.Option.{option_or}
 use Rattle.lsp_frame.specs.Limits.{LimitsData, first_out_of_range}
-use Rattle.lsp_simulate.specs.Setting.{AreServerLimits, HasEither, HasNumber, IsFlag}
 
 -- The text is a numeral of 64 bits.
 abbrev pub IsSmall : List ℕ → Type 0
@@ -14,8 +10,7 @@ IsSmall text = IsNumeral 10 (without_leading_plus text) × (digits_value 10 (wit
 
 module _ {E : Type 0} (gives : List ℕ → Result ℕ E → Type 0) (options : ArgMatches) (id : List ℕ) where
   read_number : (text : Option (List ℕ)) → one_text (found_of options) id ≡ text → (read : Option ℕ)
-      → (text ≡ None → read ≡ None)
-      → ((t : List ℕ) → text ≡ Some t → ReadsOne gives t read)
+      → (text ≡ None → read ≡ None) → ((t : List ℕ) → text ≡ Some t → ReadsOne gives t read)
       → ((t : List ℕ) (n : ℕ) → gives t (Ok n) → IsSmall t × (n ≡ digits_value 10 (without_leading_plus t)))
       → IfSome read (HasNumber options id)
   read_number text is None none some reads = tt

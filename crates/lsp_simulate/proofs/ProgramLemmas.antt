@@ -1,14 +1,10 @@
 -- The command line is put together.
-use Rattle.std.proofs.Common.{◌≡◌, ◌∙◌, ◌++◌, ◌||◌, ap, refl, false, List, [], ◌∷◌}
-use Rattle.std.specs.Prelude.{Result, Ok, Err, IfOk, codes, map}
+use Rattle.lsp_simulate.proofs.Prelude.{◌≡◌, ◌∙◌, ◌++◌, ◌||◌, ap, refl, false, List, [], ◌∷◌, Result, Ok, Err, IfOk, codes, map, append_assoc, App, Rule, app_of, rule_of, AddsArg, with_rule, Choices, IsProgram, choice_rules, client_rules, flag_rules, server_rules}
 use Rattle.std.proofs.Math.Bool.{or-false}
-use Rattle.std.proofs.lemmas.List.{append_assoc}
-use Rattle.clap.specs.Words.{App, Rule, app_of, rule_of, AddsArg, with_rule}
+use Rattle.clap.specs.Words.{fields_of}
 use Rattle.clap.specs.Simple.{on_top}
 use Rattle.clap.specs.declared.builder.arg.Arg.{Arg}
 use Rattle.clap.specs.declared.builder.command.Command.{Command}
-use Rattle.clap.specs.declared.builder.command.Command.TheViews.{out-Command as fields_of}
-use Rattle.lsp_simulate.specs.CommandLine.{Choices, IsProgram, choice_rules, client_rules, flag_rules, server_rules}
 use Rattle.lsp_simulate.specs.inside.Options.{AddsRules, top_app}
 
 abbrev longer : List Rule → App → App
@@ -33,8 +29,7 @@ adds_more old mid new xs ys one two = record {
 
 -- The same, of what a call returned.
 pub adds : {E : Type 0} (old : Command) (a : Arg) (rule : Rule) (r : Result Command E) → a.global ≡ false → rule_of a
-    ≡ rule
-    → IfOk r (AddsArg old a) → IfOk r (AddsRules old (rule ∷ []))
+    ≡ rule → IfOk r (AddsArg old a) → IfOk r (AddsRules old (rule ∷ []))
 adds old a rule (Ok new) local same added = adds_one old new a rule added local same
 adds old a rule (Err e) local same added = tt
 

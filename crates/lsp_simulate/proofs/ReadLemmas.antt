@@ -1,15 +1,8 @@
 -- What the words are read as.
-use Rattle.std.proofs.Common.{◌≡◌, ◌∙◌, ap, refl, subst, sym, inl, inr, false, true, List, ℕ, []}
-use Rattle.std.specs.Prelude.{Option, Some, None, IfSome, IsSome, IsErrAnd, Result, Ok, Err}
-use Rattle.clap.specs.Words.{App, is_simple, matches_of, rows_of, found_of, fault_of, is_simple_and_free}
-use Rattle.clap.specs.Kinds.{HasKind, IsAmong}
-use Rattle.clap.specs.Values.{kind_of}
+use Rattle.lsp_simulate.proofs.Prelude.{◌≡◌, ◌∙◌, ap, refl, subst, sym, inl, inr, false, true, List, ℕ, [], Option, Some, None, IfSome, IsSome, IsErrAnd, Result, Ok, Err, App, is_simple, matches_of, rows_of, found_of, fault_of, is_simple_and_free, ArgMatches, AreWordsReadAs, IsFound, IsSetting, Choices, IsProgram, program_app, Setting}
+use Rattle.clap.specs.Words.{HasKind, IsAmong, kind_of}
 use Rattle.clap.specs.declared.error.Error.{Error}
-use Rattle.clap.specs.declared.parser.matches.ArgMatches.{ArgMatches}
 use Rattle.clap.proofs.OnLiterals.{clap_on_literals}
-use Rattle.lsp_simulate.specs.Setting.{AreWordsReadAs, IsFound, IsSetting}
-use Rattle.lsp_simulate.specs.CommandLine.{Choices, IsProgram, program_app}
-use Rattle.lsp_simulate.specs.declared.command_line.Setting.{Setting}
 
 simple : (encodings forms : Choices) → is_simple (program_app encodings forms) ≡ true
 unfolding clap_on_literals

@@ -1,29 +1,11 @@
 -- A session that is written line by line.
 -- ---- whole lines
-use Rattle.std.proofs.Common.{◌≡◌, ◌≤◌, ◌⊎◌, ◌↔◌, inl, inr, ℕ, ◌+◌, true, false, List, [], ◌∷◌, ◌++◌, length, codes, Option, Result, Ok, Err, refl, sym, ap, ◌∙◌, subst, arith, append_assoc}
-use Rattle.std.proofs.KnownBytes.{Appends-nil, Appends-trans}
-use Rattle.std.specs.Prelude.{IfSome}
-use Rattle.std.proofs.lemmas.List.{length-append}
-use Rattle.std.specs.Io.KnownBytes.{Appends, IsAtEnd}
-use Rattle.lsp_stream.specs.declared.fault.EngineFault.{EngineFault}
-use Rattle.lsp_stream.specs.declared.fault.EngineFault.TheVariants as engine
-use Rattle.lsp_stream.specs.Ports.{ReaderState, Rose, WriterState, ports}
-use Rattle.lsp_stream.specs.Turns.{AppendsFront, Spends, WritesWithin}
-use Rattle.lsp_program.specs.Output.{IsStopped, allowed_turns}
-use Rattle.lsp_program.proofs.CallLemmas.{front_after, front_before, spends_more, stopped_after}
-use Rattle.lsp_message.specs.Params.{DocumentItem}
+use Rattle.lsp_simulate.proofs.Prelude.{◌≡◌, ◌≤◌, ◌⊎◌, ◌↔◌, inl, inr, ℕ, ◌+◌, true, false, List, [], ◌∷◌, ◌++◌, length, codes, Option, Result, Ok, Err, refl, sym, ap, ◌∙◌, subst, arith, append_assoc, Appends-nil, Appends-trans, IfSome, length-append, Appends, IsAtEnd, EngineFault, ReaderState, Rose, WriterState, ports, AppendsFront, Spends, WritesWithin, IsStopped, allowed_turns, front_after, front_before, spends_more, stopped_after, DocumentItem, PairData, IsFitting, are_within, can_choose_utf16, new_pair, Setting, RunFault, Read, Write, NoMemory, BadEvent, run_fault, AppendsLines, AreSteps, AreWholeLines, IsSettingRefused, PairStep, RanSteps, ReadLines, WroteSession, WroteSteps, document_lines, end_document, end_lines, line_count, next_line_number, pair_setting, step_line, step_lines, waiting_line, Passed, AreUnderWay, IsStepLine, IsUnderWay, WroteLines, last_number, read_fault}
 use Rattle.lsp_pair.specs.declared.setting.PairFault.{PairFault}
 use Rattle.lsp_pair.specs.declared.setting.PairFault.TheVariants.{NotUtf16, LimitsTooSmall}
-use Rattle.lsp_pair.specs.Pair.{PairData, IsFitting, are_within, can_choose_utf16, new_pair}
-use Rattle.lsp_simulate.specs.declared.command_line.Setting.{Setting}
-use Rattle.lsp_simulate.specs.declared.run.RunFault.{RunFault}
-use Rattle.lsp_simulate.specs.declared.run.RunFault.TheVariants.{Read, Write, NoMemory, BadEvent}
-use Rattle.lsp_simulate.specs.Run.{run_fault}
-use Rattle.lsp_simulate.specs.Session.{AppendsLines, AreSteps, AreWholeLines, IsSettingRefused, PairStep, RanSteps, ReadLines, WroteSession, WroteSteps, document_lines, end_document, end_lines, line_count, next_line_number, pair_setting, step_line, step_lines, waiting_line}
-use Rattle.lsp_simulate.specs.inside.Lines.{Passed}
-use Rattle.lsp_simulate.specs.inside.Session.{AreUnderWay, IsStepLine, IsUnderWay, WroteLines, last_number, read_fault}
 use Rattle.lsp_simulate.proofs.InputLemmas.{all_passed, at_least, fewer, passed_more}
 use Rattle.lsp_simulate.proofs.LineLemmas.{lines-append, whole_steps, whole_document, whole_documents, whole_waiting, lines_after, wrote_after, wrote_before, write_fault, steps_more, last_more, lines_more, next_last}
+use Rattle.lsp_stream.specs.declared.fault.EngineFault.TheVariants as engine
 
 pub begun : (setting : Setting) (input later : Option (List ℕ)) (before : WriterState) (left : ℕ) (pair : PairData)
     → IsFitting (pair_setting setting) → pair ≡ new_pair (pair_setting setting) → left ≡ allowed_turns
@@ -117,8 +99,7 @@ module _ (setting : Setting) (reader now : ReaderState) (before mid : WriterStat
 -- ---- how a session ends
 
 pub refused : {T : Type 0} (setting : Setting) (result : Result T PairFault) (fault : PairFault) → result ≡ Err fault
-    → ((result ≡ Err NotUtf16) ↔ (can_choose_utf16 setting.config.choice ≡ false))
-    → ((result ≡ Err LimitsTooSmall)
+    → ((result ≡ Err NotUtf16) ↔ (can_choose_utf16 setting.config.choice ≡ false)) → ((result ≡ Err LimitsTooSmall)
     ↔ ((can_choose_utf16 setting.config.choice ≡ true) × (are_within setting.limits setting.config.limits ≡ false)))
     → IsSettingRefused (pair_setting setting) fault
 refused setting result NotUtf16 is encoding limits = encoding.0 is

@@ -1,7 +1,6 @@
 -- Small texts, computed on the definitions.
-use Rattle.std.proofs.Common.{zero, suc, refl, arith}
+use Rattle.lsp_text.proofs.Prelude.{zero, suc, refl, arith, IsPlace}
 use Rattle.std.proofs.Math.Utf8.{encode}
-use Rattle.lsp_text.specs.LineStarts.{IsPlace}
 use Rattle.lsp_text.specs.laws.Examples.{HoldsOnExamples, two_lines, smile}
 
 no_place_in_two : IsPlace two_lines 2 → ⊥

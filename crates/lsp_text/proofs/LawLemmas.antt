@@ -1,24 +1,11 @@
 -- The laws over places, names, units and lines.
-use Rattle.std.proofs.Common.{◌≡◌, ℕ, ◌+◌, ◌<◌, ◌≤◌, List, length, slice_index, refl, ap, ◌∙◌, arith, ⊎_elim}
-use Rattle.std.specs.Prelude.{Bool, true, false, Some, None, codes, if◌then◌else◌}
-use Rattle.std.specs.Str.{chars}
-use Rattle.std.proofs.lemmas.Bool.{cases_lt}
-use Rattle.std.proofs.lemmas.List.{length-map, get_or-map}
-use Rattle.std.proofs.lemmas.Str.{encodes-chars}
-use Rattle.lsp_text.specs.declared.encoding.Encoding.{Encoding}
-use Rattle.lsp_text.specs.declared.encoding.Encoding.TheVariants.{Utf8, Utf16, Utf32}
-use Rattle.lsp_text.specs.Text.{place_of}
-use Rattle.lsp_text.specs.TextLines.{line_at, line_ends, line_start}
-use Rattle.lsp_text.specs.LineStarts.{line_starts, start_places}
-use Rattle.lsp_text.specs.Units.{name_of}
+use Rattle.lsp_text.proofs.Prelude.{◌≡◌, ℕ, ◌+◌, ◌<◌, ◌≤◌, List, length, slice_index, refl, ap, ◌∙◌, arith, ⊎_elim, Bool, true, false, Some, None, codes, if◌then◌else◌, chars, cases_lt, length-map, get_or-map, encodes-chars, Encoding, Utf8, Utf16, Utf32, place_of, line_at, line_ends, line_start, line_starts, start_places, name_of, StartsLaw, common_steps}
 use Rattle.lsp_text.specs.laws.Places.{RisingLaw, EndsLaw, BoundaryLaw}
-use Rattle.lsp_text.specs.laws.Lines.{StartsLaw}
 use Rattle.lsp_text.specs.laws.Positions.{FoundLaw}
 use Rattle.lsp_text.proofs.Positions.PlaceLemmas.{place_rises, place_order, place_one, place_end, index_at}
 use Rattle.lsp_text.proofs.TextLines.LineLemmas.{line_rises, line_has_start, in_content_line}
 use Rattle.lsp_text.proofs.TextLines.StartRowLemmas.{length-line_starts, start_at}
 use Rattle.lsp_text.proofs.Positions.ExactLemmas.{start_before}
-use Rattle.std.proofs.lemmas.Grind.{common_steps}
 
 pub rising_law : RisingLaw
 rising_law text j k before within = omega (arith, place_rises text j k (omega arith) within)
@@ -29,21 +16,16 @@ ends_law bytes utf8 = (refl, place_end (chars bytes) ∙ ap length (encodes-char
 pub boundary_law : BoundaryLaw
 boundary_law bytes place utf8 boundary =
     let found = index_at bytes place utf8 boundary in
-    let at = found.place_is in (
-      found.index,
-      grind (arith, common_steps, place_one),
-    )
+    let at = found.place_is in (found.index, grind (arith, common_steps, place_one))
 
 -- The kept start of a line is the place of the line's start.
 start_place : (text : List ℕ) (line : ℕ) → line ≤ line_ends text → slice_index (start_places text) line
     ≡ place_of text (line_start text line)
-start_place text line there =
-    grind (arith, common_steps, get_or-map, length-line_starts, start_at)
+start_place text line there = grind (arith, common_steps, get_or-map, length-line_starts, start_at)
 
 -- It is the line's first index.
 pub starts_law : StartsLaw
-starts_law text line there =
-    grind (arith, common_steps, line_has_start, in_content_line, start_before, start_place)
+starts_law text line there = grind (arith, common_steps, line_has_start, in_content_line, start_before, start_place)
 
 -- The line of a text whose start is the last at or before the place of an index is the index's line.
 pub found_law : FoundLaw

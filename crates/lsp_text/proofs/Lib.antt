@@ -7,6 +7,7 @@
 pub mod Examples
 pub mod LawLemmas
 pub mod PlainLemmas
+mod Prelude
 pub mod TextLines
 pub mod Positions
 pub mod Counting

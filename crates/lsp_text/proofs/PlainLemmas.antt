@@ -1,23 +1,9 @@
 -- The steps of the plain program: the indexes that a loop has before it, and the units that it has still to add.
-use Rattle.std.proofs.Common.{ℕ, suc, ◌≡◌, ◌+◌, ◌-◌, ◌<◌, ◌≤◌, ◌∷◌, ◌==◌, Bool, true, false, Some, List, length, take, drop, get_or, filter, find, encode_utf8_all, refl, arith, eq-eqb, le-ltb}
-use Rattle.std.specs.Char.{len_utf8}
-use Rattle.std.proofs.lemmas.Bool.{ne_eqb, lt-leb}
-use Rattle.std.proofs.lemmas.List.{drop_more}
-use Rattle.std.proofs.lemmas.List.Sums.{sum_by-cons, sum_by-take-le, sum_by-take-drop, sum_by-le-sum_by}
-use Rattle.lsp_text.specs.declared.encoding.Encoding.{Encoding}
-use Rattle.lsp_text.specs.declared.encoding.Encoding.TheVariants.{Utf8, Utf16, Utf32}
-use Rattle.lsp_text.specs.declared.position.Position.{Position}
-use Rattle.lsp_text.specs.Text.{place_of}
-use Rattle.lsp_text.specs.TextLines.{numbers_from, last_or, line_ends, line_content, line_start, line_stop}
-use Rattle.lsp_text.specs.Units.{units_in, units_between}
-use Rattle.lsp_text.specs.Positions.{denoted}
-use Rattle.lsp_text.specs.laws.Units.{utf8_bounds, utf16_bounds, utf32_bounds}
+use Rattle.lsp_text.proofs.Prelude.{ℕ, suc, ◌≡◌, ◌+◌, ◌-◌, ◌<◌, ◌≤◌, ◌∷◌, ◌==◌, Bool, true, false, Some, List, length, take, drop, get_or, filter, find, encode_utf8_all, refl, arith, eq-eqb, le-ltb, len_utf8, ne_eqb, lt-leb, drop_more, sum_by-cons, sum_by-take-le, sum_by-take-drop, sum_by-le-sum_by, Encoding, Utf8, Utf16, Utf32, Position, place_of, numbers_from, last_or, line_ends, line_content, line_start, line_stop, units_in, units_between, denoted, utf8_bounds, utf16_bounds, utf32_bounds, common_steps}
 use Rattle.lsp_text.proofs.Counting.LeadLemmas.{utf8_units}
-use Rattle.std.proofs.lemmas.Grind.{common_steps}
 
 row_more : (k n : ℕ) → k < n → numbers_from k (n - k) ≡ k ∷ numbers_from (k + 1) (n - (k + 1))
-row_more k n before =
-    grind (arith, common_steps)
+row_more k n before = grind (arith, common_steps)
 
 -- An index that fails leaves the filtered rest as it is.
 pub row_on : (test : ℕ → Bool) (k n : ℕ) → k < n → test k ≡ false → filter test (numbers_from k (n - k))
@@ -92,24 +78,19 @@ abbrev pub has_units : (ℕ → ℕ) → List ℕ → ℕ → ℕ → ℕ → Bo
 has_units units text line character k = units_between units text (line_start text line) k == character
 
 pub has_them : (units : ℕ → ℕ) (text : List ℕ) (line character start k count : ℕ) → start ≡ line_start text line
-    → count ≡ units_between units text start k →
-    count ≡ character → has_units units text line character k ≡ true
-has_them units text line character start k count starts is same =
-    grind (arith, common_steps, eq-eqb)
+    → count ≡ units_between units text start k → count ≡ character → has_units units text line character k ≡ true
+has_them units text line character start k count starts is same = grind (arith, common_steps, eq-eqb)
 
 pub has_others : (units : ℕ → ℕ) (text : List ℕ) (line character start k count : ℕ) → start ≡ line_start text line
-    → count ≡ units_between units text start k →
-    (count ≡ character → ⊥) → has_units units text line character k ≡ false
-has_others units text line character start k count starts is other =
-    grind (arith, common_steps, ne_eqb)
+    → count ≡ units_between units text start k → (count ≡ character → ⊥) → has_units units text line character k ≡ false
+has_others units text line character start k count starts is other = grind (arith, common_steps, ne_eqb)
 
 -- A position whose line the text has, with more units than its character, denotes the index that the search finds.
 pub denoted_found : (units : ℕ → ℕ) (text : List ℕ) (p : Position) (start stop count : ℕ)
     → start ≡ line_start text p.line → stop ≡ line_stop text p.line →
     count ≡ units_between units text start stop → p.line ≤ line_ends text → p.character < count →
     denoted units text p ≡ find (has_units units text p.line p.character) (line_content text p.line)
-denoted_found units text p start stop count starts stops is there less =
-    grind (arith, common_steps, le-ltb, lt-leb)
+denoted_found units text p start stop count starts stops is there less = grind (arith, common_steps, le-ltb, lt-leb)
 
 -- The units of UTF-8 from the text's start are a place.
 pub place_counted : (text : List ℕ) (index : ℕ) → units_between (units_in Utf8) text 0 index ≡ place_of text index

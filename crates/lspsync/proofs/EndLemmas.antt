@@ -1,12 +1,8 @@
 -- Lines on standard error, piece by piece, and the end of a run over a file.
-use Rattle.std.proofs.Common.{◌≡◌, inr, ℕ, List, [], ◌++◌, Option, Err, ap, sym, ◌∙◌, append_assoc, append-nil}
-use Rattle.lsp_stream.specs.declared.fault.EngineFault.{EngineFault}
-use Rattle.lsp_stream.specs.declared.fault.EngineFault.TheVariants as engine
+use Rattle.lspsync.proofs.Prelude.{◌≡◌, inr, ℕ, List, [], ◌++◌, Option, Err, ap, sym, ◌∙◌, append_assoc, append-nil, EngineFault, Ending, fault_cause, IsBlamed, IsFileEnding}
 use Rattle.lsp_stream.specs.Ports.{WriterState}
-use Rattle.lspsync.specs.declared.ends.Ending.{Ending}
-use Rattle.lspsync.specs.FaultText.{fault_cause}
-use Rattle.lspsync.specs.Run.{IsBlamed, IsFileEnding}
 use Rattle.lspsync.specs.declared.wanted.Wanted.{Wanted}
+use Rattle.lsp_stream.specs.declared.fault.EngineFault.TheVariants as engine
 
 -- The line of a fault.
 pub fault_pieces : (start text place end whole : List ℕ) → whole ≡ text ++ place

@@ -5,6 +5,7 @@
 pub mod DoneLemmas
 pub mod EndLemmas
 pub mod OptionLemmas
+mod Prelude
 pub mod ProgramLemmas
 pub mod ReadLemmas
 pub mod TaskLemmas

@@ -1,13 +1,8 @@
 -- What is read of an option.
-use Rattle.std.proofs.Common.{◌≡◌, ◌<◌, ◌^◌, ◌&&◌, ◌∙◌, not, is_some, ℕ, Bool, List, refl, sym, ap, subst, option_map, string_bytes, String, Global, false, true}
-use Rattle.std.specs.Prelude.{codes, Option, Some, None, IfSome, IsSome, Result, Ok, Err}
-use Rattle.std.specs.Str.Parse.{IsNumeral, digits_value, without_leading_plus}
+use Rattle.lspsync.proofs.Prelude.{◌≡◌, ◌<◌, ◌^◌, ◌&&◌, ◌∙◌, not, is_some, ℕ, Bool, List, refl, sym, ap, subst, option_map, string_bytes, String, Global, false, true, codes, Option, Some, None, IfSome, IsSome, Result, Ok, Err, IsNumeral, digits_value, without_leading_plus, ArgMatches, AreSettings, HasNumber, HasNumberOrNone, IsCallNamed, IsLogPart, is_whole, whole, Call}
 use Rattle.clap.specs.Matches.{ReadsOne, found_of, one_text}
-use Rattle.clap.specs.declared.parser.matches.ArgMatches.{ArgMatches}
 use Rattle.lsp_replay.specs.declared.commands.Settings.{Settings}
 use Rattle.lsp_replay.specs.declared.commands.parts.Part.{Part}
-use Rattle.lspsync.specs.Call.{AreSettings, HasNumber, HasNumberOrNone, IsCallNamed, IsLogPart, is_whole, whole}
-use Rattle.lspsync.specs.declared.command_line.Call.{Call}
 use Rattle.lspsync.specs.declared.command_line.Call.TheVariants as call
 
 -- The text is a numeral of 64 bits.
@@ -16,8 +11,7 @@ IsSmall text = IsNumeral 10 (without_leading_plus text) × (digits_value 10 (wit
 
 module _ {E : Type 0} (gives : List ℕ → Result ℕ E → Type 0) (options : ArgMatches) (id : List ℕ) where
   read_number : (text : Option (List ℕ)) → one_text (found_of options) id ≡ text → (read : Option ℕ)
-      → (text ≡ None → read ≡ None)
-      → ((t : List ℕ) → text ≡ Some t → ReadsOne gives t read)
+      → (text ≡ None → read ≡ None) → ((t : List ℕ) → text ≡ Some t → ReadsOne gives t read)
       → ((t : List ℕ) (n : ℕ) → gives t (Ok n) → IsSmall t × (n ≡ digits_value 10 (without_leading_plus t)))
       → IfSome read (HasNumber options id)
   read_number text is None none some reads = tt
@@ -63,8 +57,7 @@ whole_part options part is given =
     }
 
 pub named_part : (options : ArgMatches) (settings : Settings) (part : Part) (asked : Call)
-    → AreSettings options settings → IsLogPart options part
-    → (is_whole part ≡ true → asked ≡ call.Replay settings)
+    → AreSettings options settings → IsLogPart options part → (is_whole part ≡ true → asked ≡ call.Replay settings)
     → (is_whole part ≡ false → asked ≡ call.ReplayPart settings part) → IsCallNamed (codes "replay") options asked
 named_part options settings part asked are given all some = by (is_whole part) refl
   where

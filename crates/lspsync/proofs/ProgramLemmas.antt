@@ -1,18 +1,13 @@
 -- The command line is put together.
-use Rattle.std.proofs.Common.{◌≡◌, ◌∙◌, ◌++◌, ◌||◌, ap, refl, false, List, [], ◌∷◌}
-use Rattle.std.specs.Prelude.{Result, Ok, Err, IfOk, codes, map}
+use Rattle.lspsync.proofs.Prelude.{◌≡◌, ◌∙◌, ◌++◌, ◌||◌, ap, refl, false, List, [], ◌∷◌, Result, Ok, Err, IfOk, codes, map, append-nil, append_assoc, App, Rule, Text, app_of, rule_of, new_app, AddsArg, with_rule, with_subcommand, Choices, IsProgram, check_rules, compare_rules, detail_rules, encoding_rule, limit_rules, log_rule, logs_rule, part_rules, server_rules, writing_rules, Values}
 use Rattle.std.proofs.Math.Bool.{or-false}
-use Rattle.std.proofs.lemmas.List.{append-nil, append_assoc}
-use Rattle.clap.specs.Words.{App, Rule, Text, app_of, rule_of, new_app, AddsArg, with_rule, with_subcommand}
+use Rattle.clap.specs.Words.{fields_of}
 use Rattle.clap.specs.Simple.{on_top}
 use Rattle.clap.specs.declared.builder.arg.Arg.{Arg}
 use Rattle.clap.specs.declared.builder.command.Command.{Command}
-use Rattle.clap.specs.declared.builder.command.Command.TheViews.{out-Command as fields_of}
-use Rattle.lspsync.specs.CommandLine.{Choices, IsProgram, check_rules, compare_rules, detail_rules, encoding_rule, limit_rules, log_rule, logs_rule, part_rules, server_rules, writing_rules}
 use Rattle.lspsync.specs.inside.Help.{IsPage, file_rules, own_rules, page_rules, rules_of_limits}
 use Rattle.lspsync.specs.inside.Options.{AddsRules, IsCommand, page_shape, shape_by, top_app}
 use Rattle.lspsync.specs.declared.command_line.help.Page.{Page}
-use Rattle.lspsync.specs.declared.command_line.options.Values.{Values}
 
 abbrev longer : List Rule → App → App
 longer rules = on_top (λ s. record s { rules = s.rules ++ rules })
@@ -42,8 +37,7 @@ adds_more old mid new xs ys one two = record {
 
 -- The same, of what a call returned.
 pub adds : {E : Type 0} (old : Command) (a : Arg) (rule : Rule) (r : Result Command E) → a.global ≡ false → rule_of a
-    ≡ rule
-    → IfOk r (AddsArg old a) → IfOk r (AddsRules old (rule ∷ []))
+    ≡ rule → IfOk r (AddsArg old a) → IfOk r (AddsRules old (rule ∷ []))
 adds old a rule (Ok new) local same added = adds_one old new a rule added local same
 adds old a rule (Err e) local same added = tt
 
@@ -98,8 +92,7 @@ pub program_is : {E : Type 0} (old : App) (page : Page) (values : Values) (made 
     → map (λ s. s.now) values.kinds.now ≡ codes "full" ∷ codes "incremental" ∷ []
     → IsPage page (codes "convert") (λ _. log_rule ∷ []) → rules_of_limits values.limits.now ≡ limit_rules
     → IfOk made (λ new. app_of new ≡ with_subcommand old (shape_by page values))
-    → old ≡ before_last values.encodings values.kinds
-    → IfOk made (λ program. IsProgram (app_of program))
+    → old ≡ before_last values.encodings values.kinds → IfOk made (λ program. IsProgram (app_of program))
 program_is old page values (Err e) names kinds is same put at = tt
 program_is old page values (Ok new) names kinds is same put at = record {
   encodings = values.encodings;

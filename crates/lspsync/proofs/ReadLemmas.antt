@@ -1,16 +1,9 @@
 -- What the words are read as.
-use Rattle.std.proofs.Common.{◌≡◌, ◌∙◌, ap, refl, sym, subst, true, inl, inr, List, ℕ, [], Vec, Global}
-use Rattle.std.specs.Prelude.{Option, Ok, Err}
-use Rattle.clap.specs.Words.{App, is_simple, subcommand_of, subcommand_rows_of, fault_of, is_simple_and_free, HasKind}
-use Rattle.clap.specs.Kinds.{IsAmong}
-use Rattle.clap.specs.Values.{kind_of}
+use Rattle.lspsync.proofs.Prelude.{◌≡◌, ◌∙◌, ap, refl, sym, subst, true, inl, inr, List, ℕ, [], Vec, Global, Option, Ok, Err, App, is_simple, subcommand_of, subcommand_rows_of, fault_of, is_simple_and_free, HasKind, ArgMatches, AreWordsReadAs, IsFound, Choices, IsProgram, program_app, Task}
+use Rattle.clap.specs.Words.{IsAmong, kind_of}
 use Rattle.clap.specs.declared.error.Error.{Error}
 use Rattle.clap.specs.declared.error.kind.ErrorKind.{ErrorKind}
-use Rattle.clap.specs.declared.parser.matches.ArgMatches.{ArgMatches}
 use Rattle.clap.proofs.OnLiterals.{clap_on_literals}
-use Rattle.lspsync.specs.Call.{AreWordsReadAs, IsFound}
-use Rattle.lspsync.specs.CommandLine.{Choices, IsProgram, program_app}
-use Rattle.lspsync.specs.declared.command_line.Task.{Task}
 
 simple : (encodings kinds : Choices) → is_simple (program_app encodings kinds) ≡ true
 unfolding clap_on_literals

@@ -1,9 +1,6 @@
 -- A task more.
-use Rattle.std.proofs.Common.{◌≡◌, ◌<◌, ℕ, ◌+◌, List, [], ◌∷◌, ◌++◌, map, length, get_or, take, Bor, ap, sym, ◌∙◌, add-one, Option}
+use Rattle.lspsync.proofs.Prelude.{◌≡◌, ◌<◌, ℕ, ◌+◌, List, [], ◌∷◌, ◌++◌, map, length, get_or, take, Bor, ap, sym, ◌∙◌, add-one, Option, map_push, file_named, file_of, Task}
 use Rattle.std.proofs.Math.Seq.{take-suc}
-use Rattle.std.proofs.lemmas.List.{map_push}
-use Rattle.lspsync.specs.Call.{file_named, file_of}
-use Rattle.lspsync.specs.declared.command_line.Task.{Task}
 
 abbrev no_word : Bor (List ℕ)
 no_word = record { ref_ptr = (0, 0); now = [] }
@@ -18,8 +15,7 @@ more_words : (words : List (Bor (List ℕ))) (index : ℕ) → index < length wo
     → take (index + 1) words ≡ take index words ++ (get_or words index no_word ∷ [])
 more_words words index within = rw add-one (take-suc words index no_word within)
 
-more_files : (words : List (Bor (List ℕ))) (index : ℕ) → index < length words
-    → files_of_words (take (index + 1) words)
+more_files : (words : List (Bor (List ℕ))) (index : ℕ) → index < length words → files_of_words (take (index + 1) words)
     ≡ files_of_words (take index words) ++ file_named (get_or words index no_word).now ∷ []
 more_files words index within =
     let front = take index words in
@@ -29,8 +25,7 @@ more_files words index within =
 
 -- It is that of the next word.
 pub one_more : (tasks : List Task) (task : Task) (words : List (Bor (List ℕ))) (index : ℕ) → index < length words
-    → map file_of tasks ≡ files_of_words (take index words)
-    → file_of task ≡ file_named (get_or words index no_word).now
+    → map file_of tasks ≡ files_of_words (take index words) → file_of task ≡ file_named (get_or words index no_word).now
     → map file_of (tasks ++ task ∷ []) ≡ files_of_words (take (index + 1) words)
 one_more tasks task words index within so_far is =
     map_push file_of tasks task

@@ -1,16 +1,7 @@
 -- Blocks: what comes before one and after it, and the lines of both.
-use Rattle.std.proofs.Common.{ℕ, zero, suc, ◌≡◌, ◌+◌, ◌-◌, ◌*◌, ◌<◌, ◌≤◌, ◌⊎◌, true, List, [], ◌∷◌, ◌++◌, length, take, drop, get_or, inl, inr, refl, sym, ap, ◌∙◌, arith, subst}
-use Rattle.std.specs.Prelude.{encode_utf8_all}
-use Rattle.std.specs.List.{concat}
+use Rattle.lsp_buffer.proofs.Prelude.{ℕ, zero, suc, ◌≡◌, ◌+◌, ◌-◌, ◌*◌, ◌<◌, ◌≤◌, ◌⊎◌, true, List, [], ◌∷◌, ◌++◌, length, take, drop, get_or, inl, inr, refl, sym, ap, ◌∙◌, arith, subst, encode_utf8_all, concat, length-append, get_or-append_right, get_or_default, append-nil, take-append-drop, concat-append, IsUtf8-from_is_utf8, IsUtf8-append, encodes-chars, length-encode, len_utf8_bounds, chars-nil, EndsClear, IsFull, AreBlocks, AreFull, Closes, common_steps}
 use Rattle.std.specs.Str.{chars, is_utf8, IsUtf8}
 use Rattle.std.proofs.Math.Utf8.{encode}
-use Rattle.std.proofs.lemmas.List.{length-append, get_or-append_right, get_or_default, append-nil, take-append-drop}
-use Rattle.std.proofs.lemmas.List.Folds.{concat-append}
-use Rattle.std.proofs.lemmas.Str.{IsUtf8-from_is_utf8, IsUtf8-append, encodes-chars, length-encode, len_utf8_bounds, chars-nil}
-use Rattle.lsp_buffer.specs.Blocks.{EndsClear, IsFull, AreBlocks}
-use Rattle.lsp_buffer.specs.inside.Cuts.{AreFull}
-use Rattle.lsp_buffer.specs.inside.Parts.{Closes}
-use Rattle.std.proofs.lemmas.Grind.{common_steps}
 
 -- ---- no carriage return at the end
 
@@ -29,10 +20,7 @@ ends_tail a b some ends = record {
 clear_text : (text : List ℕ) → EndsClear (encode_utf8_all text) → EndsClear text
 unfolding encode
 clear_text [] ends = absurd (omega (arith, ends.some))
-clear_text (x ∷ []) ends = record {
-  some = omega arith;
-  clear = grind (arith, common_steps);
-}
+clear_text (x ∷ []) ends = record { some = omega arith; clear = grind (arith, common_steps) }
 clear_text (x ∷ y ∷ text) ends =
     let some : 0 < length (encode_utf8_all (y ∷ text)) =
     omega (arith, length-append (encode y) (encode_utf8_all text), length-encode y, (len_utf8_bounds y).0) in
@@ -43,8 +31,7 @@ pub clear_chars : (bytes : List ℕ) → IsUtf8 bytes → EndsClear bytes → En
 clear_chars bytes utf8 ends = clear_text (chars bytes) (subst EndsClear (sym (encodes-chars bytes utf8)) ends)
 
 pub chars_close : (bytes : List ℕ) → IsUtf8 bytes → Closes bytes → Closes (chars bytes)
-chars_close bytes utf8 closes =
-    grind (arith, common_steps, inl, chars-nil, inr, clear_chars)
+chars_close bytes utf8 closes = grind (arith, common_steps, inl, chars-nil, inr, clear_chars)
 
 -- ---- full blocks
 
@@ -56,8 +43,7 @@ full_utf8 (b ∷ blocks) full = IsUtf8-append b (concat blocks) (IsUtf8-from_is_
 
 pub full_closes : (blocks : List (List ℕ)) → AreFull blocks → Closes (concat blocks)
 full_closes [] full = inl refl
-full_closes (b ∷ blocks) full =
-    grind (arith, common_steps, inr, append-nil, ends_join, (full_closes blocks full.1))
+full_closes (b ∷ blocks) full = grind (arith, common_steps, inr, append-nil, ends_join, (full_closes blocks full.1))
 
 -- ---- one of the blocks
 
@@ -66,8 +52,7 @@ pub record IsSplit (blocks : List (List ℕ)) (index : ℕ) : Type 0 where
   pub whole : blocks ≡ take index blocks ++ get_or blocks index [] ∷ drop (index + 1) blocks
   pub full : AreFull (take index blocks)
   pub utf8 : is_utf8 (get_or blocks index []) ≡ true
-  pub after : (drop (index + 1) blocks ≡ [])
-      ⊎ (IsFull (get_or blocks index []) × AreBlocks (drop (index + 1) blocks))
+  pub after : (drop (index + 1) blocks ≡ []) ⊎ (IsFull (get_or blocks index []) × AreBlocks (drop (index + 1) blocks))
 
 pub split : (blocks : List (List ℕ)) (index : ℕ) → AreBlocks blocks → index < length blocks → IsSplit blocks index
 split [] index are h = absurd are
@@ -90,14 +75,12 @@ put_first b (c ∷ blocks) full are = (full, are)
 
 pub full_front : (front blocks : List (List ℕ)) → AreFull front → AreBlocks blocks → AreBlocks (front ++ blocks)
 full_front [] blocks full are = are
-full_front (b ∷ front) blocks full are =
-    put_first b (front ++ blocks) full.0 (full_front front blocks full.1 are)
+full_front (b ∷ front) blocks full are = put_first b (front ++ blocks) full.0 (full_front front blocks full.1 are)
 
 -- Blocks in three parts.
 pub joined_blocks : (front fresh rest : List (List ℕ)) → AreFull front → AreBlocks fresh → (rest ≡ [])
     ⊎ (AreFull fresh × AreBlocks rest) → AreBlocks (front ++ (fresh ++ rest))
-joined_blocks front fresh rest full are after =
-    grind (arith, common_steps, full_front, append-nil)
+joined_blocks front fresh rest full are after = grind (arith, common_steps, full_front, append-nil)
 
 -- The last of some blocks is another one.
 pub full_last : (front : List (List ℕ)) (b : List ℕ) → AreFull front → IsFull b → AreFull (front ++ b ∷ [])

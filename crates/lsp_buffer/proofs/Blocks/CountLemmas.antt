@@ -1,27 +1,9 @@
 -- What texts count, one after the other.
-use Rattle.std.proofs.Common.{ℕ, zero, suc, ◌≡◌, ◌+◌, ◌<◌, ◌≤◌, List, [], ◌∷◌, ◌++◌, length, take, drop, get_or, sym, ap, ◌∙◌, arith, subst}
-use Rattle.std.specs.List.{concat}
-use Rattle.std.specs.Str.{chars, IsUtf8}
-use Rattle.std.proofs.Math.Seq.{take-add}
-use Rattle.std.proofs.lemmas.List.{length-append}
-use Rattle.std.proofs.lemmas.List.Folds.{concat-append}
-use Rattle.std.proofs.lemmas.Str.{chars-append, chars-nil, encodes-chars, length-le-encodes}
-use Rattle.lsp_text.specs.declared.encoding.Encoding.{Encoding}
-use Rattle.lsp_text.specs.declared.encoding.Encoding.TheVariants.{Utf8, Utf16, Utf32}
-use Rattle.lsp_text.specs.TextLines.{line_at, line_ends}
-use Rattle.lsp_text.specs.Units.{units_in}
-use Rattle.lsp_text.proofs.TextLines.LineLemmas.{line_step}
-use Rattle.lsp_text.proofs.PlainLemmas.{units_total}
-use Rattle.lsp_buffer.specs.declared.counts.Counts.{Counts}
-use Rattle.lsp_buffer.specs.Blocks.{AreBlocks, block_ends, carried, counts_of, head_of}
-use Rattle.lsp_buffer.specs.inside.Counts.{HaveRoom, counts_sum}
-use Rattle.lsp_buffer.specs.inside.Cuts.{AreFull}
-use Rattle.lsp_buffer.specs.inside.Parts.{Closes}
+use Rattle.lsp_buffer.proofs.Prelude.{ℕ, zero, suc, ◌≡◌, ◌+◌, ◌<◌, ◌≤◌, List, [], ◌∷◌, ◌++◌, length, take, drop, get_or, sym, ap, ◌∙◌, arith, subst, concat, chars, IsUtf8, take-add, length-append, concat-append, chars-append, chars-nil, encodes-chars, length-le-encodes, Encoding, Utf8, Utf16, Utf32, line_at, line_ends, units_in, line_step, units_total, Counts, AreBlocks, block_ends, carried, counts_of, head_of, HaveRoom, counts_sum, AreFull, Closes, common_steps}
 use Rattle.lsp_buffer.proofs.Blocks.BlockLemmas.{chars_close, concat_split, full_closes, full_utf8, split}
 use Rattle.lsp_buffer.proofs.Blocks.CutLemmas.{concat_more}
 use Rattle.lsp_buffer.proofs.Blocks.PartLemmas.{head_of_both}
 use Rattle.lsp_buffer.proofs.Blocks.SeamLemmas.{head, seam_count}
-use Rattle.std.proofs.lemmas.Grind.{common_steps}
 
 pub none_count : counts_of [] ≡ record { len = 0; ends = 0; utf8 = 0; utf16 = 0; utf32 = 0 }
 none_count = λ i. record {
@@ -42,13 +24,11 @@ ends_low bytes utf8 = grind (arith, common_steps, line_low, length-le-encodes, e
 
 -- There are no more units than bytes.
 pub head_low : (encoding : Encoding) (bytes : List ℕ) → IsUtf8 bytes → head_of (units_in encoding) bytes ≤ length bytes
-head_low encoding bytes utf8 =
-    grind (arith, common_steps, units_total, encodes-chars)
+head_low encoding bytes utf8 = grind (arith, common_steps, units_total, encodes-chars)
 
 module _ (a b : List ℕ) (utf8 : IsUtf8 a) (closes : Closes a) where
   pub ends_both : block_ends (a ++ b) ≡ block_ends a + block_ends b
-  ends_both =
-      grind (arith, common_steps, chars-append, seam_count, chars_close)
+  ends_both = grind (arith, common_steps, chars-append, seam_count, chars_close)
 
   pub head_both : (units : ℕ → ℕ) → head_of units (a ++ b) ≡ carried (block_ends b) (head_of units a) + head_of units b
   head_both units = ap (head units) (chars-append a b utf8) ∙ head_of_both (chars a) (chars b)
@@ -76,12 +56,10 @@ room_both a b one two size = record {
 -- Numbers that are those of two texts.
 module _ (a b : List ℕ) (before next : Counts) (before_is : before ≡ counts_of a) (next_is : next ≡ counts_of b) where
   pub have_room : IsUtf8 a → IsUtf8 b → length a + length b ≤ 2147483648 → HaveRoom before next
-  have_room one two size =
-      grind (arith, common_steps, room_both)
+  have_room one two size = grind (arith, common_steps, room_both)
 
   pub are_sum : (sum : Counts) → IsUtf8 a → Closes a → sum ≡ counts_sum before next → sum ≡ counts_of (a ++ b)
-  are_sum sum utf8 closes is =
-      grind (arith, common_steps, counts_both)
+  are_sum sum utf8 closes is = grind (arith, common_steps, counts_both)
 
 -- One block more.
 module _ (blocks : List (List ℕ)) (index : ℕ) (block : List ℕ) (within : index < length blocks)
@@ -148,5 +126,4 @@ module _ (blocks : List (List ℕ)) (are : AreBlocks blocks) (first count : ℕ)
 
     pub sum_some : (sum : Counts) → sum ≡ counts_sum before next
         → sum ≡ counts_of (concat (take (first + count) blocks))
-    sum_some sum is =
-        grind (arith, common_steps, are_sum, full_utf8, first_full, full_closes, some_text)
+    sum_some sum is = grind (arith, common_steps, are_sum, full_utf8, first_full, full_closes, some_text)

@@ -1,14 +1,6 @@
 -- A text that is being cut into blocks.
-use Rattle.std.proofs.Common.{ℕ, ◌≡◌, ◌+◌, ◌-◌, ◌<◌, ◌≤◌, List, [], ◌∷◌, ◌++◌, length, take, drop, get_or, ap, ◌∙◌, arith}
-use Rattle.std.specs.List.{concat}
-use Rattle.std.specs.Str.{IsUtf8, IsCharBoundary}
-use Rattle.std.proofs.lemmas.List.{take_more, length-drop, length-take-le, get_or-take, append_assoc, append-nil, take-append-drop}
-use Rattle.std.proofs.lemmas.List.Folds.{concat-append}
-use Rattle.std.proofs.lemmas.Str.{is_utf8-from_IsUtf8, IsUtf8-take}
-use Rattle.lsp_buffer.specs.Blocks.{IsFull, AreBlocks}
-use Rattle.lsp_buffer.specs.inside.Cuts.{AreFull, IsCut}
+use Rattle.lsp_buffer.proofs.Prelude.{ℕ, ◌≡◌, ◌+◌, ◌-◌, ◌<◌, ◌≤◌, List, [], ◌∷◌, ◌++◌, length, take, drop, get_or, ap, ◌∙◌, arith, concat, IsUtf8, IsCharBoundary, take_more, length-drop, length-take-le, get_or-take, append_assoc, append-nil, take-append-drop, concat-append, is_utf8-from_IsUtf8, IsUtf8-take, IsFull, AreBlocks, AreFull, IsCut, common_steps}
 use Rattle.lsp_buffer.proofs.Blocks.BlockLemmas.{ends_tail, full_last, full_front}
-use Rattle.std.proofs.lemmas.Grind.{common_steps}
 
 pub record IsCutSoFar (text rest : List ℕ) (blocks : List (List ℕ)) : Type 0 where
   pub whole : concat blocks ++ rest ≡ text
@@ -46,11 +38,9 @@ cut_all text rest blocks now block utf8 block_is now_is so_far =
 -- One block more.
 pub concat_more : (blocks : List (List ℕ)) (index : ℕ) (block : List ℕ) → index < length blocks
     → block ≡ get_or blocks index block → concat (take (index + 1) blocks) ≡ concat (take index blocks) ++ block
-concat_more blocks index block within at =
-    grind (arith, common_steps, take_more, one_block)
+concat_more blocks index block within at = grind (arith, common_steps, take_more, one_block)
 
 -- A text alone is one block.
 pub one_are : (before blocks : List (List ℕ)) (block bytes : List ℕ) → before ≡ [] → blocks ≡ before ++ block ∷ []
     → block ≡ bytes → IsUtf8 bytes → AreBlocks blocks
-one_are before blocks block bytes none is same utf8 =
-    grind (arith, common_steps, is_utf8-from_IsUtf8)
+one_are before blocks block bytes none is same utf8 = grind (arith, common_steps, is_utf8-from_IsUtf8)

@@ -1,21 +1,7 @@
 -- The end of a block: its place, and a line feed there.
-use Rattle.std.proofs.Common.{ℕ, zero, suc, ◌≡◌, ◌+◌, ◌-◌, ◌<◌, ◌≤◌, true, List, [], ◌∷◌, ◌++◌, length, take, drop, get_or, slice_index, sum_by, ⊎_elim, refl, ap, ◌∙◌, arith}
-use Rattle.std.specs.Prelude.{encode_utf8_all}
-use Rattle.std.specs.Str.{chars, IsUtf8}
-use Rattle.std.proofs.Math.Utf8.{encode}
-use Rattle.std.proofs.lemmas.Bool.{cases_lt}
-use Rattle.std.proofs.lemmas.List.{length-append, get_or-append_right, append-nil}
-use Rattle.std.proofs.lemmas.Str.{encodes-chars, encode_ascii, length-encode, len_utf8_bounds}
-use Rattle.lsp_text.specs.Text.{place_of}
-use Rattle.lsp_text.specs.TextLines.{starts_line, line_at, line_ends, line_start, line_feed}
-use Rattle.lsp_text.specs.LineStarts.{IsPlace}
-use Rattle.lsp_text.specs.Units.{units_between}
-use Rattle.lsp_text.proofs.TextLines.LineLemmas.{line_rises, splits_none_past, in_content_line, line_has_start}
-use Rattle.lsp_text.proofs.Positions.PlaceLemmas.{place_end}
+use Rattle.lsp_buffer.proofs.Prelude.{ℕ, zero, suc, ◌≡◌, ◌+◌, ◌-◌, ◌<◌, ◌≤◌, true, List, [], ◌∷◌, ◌++◌, length, take, drop, get_or, slice_index, sum_by, ⊎_elim, refl, ap, ◌∙◌, arith, encode_utf8_all, chars, IsUtf8, encode, cases_lt, length-append, get_or-append_right, append-nil, encodes-chars, encode_ascii, length-encode, len_utf8_bounds, place_of, starts_line, line_at, line_ends, line_start, line_feed, IsPlace, units_between, line_rises, splits_none_past, in_content_line, line_has_start, place_end, head_of, common_steps}
 use Rattle.lsp_text.proofs.TextLines.StartLemmas.{AllHigh, encode_high}
-use Rattle.lsp_buffer.specs.Blocks.{head_of}
 use Rattle.lsp_buffer.proofs.Blocks.SeamLemmas.{head}
-use Rattle.std.proofs.lemmas.Grind.{common_steps}
 
 -- The last one is a line feed.
 record EndsLine (bytes : List ℕ) : Type 0 where
@@ -25,16 +11,11 @@ record EndsLine (bytes : List ℕ) : Type 0 where
 ends_join : (a b : List ℕ) → EndsLine b → EndsLine (a ++ b)
 ends_join a b feed = record {
   some = omega (arith, length-append a b, feed.some);
-  feed =
-      grind (arith, common_steps, length-append, get_or-append_right);
+  feed = grind (arith, common_steps, length-append, get_or-append_right);
 }
 
 ends_tail : (a b : List ℕ) → 0 < length b → EndsLine (a ++ b) → EndsLine b
-ends_tail a b some feed = record {
-  some = some;
-  feed =
-      grind (arith, common_steps, length-append, get_or-append_right);
-}
+ends_tail a b some feed = record { some = some; feed = grind (arith, common_steps, length-append, get_or-append_right) }
 
 high_get : (bytes : List ℕ) (k : ℕ) → AllHigh bytes → k < length bytes → 128 ≤ get_or bytes k 0
 high_get [] k all h = absurd (omega arith)
@@ -42,13 +23,11 @@ high_get (b ∷ bytes) zero all h = all.0
 high_get (b ∷ bytes) (suc k) all h = high_get bytes k all.1 (omega arith)
 
 last_char : (x : ℕ) → EndsLine (encode x) → x ≡ 10
-last_char x feed =
-    grind (arith, common_steps, encode_ascii, high_get, encode, encode_high, cases_lt)
+last_char x feed = grind (arith, common_steps, encode_ascii, high_get, encode, encode_high, cases_lt)
 
 feed_text : (text : List ℕ) → EndsLine (encode_utf8_all text) → EndsLine text
 feed_text [] feed = absurd (omega (arith, feed.some))
-feed_text (x ∷ []) feed =
-    grind (arith, common_steps, encode, append-nil, last_char)
+feed_text (x ∷ []) feed = grind (arith, common_steps, encode, append-nil, last_char)
 feed_text (x ∷ y ∷ text) feed =
     let some : 0 < length (encode_utf8_all (y ∷ text)) =
     omega (arith, length-append (encode y) (encode_utf8_all text), length-encode y, (len_utf8_bounds y).0) in
@@ -80,8 +59,7 @@ empty_line units text feed =
 
 pub feed_head : (units : ℕ → ℕ) (bytes : List ℕ) → IsUtf8 bytes → 0 < length bytes
     → slice_index bytes (length bytes - 1) ≡ 10 → head_of units bytes ≡ 0
-feed_head units bytes utf8 some feed =
-    grind (arith, common_steps, empty_line, feed_text, encodes-chars)
+feed_head units bytes utf8 some feed = grind (arith, common_steps, empty_line, feed_text, encodes-chars)
 
 -- The end of a text is a place.
 pub end_at : (bytes : List ℕ) → IsUtf8 bytes → place_of (chars bytes) (length (chars bytes)) ≡ length bytes

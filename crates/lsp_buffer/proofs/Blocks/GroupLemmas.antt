@@ -1,13 +1,6 @@
 -- Groups of blocks.
-use Rattle.std.proofs.Common.{ℕ, ◌≡◌, ◌+◌, ◌-◌, ◌*◌, ◌/◌, ◌<◌, ◌≤◌, ◌⊎◌, List, [], ◌∷◌, ◌++◌, length, take, drop, set, ⊎_elim, inl, inr, sym, ap, ◌∙◌, arith, subst}
-use Rattle.std.specs.List.{concat}
-use Rattle.std.proofs.lemmas.Bool.{cases_lt}
-use Rattle.std.proofs.lemmas.List.{drop-set-add, drop-set-lt, drop-take, get_or-append_right, get_or-set_other, get_or-set_same, get_or-take, get_or_append_left, length-append, length-set, length-take, length-take-le, take-append-le, take-set-le, take-take}
-use Rattle.lsp_buffer.specs.declared.counts.Counts.{Counts}
-use Rattle.lsp_buffer.specs.Blocks.{AreBlocks, AreGroups, counts_of}
-use Rattle.lsp_buffer.specs.inside.Cuts.{AreFull}
+use Rattle.lsp_buffer.proofs.Prelude.{ℕ, ◌≡◌, ◌+◌, ◌-◌, ◌*◌, ◌/◌, ◌<◌, ◌≤◌, ◌⊎◌, List, [], ◌∷◌, ◌++◌, length, take, drop, set, ⊎_elim, inl, inr, sym, ap, ◌∙◌, arith, subst, concat, cases_lt, drop-set-add, drop-set-lt, drop-take, get_or-append_right, get_or-set_other, get_or-set_same, get_or-take, get_or_append_left, length-append, length-set, length-take, length-take-le, take-append-le, take-set-le, take-take, Counts, AreBlocks, AreGroups, counts_of, AreFull, common_steps}
 use Rattle.lsp_buffer.proofs.Blocks.CountLemmas.{some_full, some_low}
-use Rattle.std.proofs.lemmas.Grind.{common_steps}
 
 -- One group more.
 pub groups_more : (blocks : List (List ℕ)) (groups now : List Counts) (counts : Counts) → AreGroups blocks groups
@@ -59,8 +52,7 @@ module _ (blocks : List (List ℕ)) (groups : List Counts) (index : ℕ) (block 
     (are : AreGroups (set blocks index block) groups) where
   same_group : (g : ℕ) → (g < index / 32) ⊎ (index / 32 < g) → take 32 (drop (32 * g) (set blocks index block))
       ≡ take 32 (drop (32 * g) blocks)
-  same_group g =
-      grind (arith, common_steps, other_group, inr, inl)
+  same_group g = grind (arith, common_steps, other_group, inr, inl)
 
   pub groups_within : index / 32 < length groups → 32 * (index / 32) + 32 < length blocks
   groups_within inside = omega (arith, are.within, length-set blocks index block, inside)

@@ -1,26 +1,9 @@
 -- A text in three parts: what comes before a block, the block, and what comes after it. Positions, boundaries and
 -- changes of the text by those of the block.
-use Rattle.std.proofs.Common.{ℕ, zero, suc, ◌≡◌, ◌+◌, ◌-◌, ◌<◌, ◌≤◌, ◌⊎◌, false, List, [], ◌++◌, length, take, drop, Option, Some, None, option_map, ⊎_elim, inl, inr, refl, sym, ap, ◌∙◌, arith}
-use Rattle.std.specs.Prelude.{encode_utf8_all}
-use Rattle.std.specs.Str.{chars, IsCharBoundary}
-use Rattle.std.proofs.Math.Seq.{drop-append-add, take-append-add, drop-append_seam}
-use Rattle.std.proofs.lemmas.List.{length-append, take-append-le, drop-append-le, append-nil, take_at}
-use Rattle.std.proofs.lemmas.Str.{chars-append, chars-nil, encodes-chars}
-use Rattle.lsp_text.specs.declared.position.Position.{Position}
-use Rattle.lsp_text.specs.Text.{place_of}
-use Rattle.lsp_text.specs.TextLines.{line_ends, splits_crlf}
-use Rattle.lsp_text.specs.LineStarts.{IsPlace}
-use Rattle.lsp_text.specs.Positions.{exact_position, denoted}
-use Rattle.lsp_text.proofs.Positions.PlaceLemmas.{place_add, place_order, place_end}
-use Rattle.lsp_text.proofs.TextLines.LineLemmas.{splits_none_past}
-use Rattle.lsp_text.proofs.Positions.PositionLemmas.{denoted_whole}
+use Rattle.lsp_buffer.proofs.Prelude.{ℕ, zero, suc, ◌≡◌, ◌+◌, ◌-◌, ◌<◌, ◌≤◌, ◌⊎◌, false, List, [], ◌++◌, length, take, drop, Option, Some, None, option_map, ⊎_elim, inl, inr, refl, sym, ap, ◌∙◌, arith, encode_utf8_all, chars, IsCharBoundary, drop-append-add, take-append-add, drop-append_seam, length-append, take-append-le, drop-append-le, append-nil, take_at, chars-append, chars-nil, encodes-chars, Position, place_of, line_ends, splits_crlf, IsPlace, exact_position, denoted, place_add, place_order, place_end, splits_none_past, denoted_whole, EndsClear, carried, AreThree, Closes, IsClearSeam, IsAtOrAfter, IsBefore, position_after, position_from, common_steps}
 use Rattle.lsp_text.proofs.Positions.NearLemmas.{exact_near}
-use Rattle.lsp_buffer.specs.Blocks.{EndsClear, carried}
-use Rattle.lsp_buffer.specs.inside.Parts.{AreThree, Closes, IsClearSeam}
-use Rattle.lsp_buffer.specs.inside.Seams.{IsAtOrAfter, IsBefore, position_after, position_from}
 use Rattle.lsp_buffer.proofs.Blocks.SeamLemmas.{head, denoted_left, denoted_last, denoted_right, exact_right, head_right, seam_splits, beyond_splits}
 use Rattle.lsp_buffer.proofs.Blocks.BlockLemmas.{clear_chars, chars_close}
-use Rattle.std.proofs.lemmas.Grind.{common_steps}
 
 pub carried_none : (line : ℕ) → carried line 0 ≡ 0
 carried_none zero = refl
@@ -28,13 +11,11 @@ carried_none (suc line) = refl
 
 pub carried_low : (line head : ℕ) (p : Position) → IsAtOrAfter line head p → (line ≤ p.line)
     × (carried (p.line - line) head ≤ p.character)
-carried_low line head p =
-    grind (arith, common_steps)
+carried_low line head p = grind (arith, common_steps)
 
 pub position_back : (line head : ℕ) (p : Position) → IsAtOrAfter line head p
     → ◌≡◌ {A = Position} p (position_from line head (position_after line head p))
-position_back line head p after =
-    grind (arith, common_steps, carried_low)
+position_back line head p after = grind (arith, common_steps, carried_low)
 
 -- Characters: the first part is empty or ends with no carriage return.
 module _ (a r : List ℕ) (closes : Closes a) where
@@ -54,39 +35,32 @@ module _ (a r : List ℕ) (closes : Closes a) where
 
       at_none : a ≡ [] → denoted units (a ++ r) p ≡ option_map (λ k. length a + k)
           (denoted units r (position_after (line_ends a) (head units a) p))
-      at_none e =
-          grind (arith, common_steps, carried_none)
+      at_none e = grind (arith, common_steps, carried_none)
 
   pub exact_after : (units : ℕ → ℕ) (k : ℕ) → k ≤ length r
       → ◌≡◌ {A = Position} (exact_position units (a ++ r) (length a + k))
       (position_from (line_ends a) (head units a) (exact_position units r k))
-  exact_after units k h =
-      grind (arith, common_steps, carried_none, exact_right)
+  exact_after units k h = grind (arith, common_steps, carried_none, exact_right)
 
   pub head_of_both : (units : ℕ → ℕ) → head units (a ++ r) ≡ carried (line_ends r) (head units a) + head units r
-  head_of_both units =
-      grind (arith, common_steps, carried_none, head_right)
+  head_of_both units = grind (arith, common_steps, carried_none, head_right)
 
   pub splits_after : (k : ℕ) → splits_crlf (a ++ r) (length a + k) ≡ splits_crlf r k
-  splits_after k =
-      grind (arith, common_steps, beyond_splits)
+  splits_after k = grind (arith, common_steps, beyond_splits)
 
   place_after : (k : ℕ) → place_of (a ++ r) (length a + k) ≡ length (encode_utf8_all a) + place_of r k
-  place_after k =
-      grind (arith, common_steps, place_add, take_at, drop-append_seam)
+  place_after k = grind (arith, common_steps, place_add, take_at, drop-append_seam)
 
 module _ (b c : List ℕ) where
   pub denoted_before : (units : ℕ → ℕ) → ((c : ℕ) → 1 ≤ units c) → (p : Position) → (c ≡ [])
       ⊎ (EndsClear b × IsBefore (line_ends b) (head units b) p) → denoted units (b ++ c) p ≡ denoted units b p
-  denoted_before units some p after =
-      grind (arith, common_steps, append-nil, denoted_left, denoted_last)
+  denoted_before units some p after = grind (arith, common_steps, append-nil, denoted_left, denoted_last)
 
   place_before : (k : ℕ) → k ≤ length b → place_of (b ++ c) k ≡ place_of b k
   place_before k h = ap (λ cs. length (encode_utf8_all cs)) (take-append-le k b c h)
 
   splits_before : (k : ℕ) → k ≤ length b → IsClearSeam b c → splits_crlf (b ++ c) k ≡ splits_crlf b k
-  splits_before k h after =
-      grind (arith, common_steps, append-nil, seam_splits)
+  splits_before k h after = grind (arith, common_steps, append-nil, seam_splits)
 
 module _ (bytes front block rest : List ℕ) (are : AreThree bytes front block rest) where
   a : List ℕ
@@ -106,8 +80,7 @@ module _ (bytes front block rest : List ℕ) (are : AreThree bytes front block r
   closes_chars = chars_close front are.front_utf8 are.closes
 
   seam_chars : IsClearSeam (chars block) (chars rest)
-  seam_chars =
-      grind (arith, common_steps, inl, chars-nil, inr, clear_chars)
+  seam_chars = grind (arith, common_steps, inl, chars-nil, inr, clear_chars)
 
   front_len : length (encode_utf8_all (chars front)) ≡ length front
   front_len = ap length (encodes-chars front are.front_utf8)
@@ -137,8 +110,7 @@ module _ (bytes front block rest : List ℕ) (are : AreThree bytes front block r
       inside : (chars rest ≡ [])
           ⊎ (EndsClear (chars block) × IsBefore (line_ends (chars block)) (head units (chars block))
           (position_after (line_ends (chars front)) (head units (chars front)) p))
-      inside =
-          grind (arith, common_steps, inl, chars-nil, inr, seam_chars)
+      inside = grind (arith, common_steps, inl, chars-nil, inr, seam_chars)
 
       placed : (o : Option ℕ) → denoted units (chars block) q ≡ o →
           option_map (place_of (chars front ++ (chars block ++ chars rest))) (option_map (λ k. length (chars front) + k)
@@ -177,8 +149,7 @@ module _ (bytes front block rest : List ℕ) (are : AreThree bytes front block r
       size = ap length chars_are ∙ length-append (chars front) (chars block ++ chars rest)
 
       start_at : place_of (chars bytes) (length (chars front)) ≡ length front
-      start_at =
-          grind (arith, common_steps, chars_are, take_at, front_len)
+      start_at = grind (arith, common_steps, chars_are, take_at, front_len)
 
       order : length (chars front) ≤ index
       order = place_order (chars bytes) (length (chars front)) index (omega (arith, size))
@@ -229,8 +200,7 @@ module _ (bytes front block rest : List ℕ) (are : AreThree bytes front block r
 
   pub boundary_in : (place : ℕ) → length front ≤ place → (rest ≡ []) ⊎ (place - length front < length block)
       → IsCharBoundary bytes place → IsCharBoundary block (place - length front)
-  boundary_in place low high at =
-      grind (arith, common_steps, length-append)
+  boundary_in place low high at = grind (arith, common_steps, length-append)
 
   -- What stands from a place on, and before it.
   pub drop_three : (n : ℕ) → n ≤ length block → drop (length front + n) bytes ≡ drop n block ++ rest

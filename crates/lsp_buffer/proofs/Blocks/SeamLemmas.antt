@@ -1,28 +1,16 @@
 -- Two texts, one after the other, the first of which ends with no carriage return: the lines and positions of both by
 -- those of each.
-use Rattle.std.proofs.Common.{ℕ, zero, suc, ◌≡◌, ◌+◌, ◌-◌, ◌<◌, ◌≤◌, ◌==◌, Bool, true, false, cond, List, [], ◌∷◌, ◌++◌, length, take, drop, map, get_or, slice_index, filter, find, sum_by, nat_le, Option, Some, None, option_map, ⊎_elim, refl, sym, ap, ◌∙◌, arith, subst, le-ltb, lt-ltb, eqb-true}
-use Rattle.std.proofs.lemmas.Bool.{cases_Bool, cases_lt, lt-leb, false_from_ne_true}
+use Rattle.lsp_buffer.proofs.Prelude.{ℕ, zero, suc, ◌≡◌, ◌+◌, ◌-◌, ◌<◌, ◌≤◌, ◌==◌, Bool, true, false, cond, List, [], ◌∷◌, ◌++◌, length, take, drop, map, get_or, slice_index, filter, find, sum_by, nat_le, Option, Some, None, option_map, ⊎_elim, refl, sym, ap, ◌∙◌, arith, subst, le-ltb, lt-ltb, eqb-true, cases_Bool, cases_lt, lt-leb, false_from_ne_true, length-append, length-drop, get_or-append_right, get_or_append_left, take-append-le, drop-append-le, append-nil, take_all, drop-append-add, take-append-add, Position, starts_line, splits_crlf, line_at, line_ends, numbers_from, is_in_content, line_content, line_start, line_stop, units_between, exact_position, denoted, line_rises, splits_none_past, in_content_line, line_has_start, line_has_stop, IsStart, IsStop, last_stop, EndsClear, carried, common_steps}
 use Rattle.std.proofs.lemmas.Bool.Decides.{nat_tests}
-use Rattle.std.proofs.lemmas.List.{length-append, length-drop, get_or-append_right, get_or_append_left, take-append-le, drop-append-le, append-nil, take_all}
 use Rattle.std.proofs.lemmas.List.Elements.{filter-append}
 use Rattle.std.proofs.lemmas.List.Sums.{sum_by-append}
-use Rattle.std.proofs.Math.Seq.{drop-append-add, take-append-add}
-use Rattle.lsp_text.specs.declared.position.Position.{Position}
-use Rattle.lsp_text.specs.TextLines.{starts_line, splits_crlf, line_at, line_ends, numbers_from, is_in_content, line_content, line_start, line_stop}
-use Rattle.lsp_text.specs.Units.{units_between}
-use Rattle.lsp_text.specs.Positions.{exact_position, denoted}
-use Rattle.lsp_text.proofs.TextLines.LineLemmas.{line_rises, splits_none_past, in_content_line, line_has_start, line_has_stop, IsStart, IsStop}
-use Rattle.lsp_text.proofs.TextLines.ContentLemmas.{last_stop}
 use Rattle.lsp_text.proofs.TextLines.StartRowLemmas.{first_starts}
 use Rattle.lsp_text.proofs.Counting.UnitLemmas.{units_rise}
 use Rattle.lsp_text.proofs.TextLines.SpliceLemmas.{filter_moved}
-use Rattle.lsp_buffer.specs.Blocks.{EndsClear, carried}
-use Rattle.std.proofs.lemmas.Grind.{common_steps}
 
 -- Rows of numbers.
 numbers_split : (first m n : ℕ) → numbers_from first (m + n) ≡ numbers_from first m ++ numbers_from (first + m) n
-numbers_split first zero n =
-    grind (arith, common_steps)
+numbers_split first zero n = grind (arith, common_steps)
 numbers_split first (suc m) n =
     let a : suc m + n ≡ suc (m + n) = omega arith in
     let b : suc first + m ≡ first + suc m = omega arith in
@@ -100,8 +88,7 @@ module _ (a b : List ℕ) where
 -- Where the first ends with no carriage return.
 module _ (a b : List ℕ) (clear : EndsClear a) where
   last_at : (k : ℕ) → suc k ≡ length a → (slice_index a k == 13) ≡ false
-  last_at k h =
-      grind (arith, common_steps, false_from_ne_true, eqb-true)
+  last_at k h = grind (arith, common_steps, false_from_ne_true, eqb-true)
 
   seam_ends : (k : ℕ) → k ≤ length a → starts_line (a ++ b) k ≡ starts_line a k
   seam_ends zero h = refl
@@ -127,8 +114,7 @@ module _ (a b : List ℕ) (clear : EndsClear a) where
   seam_whole = splits_none_past a (length a) (omega arith)
 
   beyond_ends : (k : ℕ) → starts_line (a ++ b) (suc (length a + k)) ≡ starts_line b (suc k)
-  beyond_ends k =
-      grind (arith, common_steps, right_at)
+  beyond_ends k = grind (arith, common_steps, right_at)
 
   pub beyond_splits : (k : ℕ) → splits_crlf (a ++ b) (length a + k) ≡ splits_crlf b k
   beyond_splits zero = ap (splits_crlf (a ++ b)) (omega arith) ∙ (seam_splits (length a) (omega arith) ∙ seam_whole)
@@ -145,8 +131,7 @@ module _ (a b : List ℕ) (clear : EndsClear a) where
       ap (line_at (a ++ b)) at ∙ step (starts_line b (suc k)) (beyond_ends k) (beyond_line k)
     where
       step : (e : Bool) → starts_line (a ++ b) (suc (length a + k)) ≡ e → line_at (a ++ b) (length a + k) ≡ line_ends a
-          + line_at b k →
-          cond (starts_line (a ++ b) (suc (length a + k))) (suc (line_at (a ++ b) (length a + k)))
+          + line_at b k → cond (starts_line (a ++ b) (suc (length a + k))) (suc (line_at (a ++ b) (length a + k)))
           (line_at (a ++ b) (length a + k)) ≡ line_ends a + cond e (suc (line_at b k)) (line_at b k)
       step true is ih = rw is (omega arith)
       step false is ih = rw is ih
@@ -159,8 +144,7 @@ module _ (a b : List ℕ) (clear : EndsClear a) where
   content_left line k h = rw (seam_line k h, seam_splits k h) refl
 
   content_right : (line k : ℕ) → is_in_content (a ++ b) (line_ends a + line) (length a + k) ≡ is_in_content b line k
-  content_right line k =
-      grind (arith, common_steps, beyond_line, beyond_splits, nat_tests)
+  content_right line k = grind (arith, common_steps, beyond_line, beyond_splits, nat_tests)
 
   inside : (line k : ℕ) → line < line_ends a → is_in_content (a ++ b) line k ≡ true → k ≤ length a
   inside line k there h =
@@ -282,8 +266,7 @@ module _ (a b : List ℕ) (clear : EndsClear a) where
       (grind (arith, common_steps, numbers_split, filter-append, append-nil))
     where
       not_there : (k : ℕ) → length a ≤ k → is_in_content a line k ≡ false
-      not_there k o =
-          grind (arith, common_steps, in_content_line, line_rises, cases_Bool)
+      not_there k o = grind (arith, common_steps, in_content_line, line_rises, cases_Bool)
 
   -- The row of a line that the second has: first what the first text has of it.
   row_right : (line : ℕ) → line_content (a ++ b) (line_ends a + line)
@@ -317,13 +300,11 @@ module _ (a b : List ℕ) (clear : EndsClear a) where
   -- Units.
   pub units_left : (units : ℕ → ℕ) (i k : ℕ) → i ≤ length a → k ≤ length a → units_between units (a ++ b) i k
       ≡ units_between units a i k
-  units_left units i k h g =
-      grind (arith, common_steps, sum_by, drop-append-le, take-append-le, length-drop)
+  units_left units i k h g = grind (arith, common_steps, sum_by, drop-append-le, take-append-le, length-drop)
 
   pub units_right : (units : ℕ → ℕ) (i k : ℕ) → units_between units (a ++ b) (length a + i) (length a + k)
       ≡ units_between units b i k
-  units_right units i k =
-      grind (arith, common_steps, sum_by, drop-append-add)
+  units_right units i k = grind (arith, common_steps, sum_by, drop-append-add)
 
   -- The units of a line that the second has: its first line goes on with the last of the first.
   pub units_line : (units : ℕ → ℕ) (line k : ℕ) → line ≤ line_ends b
@@ -342,8 +323,7 @@ module _ (a b : List ℕ) (clear : EndsClear a) where
       let whole : k - 0 ≡ k = omega arith in
       ap (λ s. units_between units (a ++ b) s (length a + k)) first ∙
       (grind (arith, common_steps, sum_by, take-append-add, sum_by-append, zero_is))
-  units_line units (suc line) k h =
-      grind (arith, common_steps, start_right, units_right)
+  units_line units (suc line) k h = grind (arith, common_steps, start_right, units_right)
 
   -- An index of the first in its last line has fewer units before it than that line.
   units_before : (units : ℕ → ℕ) → ((c : ℕ) → 1 ≤ units c) → (line k : ℕ) → k < length a
@@ -424,12 +404,10 @@ module _ (a b : List ℕ) (clear : EndsClear a) where
 
       fails_moved : (k : ℕ) → (units_between units (a ++ b) (line_start (a ++ b) p.line) (length a + k) == p.character)
           ≡ false
-      fails_moved k =
-          grind (arith, common_steps, false_from_ne_true, eqb-true, line_units)
+      fails_moved k = grind (arith, common_steps, false_from_ne_true, eqb-true, line_units)
 
       fails_last : (units_between units a (line_start a p.line) (length a) == p.character) ≡ false
-      fails_last =
-          grind (arith, common_steps, false_from_ne_true, eqb-true)
+      fails_last = grind (arith, common_steps, false_from_ne_true, eqb-true)
 
       within : line_start a p.line ≤ length a
       within = omega (arith, (line_has_start a p.line (omega (arith, there))).in_row)
@@ -506,24 +484,19 @@ module _ (a b : List ℕ) (clear : EndsClear a) where
           (line_stop (a ++ b) (line_ends a + line))) (carried line (head units a) + character))
           (Some (line_stop (a ++ b) (line_ends a + line)))
           (find (λ k. units_between units (a ++ b) (line_start (a ++ b) (line_ends a + line)) k == carried line
-          (head units a) + character) (line_content (a ++ b) (line_ends a + line)))
-          ≡ option_map (λ k. length a + k)
+          (head units a) + character) (line_content (a ++ b) (line_ends a + line))) ≡ option_map (λ k. length a + k)
           (cond (nat_le (units_between units b (line_start b line) (line_stop b line)) character)
           (Some (line_stop b line)) (find (λ k. units_between units b (line_start b line) k == character)
           (line_content b line)))
-      in_line h =
-          grind (arith, common_steps, nat_le, stop_right, units_line, same_order, searched, choose, find)
+      in_line h = grind (arith, common_steps, nat_le, stop_right, units_line, same_order, searched, choose, find)
 
   -- The exact position of an index of the second.
-  pub exact_right : (units : ℕ → ℕ) (k : ℕ) → k ≤ length b →
-      exact_position units (a ++ b) (length a + k) ≡ record {
-        line = line_ends a + (exact_position units b k).line;
-        character = carried (exact_position units b k).line (head units a) + (exact_position units b k).character;
-      }
-  exact_right units k h =
-      grind (arith, common_steps, beyond_line, units_line, line_rises)
+  pub exact_right : (units : ℕ → ℕ) (k : ℕ) → k ≤ length b → exact_position units (a ++ b) (length a + k) ≡ record {
+    line = line_ends a + (exact_position units b k).line;
+    character = carried (exact_position units b k).line (head units a) + (exact_position units b k).character;
+  }
+  exact_right units k h = grind (arith, common_steps, beyond_line, units_line, line_rises)
 
   -- The last line of both.
   pub head_right : (units : ℕ → ℕ) → head units (a ++ b) ≡ carried (line_ends b) (head units a) + head units b
-  head_right units =
-      grind (arith, common_steps, seam_count, length-append, units_line)
+  head_right units = grind (arith, common_steps, seam_count, length-append, units_line)

@@ -1,26 +1,10 @@
 -- A change of a text in blocks: in its block, or with the blocks cut again.
-use Rattle.std.proofs.Common.{ℕ, zero, suc, ◌≡◌, ◌+◌, ◌-◌, ◌/◌, ◌<◌, ◌≤◌, ◌⊎◌, List, [], ◌∷◌, ◌++◌, length, take, drop, set, get_or, ⊎_elim, inl, inr, refl, sym, ap, ◌∙◌, arith, subst}
-use Rattle.std.specs.List.{concat, replace_range}
-use Rattle.std.specs.Str.{IsUtf8, IsCharBoundary}
-use Rattle.std.proofs.Math.Seq.{drop-cons}
-use Rattle.std.proofs.lemmas.Bool.{cases_lt}
-use Rattle.std.proofs.lemmas.List.{append_assoc, drop_all, get_or_default, length-append, length-drop, length-take-le, set-get_or, set-set, set_split, take-append-drop, take-take}
-use Rattle.std.proofs.lemmas.List.Folds.{concat-append}
-use Rattle.std.proofs.lemmas.Str.{IsUtf8-append, IsUtf8-drop, IsUtf8-from_is_utf8, IsUtf8-take, is_utf8-from_IsUtf8}
-use Rattle.lsp_buffer.specs.declared.counts.Counts.{Counts}
-use Rattle.lsp_buffer.specs.declared.find.Found.{Found}
-use Rattle.lsp_buffer.specs.declared.find.Target.TheVariants.{Offset}
-use Rattle.lsp_buffer.specs.declared.text_buffer.change.BlockRange.{BlockRange}
-use Rattle.lsp_buffer.specs.Blocks.{AreBlocks, AreGroups, EndsClear, IsFull, IsTextBuffer}
-use Rattle.lsp_buffer.specs.inside.Changes.{IsChange, IsRangeOf, IsTaken, JoinsNext, StaysInside, text_after, text_left}
-use Rattle.lsp_buffer.specs.inside.Cuts.{AreFull}
-use Rattle.lsp_buffer.specs.inside.Parts.{IsFound}
+use Rattle.lsp_buffer.proofs.Prelude.{ℕ, zero, suc, ◌≡◌, ◌+◌, ◌-◌, ◌/◌, ◌<◌, ◌≤◌, ◌⊎◌, List, [], ◌∷◌, ◌++◌, length, take, drop, set, get_or, ⊎_elim, inl, inr, refl, sym, ap, ◌∙◌, arith, subst, concat, replace_range, IsUtf8, IsCharBoundary, drop-cons, cases_lt, append_assoc, drop_all, get_or_default, length-append, length-drop, length-take-le, set-get_or, set-set, set_split, take-append-drop, take-take, concat-append, IsUtf8-append, IsUtf8-drop, IsUtf8-from_is_utf8, IsUtf8-take, is_utf8-from_IsUtf8, Counts, Found, Offset, BlockRange, AreBlocks, AreGroups, EndsClear, IsFull, IsTextBuffer, IsChange, IsRangeOf, IsTaken, JoinsNext, StaysInside, text_after, text_left, AreFull, IsFound, common_steps}
 use Rattle.lsp_buffer.proofs.Blocks.BlockLemmas.{IsSplit, blocks_some, concat_split, ends_join, ends_tail, joined_blocks, split}
 use Rattle.lsp_buffer.proofs.Blocks.CutLemmas.{concat_more}
 use Rattle.lsp_buffer.proofs.Blocks.GroupLemmas.{groups_front}
 use Rattle.lsp_buffer.proofs.Blocks.PartLemmas.{take_three, drop_three, boundary_in}
 use Rattle.lsp_buffer.proofs.Queries.FoundLemmas.{IsPlaceFound, chunk_boundary, found_place, part_here}
-use Rattle.std.proofs.lemmas.Grind.{common_steps}
 
 -- What a change makes of a text in parts: the front of the first block, the new text, and the back of the last.
 pub replaced_parts : (bytes front block rest front' block' rest' new : List ℕ) (start stop from from' : ℕ)
@@ -48,8 +32,7 @@ replaced_parts bytes front block rest front' block' rest' new start stop from fr
 
 -- The back of a block ends as the block does, and so does what ends with it.
 pub back_ends : (block front : List ℕ) (n : ℕ) → n < length block → EndsClear block → EndsClear (front ++ drop n block)
-back_ends block front n h feed =
-    grind (arith, common_steps, ends_join, ends_tail, length-drop, take-append-drop)
+back_ends block front n h feed = grind (arith, common_steps, ends_join, ends_tail, length-drop, take-append-drop)
 
 -- How long a changed text is.
 pub replaced_length : (bytes new : List ℕ) (start stop : ℕ) → start ≤ stop → stop ≤ length bytes
@@ -114,8 +97,7 @@ module _ (blocks : List (List ℕ)) (from to : Found) (start stop : ℕ)
       (concat (drop (to.index + 1) blocks)) new start stop from.before.len to.before.len one two is.at_start is.at_end
 
   range_order : from.index ≤ to.index
-  range_order =
-      grind (arith, common_steps, first_texts, cases_lt)
+  range_order = grind (arith, common_steps, first_texts, cases_lt)
 
   range_end : to.index + 1 < length blocks → stop - to.before.len < length (get_or blocks to.index [])
   range_end more =
@@ -184,8 +166,7 @@ module _ (blocks : List (List ℕ)) (range : BlockRange) (new : List ℕ) (chang
   pub left_text : (front back text : List ℕ) → front ≡ get_or blocks range.first front
       → back ≡ get_or blocks range.last back → text ≡ take range.start front ++ (new ++ drop range.end back)
       → text ≡ text_left blocks range new
-  left_text front back text front_is back_is text_is =
-      grind (arith, common_steps, first_here, last_here)
+  left_text front back text front_is back_is text_is = grind (arith, common_steps, first_here, last_here)
 
   block_low : (index : ℕ) → index < length blocks → length (get_or blocks index []) ≤ 2147483648
   block_low index within = omega (
@@ -236,8 +217,7 @@ module _ (blocks : List (List ℕ)) (range : BlockRange) (new : List ℕ) (chang
       last_split.after
 
   left_ends : range.last + 1 < length blocks → EndsClear (text_left blocks range new)
-  left_ends more =
-      grind (arith, common_steps, append_assoc, back_ends, last_full)
+  left_ends more = grind (arith, common_steps, append_assoc, back_ends, last_full)
 
   -- What is left is full, or joined with the next block.
   pub left_full : IsUtf8 new → (JoinsNext blocks (range.last + 1) (length (text_left blocks range new)) → ⊥)
@@ -245,8 +225,7 @@ module _ (blocks : List (List ℕ)) (range : BlockRange) (new : List ℕ) (chang
   left_full utf8 never more = record {
     utf8 = is_utf8-from_IsUtf8 (text_left blocks range new) (left_utf8 utf8);
     ends = left_ends more;
-    enough =
-        grind (arith, common_steps, cases_lt);
+    enough = grind (arith, common_steps, cases_lt);
   }
 
   -- ---- the text that is cut
@@ -267,17 +246,11 @@ module _ (blocks : List (List ℕ)) (range : BlockRange) (new : List ℕ) (chang
   taken_next text next past utf8 text_is past_is within next_is = record {
     order = omega (arith, past_is, change.order);
     within = omega (arith, within);
-    whole =
-        grind (arith, common_steps, append_assoc);
+    whole = grind (arith, common_steps, append_assoc);
     full = λ more.
         let full : IsFull (get_or blocks past []) =
         ⊎_elim
-        (λ (e : drop (past + 1) blocks ≡ []). absurd (omega (
-          arith,
-          more,
-          ap length e,
-          length-drop (past + 1) blocks,
-        )))
+        (λ (e : drop (past + 1) blocks ≡ []). absurd (omega (arith, more, ap length e, length-drop (past + 1) blocks)))
         (λ (e : IsFull (get_or blocks past []) × AreBlocks (drop (past + 1) blocks)). e.0)
         (split blocks past change.are within).after in
         let here : IsFull next = subst IsFull (get_or_default blocks past [] next within ∙ sym next_is) full in
@@ -300,12 +273,10 @@ module _ (blocks : List (List ℕ)) (range : BlockRange) (new : List ℕ) (chang
   module _ (text : List ℕ) (past : ℕ) (fresh : List (List ℕ)) (taken : IsTaken blocks range new text past)
       (fresh_text : concat fresh ≡ text) (fresh_are : AreBlocks fresh) (fresh_full : IsFull text → AreFull fresh) where
     pub cut_text : concat (take range.first blocks ++ (fresh ++ drop past blocks)) ≡ text_after blocks range new
-    cut_text =
-        grind (arith, common_steps, concat-append)
+    cut_text = grind (arith, common_steps, concat-append)
 
     after : (drop past blocks ≡ []) ⊎ (AreFull fresh × AreBlocks (drop past blocks))
-    after =
-        grind (arith, common_steps, inr, drop_are, inl, drop_all, cases_lt)
+    after = grind (arith, common_steps, inr, drop_are, inl, drop_all, cases_lt)
 
     cut_groups : (next : List (List ℕ)) (groups now : List Counts) → next ≡ take range.first blocks
         ++ (fresh ++ drop past blocks) → AreGroups blocks groups → now ≡ take (range.first / 32) groups
@@ -345,8 +316,7 @@ module _ (blocks : List (List ℕ)) (range : BlockRange) (new : List ℕ) (chang
       put_end = subst (λ (b : List ℕ). IsCharBoundary b range.end) back_is change.at_end
 
       put_left : replace_range block range.start range.end new ≡ text_left blocks range new
-      put_left =
-          grind (arith, common_steps, append_assoc)
+      put_left = grind (arith, common_steps, append_assoc)
 
       pub put_small : length (replace_range block range.start range.end new) ≤ 2147483648
       put_small = omega (arith, left_small, ap length put_left)
@@ -371,8 +341,7 @@ module _ (blocks : List (List ℕ)) (range : BlockRange) (new : List ℕ) (chang
 
         put_after : IsUtf8 new → (drop (range.last + 1) blocks ≡ [])
             ⊎ (AreFull (text_left blocks range new ∷ []) × AreBlocks (drop (range.last + 1) blocks))
-        put_after utf8 =
-            grind (arith, common_steps, inr, left_full, drop_are, inl, drop_all, cases_lt)
+        put_after utf8 = grind (arith, common_steps, inr, left_full, drop_are, inl, drop_all, cases_lt)
 
         pub put_are : IsUtf8 new → AreBlocks next
         put_are utf8 = subst AreBlocks (sym next_parts)

@@ -1,13 +1,7 @@
 -- What a change of a range makes of the bytes of a text, and of its lines.
-use Rattle.std.proofs.Common.{ℕ, ◌≡◌, ◌+◌, ◌-◌, ◌<◌, ◌≤◌, true, List, ◌++◌, length, take, drop, sym, ap, ap₂, ◌∙◌, subst, arith, Result, Ok, Err, OnOk, OnErr, is_err}
-use Rattle.std.proofs.lemmas.List.{length-append, length-drop, length-take, length-take-le, append_assoc, take_at, drop_at, drop-drop, take-append-drop}
-use Rattle.std.proofs.lemmas.Str.{IsCharBoundary-at_seam, IsUtf8-append, IsUtf8-drop}
-use Rattle.std.specs.List.{slice_range, replace_range}
+use Rattle.lsp_buffer.proofs.Prelude.{ℕ, ◌≡◌, ◌+◌, ◌-◌, ◌<◌, ◌≤◌, true, List, ◌++◌, length, take, drop, sym, ap, ap₂, ◌∙◌, subst, arith, Result, Ok, Err, OnOk, OnErr, is_err, length-append, length-drop, length-take, length-take-le, append_assoc, take_at, drop_at, drop-drop, take-append-drop, IsCharBoundary-at_seam, IsUtf8-append, IsUtf8-drop, slice_range, replace_range, IsCharBoundary, IsUtf8, AreLinesOf, common_steps}
 use Rattle.std.specs.String.Boundary.{IsSplitPoint}
-use Rattle.std.specs.Str.{IsCharBoundary, IsUtf8}
-use Rattle.lsp_text.specs.LineStarts.{AreLinesOf}
 use Rattle.lsp_text.specs.Splice.{IsSpliced}
-use Rattle.std.proofs.lemmas.Grind.{common_steps}
 
 assoc : (a b c : List ℕ) → a ++ b ++ c ≡ a ++ (b ++ c)
 assoc a b c = simp append_assoc

@@ -1,25 +1,12 @@
 -- The content of a line, found by the positions at its start and after all of it.
+use Rattle.lsp_buffer.proofs.Prelude.{chars, encodes-chars, Utf8, Position, denoted, exact_position, place_of, line_at, line_ends, line_start, line_stop, units_in, units_between, stop_behind, stop_within, line_has_start, in_content_line, in_content_whole, place_boundary, place_rises, units_total, exact_denotes, common_steps}
 use Rattle.std.proofs.Common.{◌≡◌, ◌≤◌, ◌-◌, ℕ, List, length, take, drop, ap, ◌∙◌, sym, arith, Some, Result, Ok, Err, IsUtf8}
 use Rattle.std.specs.List.{sum_by}
 use Rattle.std.specs.Result.{result_ok, result_unwrap_or}
-use Rattle.std.specs.Str.{chars}
 use Rattle.std.specs.declared.ops.Range.{Range}
-use Rattle.std.proofs.lemmas.Str.{encodes-chars}
-use Rattle.lsp_text.specs.declared.encoding.Encoding.TheVariants.{Utf8}
-use Rattle.lsp_text.specs.declared.position.Position.{Position}
-use Rattle.lsp_text.specs.Positions.{denoted, exact_position}
-use Rattle.lsp_text.specs.Text.{place_of}
-use Rattle.lsp_text.specs.TextLines.{line_at, line_ends, line_start, line_stop}
-use Rattle.lsp_text.specs.Units.{units_in, units_between}
-use Rattle.lsp_text.proofs.TextLines.ContentLemmas.{stop_behind, stop_within}
-use Rattle.lsp_text.proofs.TextLines.LineLemmas.{line_has_start, in_content_line, in_content_whole}
 use Rattle.lsp_text.proofs.Positions.PastLemmas.{past_line}
-use Rattle.lsp_text.proofs.Positions.PlaceLemmas.{place_boundary, place_rises}
-use Rattle.lsp_text.proofs.PlainLemmas.{units_total}
-use Rattle.lsp_text.proofs.Positions.PositionLemmas.{exact_denotes}
 use Rattle.lsp_buffer.specs.Contents.{IsContentOf}
 use Rattle.lsp_buffer.proofs.Queries.FoundLemmas.{units_some}
-use Rattle.std.proofs.lemmas.Grind.{common_steps}
 
 no_units : (units : ℕ → ℕ) (text : List ℕ) (k : ℕ) → units_between units text k k ≡ 0
 no_units units text k = ap (λ n. sum_by units (take n (drop k text))) (let e : k - k ≡ 0 = omega arith in e)
@@ -47,8 +34,7 @@ pub last_denotes : (bytes : List ℕ) (line : ℕ) → IsUtf8 bytes → length b
     → line ≤ line_ends (chars bytes) →
     denoted (units_in Utf8) (chars bytes) (record { line = line; character = 4294967295 })
     ≡ Some (line_stop (chars bytes) line)
-last_denotes bytes line utf8 size there =
-    grind (arith, common_steps, past_line, units_total, encodes-chars)
+last_denotes bytes line utf8 size there = grind (arith, common_steps, past_line, units_total, encodes-chars)
 
 -- A result that is there is taken, and not the default.
 pub value_of : {E : Type 0} (found : Result ℕ E) (default value : ℕ) → result_ok found ≡ Some value

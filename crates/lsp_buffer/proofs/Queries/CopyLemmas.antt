@@ -1,9 +1,6 @@
 -- The bytes of a text from one on, which are copied chunk by chunk.
-use Rattle.std.proofs.Common.{ℕ, ◌≡◌, ◌+◌, ◌-◌, ◌≤◌, List, ◌++◌, length, take, drop, min, sym, ap, ◌∙◌, arith}
-use Rattle.std.proofs.lemmas.List.{append_assoc, drop-append-le, drop-drop, drop_at, length-append, length-drop, length-take, length-take-le, take-append-drop, take-take, take_at}
-use Rattle.std.proofs.Math.Seq.{take-add}
+use Rattle.lsp_buffer.proofs.Prelude.{ℕ, ◌≡◌, ◌+◌, ◌-◌, ◌≤◌, List, ◌++◌, length, take, drop, min, sym, ap, ◌∙◌, arith, append_assoc, drop-append-le, drop-drop, drop_at, length-append, length-drop, length-take, length-take-le, take-append-drop, take-take, take_at, take-add, common_steps}
 use borrow.Rule.Slice.PartMut.{put_mid}
-use Rattle.std.proofs.lemmas.Grind.{common_steps}
 
 -- The first bytes are copied, in place of as many of `old`.
 pub record IsCopied (bytes old now : List ℕ) (start end copied : ℕ) : Type 0 where
@@ -41,12 +38,10 @@ module _ (bytes old now chunk : List ℕ) (start end copied n : ℕ) (ends : IsE
 
   module _ (chunk_is : chunk ≡ take (length chunk) (drop (start + copied) bytes)) where
     piece : take n chunk ≡ take n (drop copied (drop start bytes))
-    piece =
-        grind (arith, common_steps, take-take, drop-drop)
+    piece = grind (arith, common_steps, take-take, drop-drop)
 
     head : take copied now ++ take n chunk ≡ take (copied + n) (drop start bytes)
-    head =
-        grind (arith, common_steps, take_at, take-add)
+    head = grind (arith, common_steps, take_at, take-add)
 
     -- One chunk more.
     pub copied_more : (part : List ℕ) → part ≡ take n chunk ++ drop n (take (end - copied) (drop copied now))

@@ -1,35 +1,11 @@
 -- The block that is found for a byte offset or a position, and what it says of the text.
-use Rattle.std.proofs.Common.{ℕ, zero, suc, ◌≡◌, ◌+◌, ◌-◌, ◌*◌, ◌<◌, ◌≤◌, ◌⊎◌, false, List, [], ◌++◌, length, take, drop, get_or, Option, option_map, ⊎_elim, inl, inr, refl, sym, ap, ◌∙◌, arith, subst}
-use Rattle.std.specs.List.{concat}
-use Rattle.std.specs.Str.{chars, IsUtf8, IsCharBoundary}
-use Rattle.std.proofs.lemmas.Bool.{cases_lt}
-use Rattle.std.proofs.lemmas.List.{append-nil, drop_all, length-append, length-drop, get_or_default, take_at}
-use Rattle.std.proofs.lemmas.Str.{encodes-chars, length-le-encodes, IsUtf8-from_is_utf8}
-use Rattle.lsp_text.specs.declared.position.Position.{Position}
-use Rattle.lsp_text.specs.declared.encoding.Encoding.{Encoding}
-use Rattle.lsp_text.specs.declared.encoding.Encoding.TheVariants.{Utf8, Utf16, Utf32}
-use Rattle.lsp_text.specs.Text.{place_of}
-use Rattle.lsp_text.specs.TextLines.{line_ends, line_at, line_start, splits_crlf}
-use Rattle.lsp_text.specs.LineStarts.{IsPlace}
-use Rattle.lsp_text.specs.Units.{units_in, units_between}
+use Rattle.lsp_buffer.proofs.Prelude.{ℕ, zero, suc, ◌≡◌, ◌+◌, ◌-◌, ◌*◌, ◌<◌, ◌≤◌, ◌⊎◌, false, List, [], ◌++◌, length, take, drop, get_or, Option, option_map, ⊎_elim, inl, inr, refl, sym, ap, ◌∙◌, arith, subst, concat, chars, IsUtf8, IsCharBoundary, cases_lt, append-nil, drop_all, length-append, length-drop, get_or_default, take_at, encodes-chars, length-le-encodes, IsUtf8-from_is_utf8, Position, Encoding, Utf8, Utf16, Utf32, place_of, line_ends, line_at, line_start, splits_crlf, IsPlace, units_in, units_between, exact_position, denoted, line_step, place_one, units_total, Counts, Found, Denoted, Offset, AreBlocks, EndsClear, IsFull, IsTextBuffer, carried, block_ends, counts_of, head_of, HaveRoom, counts_sum, head_in, AreThree, BeginsBefore, IsFound, IsPart, IsPartAt, Reaches, IsAtOrAfter, IsBefore, position_after, position_from, common_steps}
 use Rattle.lsp_text.specs.laws.Units.{utf8_bounds, utf16_bounds, utf32_bounds}
-use Rattle.lsp_text.specs.Positions.{exact_position, denoted}
-use Rattle.lsp_text.proofs.TextLines.LineLemmas.{line_step}
-use Rattle.lsp_text.proofs.Positions.PlaceLemmas.{place_one}
-use Rattle.lsp_text.proofs.PlainLemmas.{units_total}
-use Rattle.lsp_buffer.specs.declared.counts.Counts.{Counts}
-use Rattle.lsp_buffer.specs.declared.find.Found.{Found}
 use Rattle.lsp_buffer.specs.declared.find.Target.{Target}
-use Rattle.lsp_buffer.specs.declared.find.Target.TheVariants.{Denoted, Offset}
-use Rattle.lsp_buffer.specs.Blocks.{AreBlocks, EndsClear, IsFull, IsTextBuffer, carried, block_ends, counts_of, head_of}
-use Rattle.lsp_buffer.specs.inside.Counts.{HaveRoom, counts_sum, head_in}
-use Rattle.lsp_buffer.specs.inside.Parts.{AreThree, BeginsBefore, IsFound, IsPart, IsPartAt, Reaches}
-use Rattle.lsp_buffer.specs.inside.Seams.{IsAtOrAfter, IsBefore, position_after, position_from}
 use Rattle.lsp_buffer.proofs.Blocks.BlockLemmas.{IsSplit, blocks_some, blocks_utf8, full_closes, full_utf8, split, split_text}
 use Rattle.lsp_buffer.proofs.Blocks.CountLemmas.{are_sum, ends_both, have_room, head_both, none_count, room_more, room_some, sum_more, sum_some}
 use Rattle.lsp_buffer.proofs.Blocks.CutLemmas.{concat_more}
 use Rattle.lsp_buffer.proofs.Blocks.PartLemmas.{resolved_three, inner_index, exact_three, boundary_in, carried_low, drop_three}
-use Rattle.std.proofs.lemmas.Grind.{common_steps}
 
 pub units_some : (encoding : Encoding) (c : ℕ) → 1 ≤ units_in encoding c
 units_some Utf8 c = (utf8_bounds c).0
@@ -66,8 +42,7 @@ head_none Utf32 = ap (λ (c : Counts). c.utf32) none_count
 
 reaches_first : (target : Target) → Reaches target (counts_of [])
 reaches_first (Offset offset) = omega arith
-reaches_first (Denoted encoding p) =
-    grind (arith, common_steps, inl, none_count, inr, head_none, cases_lt)
+reaches_first (Denoted encoding p) = grind (arith, common_steps, inl, none_count, inr, head_none, cases_lt)
 
 -- The first block begins before all.
 pub begins_first : (blocks : List (List ℕ)) (target : Target) (before : Counts) → AreBlocks blocks
@@ -240,8 +215,7 @@ module _ (bytes front block rest : List ℕ) (before : Counts) (place : ℕ)
       ∙ ap (λ n. length front + n) (length-append block rest))
 
   last_none : length bytes ≤ place → rest ≡ []
-  last_none far =
-      grind (arith, common_steps, whole_length)
+  last_none far = grind (arith, common_steps, whole_length)
 
   pub last_room : (next : Counts) → next ≡ counts_of block → HaveRoom before next
   last_room next next_is = have_room front block before next part.before_is next_is part.parts.front_utf8
@@ -249,18 +223,15 @@ module _ (bytes front block rest : List ℕ) (before : Counts) (place : ℕ)
 
   pub last_sum : (next sum : Counts) → next ≡ counts_of block → length bytes ≤ place → sum ≡ counts_sum before next
       → sum ≡ counts_of bytes
-  last_sum next sum next_is far is =
-      grind (arith, common_steps, are_sum, last_none, append-nil)
+  last_sum next sum next_is far is = grind (arith, common_steps, are_sum, last_none, append-nil)
 
 -- A position.
 not_after : (line head : ℕ) (p : Position) → (IsAtOrAfter line head p → ⊥) → IsBefore line head p
-not_after line head p never =
-    grind (arith, common_steps, inl, inr, cases_lt)
+not_after line head p never = grind (arith, common_steps, inl, inr, cases_lt)
 
 before_after : (line head ends own : ℕ) (p : Position) → IsAtOrAfter line head p
     → IsBefore (line + ends) (carried ends head + own) p → IsBefore ends own (position_after line head p)
-before_after line head ends own p after =
-    grind (arith, common_steps, carried_low, inl, inr)
+before_after line head ends own p after = grind (arith, common_steps, carried_low, inl, inr)
 
 module _ (bytes front block rest : List ℕ) (before : Counts) (encoding : Encoding) (p : Position)
     (part : IsPartAt bytes front block rest (Denoted encoding p) before) where
@@ -305,8 +276,7 @@ module _ (bytes front block rest : List ℕ) where
   pub resolved_found : (encoding : Encoding) (p : Position) (first head from : ℕ) (o : Option ℕ)
       → IsLineFound bytes front block rest (units_in encoding) p first head from →
       o ≡ option_map (place_of (chars block)) (denoted (units_in encoding) (chars block) (position_after first head p))
-      →
-      option_map (λ n. from + n) o ≡ option_map (place_of (chars bytes)) (denoted (units_in encoding) (chars bytes) p)
+      → option_map (λ n. from + n) o ≡ option_map (place_of (chars bytes)) (denoted (units_in encoding) (chars bytes) p)
   resolved_found encoding p first head from o found is =
       let units = units_in encoding in
       let low : IsAtOrAfter (line_ends (chars front)) (head_of units front) p =
@@ -388,8 +358,7 @@ module _ (bytes front block rest : List ℕ) where
   -- The text from a place to the end of its block.
   pub chunk_boundary : (place from : ℕ) (text : List ℕ) → text ≡ block → IsPlaceFound bytes front block rest place from
       → IsCharBoundary bytes place → IsCharBoundary text (place - from)
-  chunk_boundary place from text same found at =
-      grind (arith, common_steps, boundary_in)
+  chunk_boundary place from text same found at = grind (arith, common_steps, boundary_in)
 
   pub record IsChunk (place : ℕ) (chunk : List ℕ) : Type 0 where
     pub part : chunk ≡ take (length chunk) (drop place bytes)
@@ -397,14 +366,12 @@ module _ (bytes front block rest : List ℕ) where
 
   bytes_length : (place from : ℕ) → IsPlaceFound bytes front block rest place from → length bytes ≡ length front
       + (length block + length rest)
-  bytes_length place from found =
-      grind (arith, common_steps, length-append)
+  bytes_length place from found = grind (arith, common_steps, length-append)
 
   -- A byte offset in the text is one in the block.
   pub found_within : (place from : ℕ) → IsPlaceFound bytes front block rest place from → place ≤ length bytes
       → place - length front ≤ length block
-  found_within place from found within =
-      grind (arith, common_steps, bytes_length)
+  found_within place from found within = grind (arith, common_steps, bytes_length)
 
   pub chunk_is : (place from : ℕ) (text chunk : List ℕ) → text ≡ block → chunk ≡ drop (place - from) text
       → IsPlaceFound bytes front block rest place from → place ≤ length bytes → IsChunk place chunk

@@ -1,17 +1,10 @@
 -- What is read of a text in blocks: places, chunks and slices.
-use Rattle.std.proofs.Common.{ℕ, suc, false, ◌≡◌, ◌≢◌, ◌+◌, ◌-◌, ◌<◌, ◌≤◌, ◌↔◌, Bool, IsTrue, List, ◌++◌, length, take, drop, get_or, sym, ap, ◌∙◌, arith, subst}
-use Rattle.std.specs.List.{concat}
-use Rattle.std.specs.Str.{bytes_eq, chars, IsUtf8, IsCharBoundary}
-use Rattle.std.proofs.Math.Seq.{drop-cons}
-use Rattle.std.proofs.lemmas.List.{length-drop, length-take-le, take-take, take_at, take-append-drop, append_assoc, append_cancel_left}
-use Rattle.std.proofs.lemmas.List.Folds.{concat-append}
+use Rattle.lsp_buffer.proofs.Prelude.{ℕ, suc, false, ◌≡◌, ◌≢◌, ◌+◌, ◌-◌, ◌<◌, ◌≤◌, ◌↔◌, Bool, IsTrue, List, ◌++◌, length, take, drop, get_or, sym, ap, ◌∙◌, arith, subst, concat, bytes_eq, chars, IsUtf8, IsCharBoundary, drop-cons, length-drop, length-take-le, take-take, take_at, take-append-drop, append_assoc, append_cancel_left, concat-append, IsPlace, common_steps}
 use Rattle.std.proofs.lemmas.Slice.Eq.{bytes_eq-Decides}
-use Rattle.lsp_text.specs.LineStarts.{IsPlace}
 use Rattle.lsp_text.proofs.Positions.BoundaryLemmas.{boundary_from}
 use Rattle.lsp_buffer.proofs.Blocks.CutLemmas.{concat_more}
 use Rattle.lsp_buffer.proofs.Queries.FoundLemmas.{IsPlaceFound, place_inner}
 use Rattle.lsp_buffer.proofs.Blocks.PartLemmas.{boundary_in, place_outer, place_last}
-use Rattle.std.proofs.lemmas.Grind.{common_steps}
 
 module _ (bytes front block rest : List ℕ) (place from : ℕ)
     (found : IsPlaceFound bytes front block rest place from) where
@@ -43,8 +36,7 @@ place_is_boundary bytes place test utf8 is h = (boundary_from bytes place utf8 (
 
 pub front_part : (bytes chunk part : List ℕ) (offset len : ℕ) → chunk ≡ take (length chunk) (drop offset bytes)
     → part ≡ take len chunk → len ≤ length chunk → part ≡ take (length part) (drop offset bytes)
-front_part bytes chunk part offset len is part_is short =
-    grind (arith, common_steps, length-take-le, take-take)
+front_part bytes chunk part offset len is part_is short = grind (arith, common_steps, length-take-le, take-take)
 
 -- Bytes that are compared with blocks, one after another.
 pub text_more : (blocks : List (List ℕ)) (index : ℕ) (block rest back bytes : List ℕ) → index < length blocks
@@ -70,5 +62,4 @@ text_none blocks index block rest bytes within at so_far none whole =
 -- Bytes begin with others.
 pub not_front : (bytes start front : List ℕ) (test : Bool) → start ≡ take (length front) bytes
     → test ≡ bytes_eq start front → test ≡ false → (rest : List ℕ) → bytes ≢ front ++ rest
-not_front bytes start front test start_is is fails rest whole =
-    grind (arith, common_steps, take_at, bytes_eq-Decides)
+not_front bytes start front test start_is is fails rest whole = grind (arith, common_steps, take_at, bytes_eq-Decides)

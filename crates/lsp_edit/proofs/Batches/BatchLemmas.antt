@@ -1,17 +1,12 @@
 -- Batches, one after the other: what the second makes of what the first left.
-use Rattle.std.proofs.Common.{ℕ, suc, ◌≡◌, ◌+◌, List, [], ◌∷◌, ◌++◌, length, Result, Ok, Err, refl, ap, ◌∙◌, subst, arith}
-use Rattle.lsp_edit.specs.Items.{Item}
-use Rattle.lsp_edit.specs.Batch.{ContentChange, Fault, items_after, after_changes, continue_with}
-use Rattle.lsp_edit.specs.laws.Batches.{RangesStay}
-use Rattle.std.proofs.lemmas.Grind.{common_steps}
+use Rattle.lsp_edit.proofs.Prelude.{ℕ, suc, ◌≡◌, ◌+◌, List, [], ◌∷◌, ◌++◌, length, Result, Ok, Err, refl, ap, ◌∙◌, subst, arith, Item, ContentChange, Fault, items_after, after_changes, continue_with, RangesStay, common_steps}
 
 module _ (units : ℕ → ℕ) (old : List ℕ) where
   -- a batch after another goes on from what that left
   pub after_changes-append : (number : ℕ) (items middle : List Item) (first second : List ContentChange)
       → after_changes units old number items first ≡ Ok middle → after_changes units old number items (first ++ second)
       ≡ after_changes units old (number + length first) middle second
-  after_changes-append number items middle [] second is =
-      grind (arith, common_steps)
+  after_changes-append number items middle [] second is = grind (arith, common_steps)
   after_changes-append number items middle (change ∷ first) second is =
       rest_after (items_after units old items change) (λ next. after_changes-append (suc number) next middle first
       second) is

@@ -1,20 +1,8 @@
 -- Two batches, one after the other, mean what their meanings composed are, and composing is associative.
-use Rattle.std.proofs.Common.{ℕ, zero, suc, ◌≡◌, ◌+◌, ◌≤◌, nat_le, List, [], ◌∷◌, ◌++◌, length, map, take, drop, get_or, Option, Some, None, Result, Ok, Err, refl, sym, ap, ap₂, ◌∙◌, subst, arith, drop-cons, take_all}
-use Rattle.std.proofs.lemmas.Bool.{cases_Bool}
-use Rattle.std.proofs.lemmas.List.{map-append, length-map, take-map, drop-map}
-use Rattle.lsp_text.specs.declared.position.Range.{Range}
-use Rattle.lsp_text.specs.TextLines.{numbers_from}
-use Rattle.lsp_text.specs.Positions.{denoted}
-use Rattle.lsp_edit.specs.Items.{Item, Old, New, plain, character_of, text_of}
-use Rattle.lsp_edit.specs.Batch.{ContentChange, Fault, changed_in, items_after, after_changes, continue_with, meaning}
-use Rattle.lsp_edit.specs.inside.Batch.{replaced}
-use Rattle.lsp_edit.specs.Compose.{item_through, then_items}
-use Rattle.lsp_edit.specs.Canonical.{canonical}
-use Rattle.lsp_edit.specs.Keeps.{Keeps}
+use Rattle.lsp_edit.proofs.Prelude.{ℕ, zero, suc, ◌≡◌, ◌+◌, ◌≤◌, nat_le, List, [], ◌∷◌, ◌++◌, length, map, take, drop, slice_index_or as get_or, Option, Some, None, Result, Ok, Err, refl, sym, ap, ap₂, ◌∙◌, subst, arith, drop-cons, take_all, cases_Bool, map-append, length-map, take-map, drop-map, Range, numbers_from, denoted, Item, Old, New, plain, character_of, text_of, ContentChange, Fault, changed_in, items_after, after_changes, continue_with, meaning, replaced, item_through, then_items, canonical, Keeps, common_steps}
 use Rattle.lsp_edit.proofs.Batches.BatchLemmas.{after_changes-append, any_number}
 use Rattle.lsp_edit.proofs.Canonical.KeepsLemmas.{meaning_keeps}
 use Rattle.lsp_edit.proofs.Canonical.RebuiltLemmas.{canonical_makes}
-use Rattle.std.proofs.lemmas.Grind.{common_steps}
 
 -- an item of a mapped list, also past its end
 pub at_mapped : {X Y : Type 0} (f : X → Y) (xs : List X) (k : ℕ) (default : X) → get_or (map f xs) k (f default)
@@ -77,8 +65,7 @@ module _ (units : ℕ → ℕ) (old : List ℕ) (first : List Item) where
           → replaced (then_items first items) change.text start stop ≡ Ok (then_items first next)
       at_indexes None stop r = absurd (cc)
       at_indexes (Some a) None r = absurd (cc)
-      at_indexes (Some a) (Some b) r =
-          grind (arith, common_steps, nat_le, told_replaced, cases_Bool)
+      at_indexes (Some a) (Some b) r = grind (arith, common_steps, nat_le, told_replaced, cases_Bool)
 
       by_range : (range : Option Range) → changed_in units (text_of old first) items change.text range ≡ Ok next
           → changed_in units old (then_items first items) change.text range ≡ Ok (then_items first next)

@@ -1,28 +1,7 @@
 -- What text edits leave by indexes is what they leave once they are sorted by their byte offsets.
 -- ---- where edits lie
-use Rattle.std.proofs.Common.{ℕ, zero, suc, ◌≡◌, ◌+◌, ◌-◌, ◌<◌, ◌≤◌, ◌⊎◌, true, false, ◌==◌, nat_lt, nat_le, List, [], ◌∷◌, ◌++◌, length, map, filter, flat_map, Ok, refl, sym, ap, ap₂, ◌∙◌, subst, arith, ⊎_elim, inl, inr, append-nil, ltb-false, ne_eqb, eq-eqb}
-use Rattle.std.specs.Prelude.{Contains}
-use Rattle.std.specs.List.{AllByRecursion}
-use Rattle.std.specs.List.Sorted.{IsPermutation}
-use Rattle.std.specs.Str.{chars, IsUtf8}
-use Rattle.std.proofs.lemmas.Bool.{cases_Bool, cases_eq, cases_lt}
-use Rattle.std.proofs.lemmas.List.{map-append}
-use Rattle.std.proofs.lemmas.List.Elements.{All-from_recursion, recursion_from_All, Contains-append_right}
-use Rattle.std.proofs.lemmas.List.Sorted.{All-permutation, Contains-permutation, IsNonDecreasingBy-from_sort, IsPermutation-map, IsPermutation-sym, list_any-IsPermutation}
-use Rattle.lsp_text.specs.LineStarts.{IsPlace}
-use Rattle.lsp_text.specs.Text.{place_of}
-use Rattle.lsp_text.specs.TextLines.{numbers_from}
-use Rattle.lsp_text.proofs.Positions.PlaceLemmas.{place_rises}
-use Rattle.lsp_edit.specs.declared.text_edits.Placed.{Placed}
-use Rattle.lsp_edit.specs.declared.text_edits.TextEdit.{TextEdit}
-use Rattle.lsp_edit.specs.declared.text_edits.TextEditFault.{TextEditFault}
+use Rattle.lsp_edit.proofs.Prelude.{ℕ, zero, suc, ◌≡◌, ◌+◌, ◌-◌, ◌<◌, ◌≤◌, ◌⊎◌, true, false, ◌==◌, nat_lt, nat_le, List, [], ◌∷◌, ◌++◌, length, map, filter, flat_map, Ok, refl, sym, ap, ap₂, ◌∙◌, subst, arith, ⊎_elim, inl, inr, append-nil, ltb-false, ne_eqb, eq-eqb, Contains, AllByRecursion, IsPermutation, chars, IsUtf8, cases_Bool, cases_eq, cases_lt, map-append, All-from_recursion, recursion_from_All, Contains-append_right, All-permutation, Contains-permutation, IsNonDecreasingBy-from_sort, IsPermutation-map, IsPermutation-sym, list_any-IsPermutation, IsPlace, place_of, numbers_from, place_rises, Placed, TextEdit, TextEditFault, ContentChange, meaning, canonical, Old, Part, index_of, items_of, LocatedEdit, located, new_at, is_taken_out, left_at, items_left, ComesBefore, NoneOverlap, IsBatchOfEdits, EditsOverlap, IsEditsFault, ArePlaced, IsInOrder, AreApart, old_parts, parts_left, AreLeftByEdits, HasFaultyRange, DoOverlap, PlacedOverlap, IsPlacingFault, common_steps}
 use Rattle.lsp_edit.specs.declared.text_edits.TextEditFault.TheVariants.{NoMemory}
-use Rattle.lsp_edit.specs.Batch.{ContentChange, meaning}
-use Rattle.lsp_edit.specs.Canonical.{canonical}
-use Rattle.lsp_edit.specs.Items.{Old}
-use Rattle.lsp_edit.specs.Parts.{Part, index_of, items_of}
-use Rattle.lsp_edit.specs.TextEdits.{LocatedEdit, located, new_at, is_taken_out, left_at, items_left, ComesBefore, NoneOverlap, IsBatchOfEdits, EditsOverlap, IsEditsFault}
-use Rattle.lsp_edit.specs.inside.TextEdits.{ArePlaced, IsInOrder, AreApart, old_parts, parts_left, AreLeftByEdits, HasFaultyRange, DoOverlap, PlacedOverlap, IsPlacingFault}
 use Rattle.lsp_edit.proofs.Composing.EditedLemmas.{index_first}
 use Rattle.lsp_edit.proofs.Deltas.OwnedLemmas.{items_both}
 use Rattle.lsp_edit.proofs.Parts.IndexLemmas.{index_of-place, index_rises}
@@ -30,7 +9,6 @@ use Rattle.lsp_edit.proofs.Parts.PutLemmas.{new_items}
 use Rattle.lsp_edit.proofs.Batches.TextEditLemmas.{Lies, at_index, at_within, end_index, lies_all}
 use Rattle.lsp_edit.proofs.Batches.LocatedOrderLemmas.{located_of, located_all, range_fault, AscendByNumber, AscendByStart, ComeInTurn, starts_at, numbers_ascend, unfiltered, filter_ascends, rest_ascends, starts_ascend, starts_stay}
 use Rattle.lsp_edit.proofs.Batches.LocatedRowLemmas.{StandApart, none_overlap, next_to, first_is_in, second_is_in, nothing_between, left_from, at_one, runs_through}
-use Rattle.std.proofs.lemmas.Grind.{common_steps}
 
 module _ (before : List ℕ) where
   abbrev all_of : List Placed → List LocatedEdit
@@ -113,8 +91,7 @@ module _ (before : List ℕ) where
 
     start_is : (i : ℕ) → i ≤ length (chars before) → (p : Placed) → Lies before p
         → (index_of (chars before) p.start == i) ≡ (place_of (chars before) i == p.start)
-    start_is i within p lies =
-        grind (arith, common_steps, at_index, eq-eqb, ne_eqb, index_of-place, cases_eq)
+    start_is i within p lies = grind (arith, common_steps, at_index, eq-eqb, ne_eqb, index_of-place, cases_eq)
 
     filter_located : (i : ℕ) → i ≤ length (chars before) → (ps : List Placed) → AllByRecursion (Lies before) ps
         → filter (λ (e : LocatedEdit). e.start == i) (all_of ps)
@@ -133,12 +110,10 @@ module _ (before : List ℕ) where
         (cases_Bool (place_of (chars before) i == p.start))
 
     new_same : (i : ℕ) → i ≤ length (chars before) → new_at (all_of placed) i ≡ new_at (all_of ordered) i
-    new_same i within =
-        grind (arith, common_steps, flat_map, filter_located, lie_placed, starts_stay, lie_ordered)
+    new_same i within = grind (arith, common_steps, flat_map, filter_located, lie_placed, starts_stay, lie_ordered)
 
     taken_same : (i : ℕ) → is_taken_out (all_of placed) i ≡ is_taken_out (all_of ordered) i
-    taken_same i =
-        grind (arith, common_steps, list_any-IsPermutation, nat_le, nat_lt, same_edits)
+    taken_same i = grind (arith, common_steps, list_any-IsPermutation, nat_le, nat_lt, same_edits)
 
     row_same : (low count : ℕ) → low + count ≤ length (chars before)
         → flat_map (left_at (all_of placed)) (numbers_from low count)
@@ -148,8 +123,7 @@ module _ (before : List ℕ) where
         grind (arith, common_steps, ap₂, at_one, new_same, taken_same, (row_same (suc low) count (omega arith)))
 
     left_same : items_left (all_of placed) (length (chars before)) ≡ items_left (all_of ordered) (length (chars before))
-    left_same =
-        grind (arith, common_steps, ap₂, row_same, new_same)
+    left_same = grind (arith, common_steps, ap₂, row_same, new_same)
 
     by_indexes : AreApart 0 ordered → (located units (chars before) 0 edits ≡ Ok (all_of placed))
         × NoneOverlap (all_of placed)
@@ -191,8 +165,7 @@ module _ (before : List ℕ) where
           error = over.error;
         }
       where
-        lie_both : (front : List Placed)
-            → AllByRecursion (Lies before) (front ++ over.first ∷ over.second ∷ over.rest)
+        lie_both : (front : List Placed) → AllByRecursion (Lies before) (front ++ over.first ∷ over.second ∷ over.rest)
             → Lies before over.first × Lies before over.second
         lie_both [] lie = (lie.0, lie.1.0)
         lie_both (f ∷ front) lie = lie_both front lie.1
@@ -216,14 +189,12 @@ module _ (before : List ℕ) where
     old_row : (from to : ℕ) → items_of (chars before) (old_parts from to)
         ≡ map Old (numbers_from (index_of (chars before) from) (index_of (chars before) to - index_of (chars before)
         from))
-    old_row from to =
-        grind (arith, common_steps, nat_lt, append-nil, index_rises, ltb-false, cases_Bool)
+    old_row from to = grind (arith, common_steps, nat_lt, append-nil, index_rises, ltb-false, cases_Bool)
 
     parts_by_indexes : (low : ℕ) (ps : List Placed) → AllByRecursion (Lies before) ps
         → items_of (chars before) (parts_left (length before) low ps)
         ≡ left_from (length (chars before)) (index_of (chars before) low) (all_of ps)
-    parts_by_indexes low [] all =
-        grind (arith, common_steps, old_row, end_index)
+    parts_by_indexes low [] all = grind (arith, common_steps, old_row, end_index)
     parts_by_indexes low (p ∷ ps) all =
         grind (arith, common_steps, items_both, ap₂, old_row, new_items, (parts_by_indexes p.stop ps all.1))
 

@@ -1,26 +1,9 @@
 -- Text edits by indexes of the old text: those in the order of their offsets come in turn.
-use Rattle.std.proofs.Common.{ℕ, zero, suc, ◌≡◌, ◌+◌, ◌<◌, ◌≤◌, ◌⊎◌, Bool, true, false, ◌==◌, List, [], ◌∷◌, ◌++◌, length, map, filter, Result, Ok, Err, refl, sym, ap, ◌∙◌, subst, arith, ⊎_elim, inl, inr, lt-ltb, le-ltb, le-leb, ne_eqb, eq-eqb, string_bytes, get_or}
-use Rattle.std.specs.Prelude.{Contains}
-use Rattle.std.specs.List.{AllByRecursion}
-use Rattle.std.specs.List.Sorted.{IsNonDecreasingBy, ties}
+use Rattle.lsp_edit.proofs.Prelude.{ℕ, zero, suc, ◌≡◌, ◌+◌, ◌<◌, ◌≤◌, ◌⊎◌, Bool, true, false, ◌==◌, List, [], ◌∷◌, ◌++◌, length, map, filter, Result, Ok, Err, refl, sym, ap, ◌∙◌, subst, arith, ⊎_elim, inl, inr, lt-ltb, le-ltb, le-leb, ne_eqb, eq-eqb, string_bytes, slice_index_or as get_or, Contains, AllByRecursion, IsNonDecreasingBy, ties, chars, cases_Bool, cases_lt, recursion_from_All, filter_agree, place_of, EditFault, Placed, TextEdit, TextEditFault, Fault, ends_of, fault_at, places_at, index_of, LocatedEdit, located, ComesBefore, fault_of, HasRangeFault, IsPlaced, ArePlaced, IsInOrder, HasFaultyRange, common_steps}
 use Rattle.std.specs.Ordering.{is_lt, nat_cmp}
-use Rattle.std.specs.Str.{chars}
-use Rattle.std.proofs.lemmas.Bool.{cases_Bool, cases_lt}
-use Rattle.std.proofs.lemmas.List.Elements.{recursion_from_All, filter_agree}
-use Rattle.lsp_text.specs.Text.{place_of}
-use Rattle.lsp_edit.specs.declared.fault.EditFault.{EditFault}
-use Rattle.lsp_edit.specs.declared.text_edits.Placed.{Placed}
-use Rattle.lsp_edit.specs.declared.text_edits.TextEdit.{TextEdit}
-use Rattle.lsp_edit.specs.declared.text_edits.TextEditFault.{TextEditFault}
-use Rattle.lsp_edit.specs.Batch.{Fault, ends_of}
-use Rattle.lsp_edit.specs.Faults.{fault_at, places_at}
-use Rattle.lsp_edit.specs.Parts.{index_of}
-use Rattle.lsp_edit.specs.TextEdits.{LocatedEdit, located, ComesBefore, fault_of, HasRangeFault}
-use Rattle.lsp_edit.specs.inside.TextEdits.{IsPlaced, ArePlaced, IsInOrder, HasFaultyRange}
 use Rattle.lsp_edit.proofs.Composing.AppliedLemmas.{AreEnds, ends_told}
 use Rattle.lsp_edit.proofs.Parts.IndexLemmas.{index_of-place}
 use Rattle.lsp_edit.proofs.Batches.TextEditLemmas.{no_edit}
-use Rattle.std.proofs.lemmas.Grind.{common_steps}
 
 -- An edit with byte offsets, by indexes.
 abbrev pub located_of : List ℕ → Placed → LocatedEdit
@@ -39,12 +22,10 @@ module _ (units : ℕ → ℕ) (old : List ℕ) where
     where
       told : AreEnds units old edit.range one.start one.stop
           → ends_of units old edit.range ≡ Ok (index_of old one.start, index_of old one.stop)
-      told e =
-          grind (arith, common_steps, index_of-place, le-leb)
+      told e = grind (arith, common_steps, index_of-place, le-leb)
 
   pub located_all : (number : ℕ) (edits : List TextEdit) (placed : List Placed)
-      → ArePlaced units old number edits placed
-      → located units old number edits ≡ Ok (map (located_of old) placed)
+      → ArePlaced units old number edits placed → located units old number edits ≡ Ok (map (located_of old) placed)
   located_all number [] [] all = refl
   located_all number [] (p ∷ placed) all = absurd all
   located_all number (e ∷ edits) [] all = absurd all
@@ -56,8 +37,7 @@ module _ (units : ℕ → ℕ) (old : List ℕ) where
   located_front : (number : ℕ) (front : List TextEdit) (placed : List Placed) (first : TextEdit) (rest : List TextEdit)
       (why : Fault) → ArePlaced units old number front placed → ends_of units old first.range ≡ Err why
       → located units old number (front ++ first ∷ rest) ≡ Err (number + length front, why)
-  located_front number [] [] first rest why all lies =
-      let n : number + 0 ≡ number = omega arith in rw (lies, n) refl
+  located_front number [] [] first rest why all lies = let n : number + 0 ≡ number = omega arith in rw (lies, n) refl
   located_front number [] (p ∷ placed) first rest why all lies = absurd all
   located_front number (e ∷ front) [] first rest why all lies = absurd all
   located_front number (e ∷ front) (p ∷ placed) first rest why all lies =
@@ -131,8 +111,7 @@ module _ (units : ℕ → ℕ) (old : List ℕ) where
 filtered : (P : Placed → Type 0) (test : Placed → Bool) (ps : List Placed) → AllByRecursion P ps
     → AllByRecursion P (filter test ps)
 filtered P test [] all = tt
-filtered P test (p ∷ ps) all =
-    grind (arith, common_steps, cases_Bool, (filtered P test ps all.1))
+filtered P test (p ∷ ps) all = grind (arith, common_steps, cases_Bool, (filtered P test ps all.1))
 
 pub unfiltered : (P : Placed → Type 0) (test : Placed → Bool) (ps : List Placed) → AllByRecursion P (filter test ps)
     → AllByRecursion (λ (q : Placed). test q ≡ true → P q) ps
@@ -149,13 +128,11 @@ unfiltered P test (p ∷ ps) all =
 
 pub filter_ascends : (test : Placed → Bool) (ps : List Placed) → AscendByNumber ps → AscendByNumber (filter test ps)
 filter_ascends test [] up = tt
-filter_ascends test (p ∷ ps) up =
-    grind (arith, common_steps, filtered, cases_Bool, (filter_ascends test ps up.1))
+filter_ascends test (p ∷ ps) up = grind (arith, common_steps, filtered, cases_Bool, (filter_ascends test ps up.1))
 
 pub rest_ascends : (test : Placed → Bool) (p : Placed) (ps : List Placed) → AscendByNumber (filter test (p ∷ ps))
     → AscendByNumber (filter test ps)
-rest_ascends test p ps up =
-    grind (arith, common_steps, cases_Bool)
+rest_ascends test p ps up = grind (arith, common_steps, cases_Bool)
 
 pub starts_ascend : (ps : List Placed) → IsNonDecreasingBy (λ (p : Placed). p.start) ps → AscendByStart ps
 starts_ascend [] up = tt
@@ -168,8 +145,7 @@ abbrev lower : Placed → Placed → Bool
 lower p q = is_lt (nat_cmp p.start q.start)
 
 ties_are : (n : ℕ) (q : Placed) → ties lower (record no_edit { start = n }) q ≡ (n == q.start)
-ties_are n q =
-    grind (arith, common_steps, lt-ltb, ne_eqb, le-ltb, eq-eqb, cases_lt)
+ties_are n q = grind (arith, common_steps, lt-ltb, ne_eqb, le-ltb, eq-eqb, cases_lt)
 
 module _ (placed ordered : List Placed) (order : IsInOrder placed ordered) where
   pub starts_stay : (n : ℕ) → filter (starts_at n) ordered ≡ filter (starts_at n) placed

@@ -1,16 +1,6 @@
 -- Text edits that stand apart: what they leave at each index is the row of what each leaves.
-use Rattle.std.proofs.Common.{ℕ, zero, suc, ◌≡◌, ◌+◌, ◌-◌, ◌<◌, ◌≤◌, Bool, true, false, if◌then◌else◌, List, [], ◌∷◌, ◌++◌, map, flat_map, refl, sym, ap, ap₂, ◌∙◌, subst, arith, ⊎_elim, append_assoc, append-nil, lt-ltb, le-ltb, le-leb, ne_eqb, eq-eqb}
-use Rattle.std.specs.Prelude.{Contains}
-use Rattle.std.specs.List.{AllByRecursion}
-use Rattle.std.proofs.lemmas.Bool.{cases_lt, lt-leb}
-use Rattle.std.proofs.lemmas.List.{map-append}
-use Rattle.std.proofs.lemmas.List.Concat.{flat_map_single}
-use Rattle.std.proofs.lemmas.List.Elements.{Contains-append_right}
-use Rattle.lsp_text.specs.TextLines.{numbers_from}
-use Rattle.lsp_edit.specs.Items.{Item, Old, New}
-use Rattle.lsp_edit.specs.TextEdits.{LocatedEdit, new_at, is_taken_out, left_at, ComesBefore, NoneOverlap}
+use Rattle.lsp_edit.proofs.Prelude.{ℕ, zero, suc, ◌≡◌, ◌+◌, ◌-◌, ◌<◌, ◌≤◌, Bool, true, false, if◌then◌else◌, List, [], ◌∷◌, ◌++◌, map, flat_map, refl, sym, ap, ap₂, ◌∙◌, subst, arith, ⊎_elim, append_assoc, append-nil, lt-ltb, le-ltb, le-leb, ne_eqb, eq-eqb, Contains, AllByRecursion, cases_lt, lt-leb, map-append, flat_map_single, Contains-append_right, numbers_from, Item, Old, New, LocatedEdit, new_at, is_taken_out, left_at, ComesBefore, NoneOverlap, common_steps}
 use Rattle.lsp_edit.proofs.Batches.LocatedOrderLemmas.{ComeInTurn, contains_cases}
-use Rattle.std.proofs.lemmas.Grind.{common_steps}
 
 -- Where edits stand behind one another.
 abbrev pub StandApart : ℕ → ℕ → List LocatedEdit → Type 0
@@ -28,8 +18,7 @@ starts_past len low i (e ∷ es) stand order =
     (omega (arith, stand.0), starts_past len e.stop i es stand.2 (omega (arith, stand.0, stand.1)))
 
 not_both : (first second : LocatedEdit) → ComesBefore first second → ComesBefore second first → ⊥
-not_both first second a b =
-    grind (arith, common_steps)
+not_both first second a b = grind (arith, common_steps)
 
 all_with : (P : LocatedEdit → Type 0) (es : List LocatedEdit) (x : LocatedEdit) → AllByRecursion P es → Contains es x
     → P x
@@ -91,11 +80,9 @@ nothing_between (f ∷ front) first second rest turn other has before after =
 
 -- ---- the items at each index
 
-nothing_new : (i : ℕ) (es : List LocatedEdit) → AllByRecursion (λ (e : LocatedEdit). i < e.start) es
-    → new_at es i ≡ []
+nothing_new : (i : ℕ) (es : List LocatedEdit) → AllByRecursion (λ (e : LocatedEdit). i < e.start) es → new_at es i ≡ []
 nothing_new i [] all = refl
-nothing_new i (e ∷ es) all =
-    grind (arith, common_steps, ne_eqb, (nothing_new i es all.1))
+nothing_new i (e ∷ es) all = grind (arith, common_steps, ne_eqb, (nothing_new i es all.1))
 
 not_taken : (i : ℕ) (es : List LocatedEdit) → AllByRecursion (λ (e : LocatedEdit). i < e.start) es
     → is_taken_out es i ≡ false
@@ -105,8 +92,7 @@ not_taken i (e ∷ es) all = rw (lt-leb e.start i all.0) (not_taken i es all.1)
 new_skips : (e : LocatedEdit) (es : List LocatedEdit) (i : ℕ) → (e.start ≡ i → ⊥) → new_at (e ∷ es) i ≡ new_at es i
 new_skips e es i ne = rw (ne_eqb e.start i ne) refl
 
-new_joins : (e : LocatedEdit) (es : List LocatedEdit) (i : ℕ) → e.start ≡ i
-    → new_at (e ∷ es) i ≡ e.text ++ new_at es i
+new_joins : (e : LocatedEdit) (es : List LocatedEdit) (i : ℕ) → e.start ≡ i → new_at (e ∷ es) i ≡ e.text ++ new_at es i
 new_joins e es i at = rw (eq-eqb e.start i at) refl
 
 taken_skips : (e : LocatedEdit) (es : List LocatedEdit) (i : ℕ) → e.start ≤ i → e.stop ≤ i
@@ -135,8 +121,7 @@ module _ (len : ℕ) where
   before_first : (es : List LocatedEdit) (low a count rest : ℕ) → count ≡ a + rest
       → AllByRecursion (λ (e : LocatedEdit). low + a ≤ e.start) es
       → run len es low count ≡ map Old (numbers_from low a) ++ run len es (low + a) rest
-  before_first es low zero count rest is all =
-      grind (arith, common_steps)
+  before_first es low zero count rest is all = grind (arith, common_steps)
   before_first es low (suc a) count rest is all =
       let c : count ≡ suc (a + rest) = omega arith in
       let n : low + suc a ≡ suc low + a = omega arith in
@@ -154,8 +139,7 @@ module _ (len : ℕ) where
 
   past_one : (e : LocatedEdit) (es : List LocatedEdit) (low count : ℕ) → e.start < low → e.stop ≤ low
       → low + count ≡ len → run len (e ∷ es) low count ≡ run len es low count
-  past_one e es low zero from past end =
-      ap (map New) (new_skips e es len (λ s. omega arith))
+  past_one e es low zero from past end = ap (map New) (new_skips e es len (λ s. omega arith))
   past_one e es low (suc count) from past end =
       grind (
         arith,
@@ -171,8 +155,7 @@ module _ (len : ℕ) where
   within_one : (e : LocatedEdit) (es : List LocatedEdit) (low a count rest : ℕ) → count ≡ a + rest → e.start < low
       → low + a ≡ e.stop → AllByRecursion (λ (x : LocatedEdit). e.stop ≤ x.start) es
       → run len (e ∷ es) low count ≡ run len (e ∷ es) e.stop rest
-  within_one e es low zero count rest is from end all =
-      grind (arith, common_steps)
+  within_one e es low zero count rest is from end all = grind (arith, common_steps)
   within_one e es low (suc a) count rest is from end all =
       let c : count ≡ suc (a + rest) = omega arith in
       let here : left_at (e ∷ es) low ≡ [] =
@@ -194,8 +177,7 @@ module _ (len : ℕ) where
   at_one_start : (e : LocatedEdit) (es : List LocatedEdit) (count rest : ℕ) → e.start + count ≡ len
       → e.stop + rest ≡ len → e.start ≤ e.stop → AllByRecursion (λ (x : LocatedEdit). e.stop ≤ x.start) es
       → run len (e ∷ es) e.start count ≡ map New e.text ++ run len es e.stop rest
-  at_one_start e es zero rest is end order all =
-      grind (arith, common_steps, new_joins, map-append)
+  at_one_start e es zero rest is end order all = grind (arith, common_steps, new_joins, map-append)
   at_one_start e es (suc count) rest is end order all =
       ⊎_elim
       (λ (less : e.start < e.stop).

@@ -1,28 +1,6 @@
 -- The plain program's steps.
-use Rattle.std.proofs.Common.{ℕ, suc, ◌≡◌, ◌+◌, ◌-◌, ◌<◌, ◌≤◌, ◌⊎◌, true, false, nat_lt, List, [], ◌∷◌, ◌++◌, length, map, take, drop, get_or, refl, sym, ap, ap₂, ◌∙◌, subst, arith, append_assoc, append-nil, length-take-le, take_all, IsCharBoundary, sum_by, le-leb, lt-ltb, encode_utf8_all, string_bytes, string_len, Some, Ok}
-use Rattle.std.specs.Str.{chars, IsUtf8}
-use Rattle.std.proofs.lemmas.Bool.{or_left, or_right}
-use Rattle.std.proofs.lemmas.List.{drop_more, drop_all, map-append, length-map, length-drop, take-map, drop-map}
-use Rattle.std.proofs.lemmas.Str.{IsUtf8-string_bytes, chars_from_encodes, encodes-chars, is_utf8-from_IsUtf8}
-use Rattle.lsp_text.specs.declared.position.Position.{Position}
-use Rattle.lsp_text.specs.declared.position.Range.{Range}
-use Rattle.lsp_text.specs.LineStarts.{IsPlace}
-use Rattle.lsp_text.specs.Positions.{exact_position}
-use Rattle.lsp_text.specs.Text.{place_of}
-use Rattle.lsp_text.specs.TextLines.{numbers_from, splits_crlf}
-use Rattle.lsp_text.proofs.Positions.PlaceLemmas.{place_boundary}
-use Rattle.lsp_edit.specs.declared.change.Change.{Change}
+use Rattle.lsp_edit.proofs.Prelude.{ℕ, suc, ◌≡◌, ◌+◌, ◌-◌, ◌<◌, ◌≤◌, ◌⊎◌, true, false, nat_lt, List, [], ◌∷◌, ◌++◌, length, map, take, drop, slice_index_or as get_or, refl, sym, ap, ap₂, ◌∙◌, subst, arith, append_assoc, append-nil, length-take-le, take_all, IsCharBoundary, sum_by, le-leb, lt-ltb, encode_utf8_all, string_bytes, string_len, Some, Ok, chars, IsUtf8, or_left, or_right, drop_more, drop_all, map-append, length-map, length-drop, take-map, drop-map, IsUtf8-string_bytes, chars_from_encodes, encodes-chars, is_utf8-from_IsUtf8, Position, Range, IsPlace, exact_position, place_of, numbers_from, splits_crlf, place_boundary, Change, Item, Old, New, plain, character_of, text_of, ContentChange, items_after, after_changes, changed_in, meaning, ends_of, then_items, gaps_from, gaps, is_changed, change_of_gap, PlainData, both_counts, content_change, edited_bytes, edited_text, places_at, Keeps, HasExactEnds, AllHaveExactEnds, ArePlain, item_of, items_in_order, gap_at, change_at, common_steps}
 use Rattle.lsp_edit.specs.declared.plain.Item.{Item as PlainItem}
-use Rattle.lsp_edit.specs.Items.{Item, Old, New, plain, character_of, text_of}
-use Rattle.lsp_edit.specs.Batch.{ContentChange, items_after, after_changes, changed_in, meaning, ends_of}
-use Rattle.lsp_edit.specs.Compose.{then_items}
-use Rattle.lsp_edit.specs.Canonical.{gaps_from, gaps, is_changed, change_of_gap}
-use Rattle.lsp_edit.specs.Edited.{PlainData, both_counts, content_change, edited_bytes, edited_text}
-use Rattle.lsp_edit.specs.Faults.{places_at}
-use Rattle.lsp_edit.specs.Keeps.{Keeps}
-use Rattle.lsp_edit.specs.laws.Batches.{HasExactEnds, AllHaveExactEnds}
-use Rattle.lsp_edit.specs.Plain.{ArePlain, item_of, items_in_order}
-use Rattle.lsp_edit.specs.inside.Plain.{gap_at, change_at}
 use Rattle.lsp_edit.proofs.Composing.AppliedLemmas.{AreEnds, ends_told}
 use Rattle.lsp_edit.proofs.Batches.ComposeLemmas.{text_of-then, then_keeps}
 use Rattle.lsp_edit.proofs.Parts.CutLemmas.{chars_front}
@@ -32,7 +10,6 @@ use Rattle.lsp_edit.proofs.Canonical.KeepsLemmas.{plain_keeps, after_change_keep
 use Rattle.lsp_edit.proofs.Canonical.RebuiltLemmas.{numbers-append}
 use Rattle.lsp_edit.proofs.Composing.RoomLemmas.{Applying, change_longer}
 use Rattle.lsp_edit.proofs.Canonical.WalkLemmas.{changes_of, changes_of-cons}
-use Rattle.std.proofs.lemmas.Grind.{common_steps}
 
 pub item_rest : (items : List PlainItem) (index : ℕ) (default : PlainItem) (first : Item) → index < length items
     → item_of (get_or items index default) ≡ first → items_in_order (drop index items)
@@ -46,14 +23,12 @@ item_none items index past = ap items_in_order (drop_all index items past)
 pub numbered_on : (items : List PlainItem) (index : ℕ) (item : PlainItem) → item_of item ≡ Old index
     → items_in_order items ≡ map Old (numbers_from 0 index) → items_in_order (items ++ item ∷ [])
     ≡ map Old (numbers_from 0 (index + 1))
-numbered_on items index item is error =
-    grind (arith, common_steps, map-append, ap₂, numbers-append)
+numbered_on items index item is error = grind (arith, common_steps, map-append, ap₂, numbers-append)
 
 -- The index of a place that is an index's.
 pub index_found : (bytes text : List ℕ) (index place : ℕ) → IsUtf8 bytes → chars bytes ≡ text → index ≤ length text
     → place_of text index ≡ place → length (chars (take place bytes)) ≡ index
-index_found bytes text index place utf8 same within is =
-    grind (arith, common_steps, chars_front, length-take-le)
+index_found bytes text index place utf8 same within is = grind (arith, common_steps, chars_front, length-take-le)
 
 -- The items with those of a range replaced, where its ends were found.
 pub range_made : (units : ℕ → ℕ) (old : List ℕ) (items : List Item) (characters : List ℕ) (range : Range)
@@ -72,18 +47,13 @@ pub record Writes (units : ℕ → ℕ) (old : List ℕ) (all made : List Conten
 
 pub write_begins : (units : ℕ → ℕ) (old : List ℕ) (items : List Item) → Keeps old 0 items
     → Writes units old (changes_of units old (gaps old items)) [] 0 [] items
-write_begins units old items keeps = record {
-  error = refl;
-  ends = ends_exact old items keeps;
-  keeps = keeps;
-}
+write_begins units old items keeps = record { error = refl; ends = ends_exact old items keeps; keeps = keeps }
 
 module _ (units : ℕ → ℕ) (old : List ℕ) (all made : List ContentChange) (low : ℕ) (text : List ℕ) (rest : List Item)
     (writes : Writes units old all made low text rest) where
   pub write_new : (character : ℕ) (more : List Item) → rest ≡ New character ∷ more
       → Writes units old all made low (text ++ character ∷ []) more
-  write_new character more is =
-      grind (arith, common_steps)
+  write_new character more is = grind (arith, common_steps)
 
   module _ (index : ℕ) (more : List Item) (is : rest ≡ Old index ∷ more) where
     here : Writes units old all made low text (Old index ∷ more)
@@ -97,8 +67,7 @@ module _ (units : ℕ → ℕ) (old : List ℕ) (all made : List ContentChange) 
 
     pub write_old : (next : ℕ) → next ≡ suc index
         → Writes units old all (made ++ change_at units old (gap_at low index text)) next [] more
-    write_old next next_is =
-        grind (arith, common_steps, append_assoc, changes_of, changes_of-cons)
+    write_old next next_is = grind (arith, common_steps, append_assoc, changes_of, changes_of-cons)
 
   module _ (is : rest ≡ []) where
     last : Writes units old all made low text []
@@ -109,14 +78,12 @@ module _ (units : ℕ → ℕ) (old : List ℕ) (all made : List ContentChange) 
     write_last_ends = last.ends.0
 
     pub write_end : made ++ change_at units old (gap_at low (length old) text) ≡ all
-    write_end =
-        grind (arith, common_steps, changes_of-cons, append-nil)
+    write_end = grind (arith, common_steps, changes_of-cons, append-nil)
 
 -- The change of a gap, as it is written.
 module _ (units : ℕ → ℕ) (old : List ℕ) (low high : ℕ) (text : List ℕ) where
   pub gap_some : (low < high) ⊎ (0 < length text) → is_changed (gap_at low high text) ≡ true
-  gap_some some =
-      grind (arith, common_steps, or_left, nat_lt, lt-ltb, or_right)
+  gap_some some = grind (arith, common_steps, or_left, nat_lt, lt-ltb, or_right)
 
   pub gap_one : (changes : List Change) (change : Change) (start stop : Position) → (low < high) ⊎ (0 < length text)
       → change.range ≡ Some (record { start = start; stop = stop }) → string_bytes change.text ≡ encode_utf8_all text
@@ -183,8 +150,7 @@ applying_begins units before changes edited utf8 is size fits = record {
 -- A place that was found for an index is a boundary of characters.
 pub boundary_found : (bytes text : List ℕ) (index place : ℕ) → IsUtf8 bytes → chars bytes ≡ text → index ≤ length text
     → place_of text index ≡ place → IsCharBoundary bytes place
-boundary_found bytes text index place utf8 same within is =
-    grind (arith, common_steps, place_boundary)
+boundary_found bytes text index place utf8 same within is = grind (arith, common_steps, place_boundary)
 
 -- Items put between others.
 pub between_is : (items made pushed now : List PlainItem) (start stop : ℕ) (text : List ℕ) → made ≡ take start items

@@ -1,13 +1,5 @@
 -- The ranges of edits, one after another: the first faulty one is that of the list.
-use Rattle.std.proofs.Common.{ℕ, suc, ◌≡◌, ◌+◌, List, ◌∷◌, Result, Ok, Err, refl, ap, arith}
-use Rattle.std.specs.Prelude.{IsOk, string_bytes}
-use Rattle.std.specs.Str.{chars}
-use Rattle.lsp_edit.specs.declared.fault.EditFault.{EditFault}
-use Rattle.lsp_edit.specs.declared.text_edits.TextEdit.{TextEdit}
-use Rattle.lsp_edit.specs.Batch.{Fault, ends_of}
-use Rattle.lsp_edit.specs.Faults.{places_at}
-use Rattle.lsp_edit.specs.TextEdits.{HasRangeFault, LocatedEdit, fault_of, located, located_first}
-use Rattle.std.proofs.lemmas.Grind.{common_steps}
+use Rattle.lsp_edit.proofs.Prelude.{ℕ, suc, ◌≡◌, ◌+◌, List, ◌∷◌, Result, Ok, Err, refl, ap, arith, IsOk, string_bytes, chars, EditFault, TextEdit, Fault, ends_of, places_at, HasRangeFault, LocatedEdit, fault_of, located, located_first, common_steps}
 
 -- No range of the edits before the rest is faulty.
 pub record Ranging (units : ℕ → ℕ) (old : List ℕ) (edits : List TextEdit) (number : ℕ) (rest : List TextEdit) : Type
@@ -30,8 +22,7 @@ module _ (units : ℕ → ℕ) (old : List ℕ) (edits : List TextEdit) (number 
   here = ap (located units old number) is
 
   ranging_after : (ends : ℕ × ℕ) → ends_of units old edit.range ≡ Ok ends → Ranging units old edits (suc number) more
-  ranging_after ends e =
-      grind (arith, common_steps, ok_first)
+  ranging_after ends e = grind (arith, common_steps, ok_first)
 
   pub ranging_on : (places : ℕ × ℕ) → Ok places ≡ places_at number old (ends_of units old edit.range)
       → Ranging units old edits (number + 1) more
@@ -39,10 +30,8 @@ module _ (units : ℕ → ℕ) (old : List ℕ) (edits : List TextEdit) (number 
     where
       by_ends : (ends : Result (ℕ × ℕ) Fault) → ends_of units old edit.range ≡ ends
           → Ranging units old edits (number + 1) more
-      by_ends (Ok ends) e =
-          grind (arith, common_steps, ranging_after)
-      by_ends (Err why) e =
-          grind (arith, common_steps)
+      by_ends (Ok ends) e = grind (arith, common_steps, ranging_after)
+      by_ends (Err why) e = grind (arith, common_steps)
 
   pub ranging_stops : (fault : EditFault) → Err fault ≡ places_at number old (ends_of units old edit.range)
       → HasRangeFault units old edits (fault_of fault)
@@ -50,7 +39,5 @@ module _ (units : ℕ → ℕ) (old : List ℕ) (edits : List TextEdit) (number 
     where
       by_ends : (ends : Result (ℕ × ℕ) Fault) → ends_of units old edit.range ≡ ends
           → HasRangeFault units old edits (fault_of fault)
-      by_ends (Ok ends) e =
-          grind (arith, common_steps)
-      by_ends (Err why) e =
-          grind (arith, common_steps)
+      by_ends (Ok ends) e = grind (arith, common_steps)
+      by_ends (Err why) e = grind (arith, common_steps)

@@ -1,31 +1,12 @@
 -- What changes leave of a text, by its characters alone, and by the items that stand for it.
-use Rattle.std.proofs.Common.{ℕ, suc, ◌≡◌, ◌+◌, ◌-◌, ◌<◌, ◌≤◌, ◌⊎◌, true, false, List, [], ◌∷◌, ◌++◌, length, map, take, drop, nat_le, refl, sym, ap, ◌∙◌, subst, arith, encode_utf8_all, ⊎_elim, inl, inr, le-leb, Option, Some, None, Result, Ok, Err, string_len}
-use Rattle.std.proofs.lemmas.Bool.{cases_Bool, lt-ltb, le-ltb}
-use Rattle.std.proofs.lemmas.List.{append_assoc, append-nil}
-use Rattle.std.proofs.lemmas.List.Sums.{sum_by-cons}
-use Rattle.std.proofs.lemmas.Str.{encodes-chars, chars_from_encodes, IsUtf8-append, IsUtf8-take, IsUtf8-drop}
-use Rattle.std.specs.List.{replace_range}
+use Rattle.lsp_edit.proofs.Prelude.{ℕ, suc, ◌≡◌, ◌+◌, ◌-◌, ◌<◌, ◌≤◌, ◌⊎◌, true, false, List, [], ◌∷◌, ◌++◌, length, map, take, drop, nat_le, refl, sym, ap, ◌∙◌, subst, arith, encode_utf8_all, ⊎_elim, inl, inr, le-leb, Option, Some, None, Result, Ok, Err, string_len, cases_Bool, lt-ltb, le-ltb, append_assoc, append-nil, sum_by-cons, encodes-chars, chars_from_encodes, IsUtf8-append, IsUtf8-take, IsUtf8-drop, replace_range, Range, replaced_length, Change, EditFault, NoMemory, Item, plain, text_of, ContentChange, Fault, changed_in, items_after, after_changes, continue_with, meaning, ends_of, replaced, AreEndsIn, AreEndsOf, AreTextEnds, text_replaced, text_changed, text_after_change, text_after_changes, text_continue_with, IsFaultOf, IsFaultOfBatch, fault_at, places_at, content_change, bytes_left, text_within, batch_fault_of, common_steps}
 use Rattle.std.specs.Str.{IsUtf8, IsCharBoundary, chars}
-use Rattle.lsp_text.specs.declared.position.Range.{Range}
-use Rattle.lsp_buffer.proofs.Changes.ChangeLemmas.{replaced_length}
-use Rattle.lsp_edit.specs.declared.change.Change.{Change}
-use Rattle.lsp_edit.specs.declared.fault.EditFault.{EditFault}
-use Rattle.lsp_edit.specs.declared.fault.EditFault.TheVariants.{NoMemory}
 use Rattle.lsp_edit.specs.declared.indexed.fault.BatchFault.TheVariants.{TooLong, NoMemory as OutOfMemory}
-use Rattle.lsp_edit.specs.Items.{Item, plain, text_of}
-use Rattle.lsp_edit.specs.Batch.{ContentChange, Fault, changed_in, items_after, after_changes, continue_with, meaning, ends_of}
-use Rattle.lsp_edit.specs.inside.Batch.{replaced}
-use Rattle.lsp_edit.specs.Delta.{AreEndsIn, AreEndsOf}
-use Rattle.lsp_edit.specs.inside.TextBatch.{AreTextEnds, text_replaced, text_changed, text_after_change, text_after_changes, text_continue_with, IsFaultOf, IsFaultOfBatch}
-use Rattle.lsp_edit.specs.Faults.{fault_at, places_at}
-use Rattle.lsp_edit.specs.Edited.{content_change}
-use Rattle.lsp_edit.specs.Indexed.{bytes_left, text_within, batch_fault_of}
 use Rattle.lsp_edit.proofs.Parts.CutLemmas.{text_of-new}
 use Rattle.lsp_edit.proofs.Composing.AppliedLemmas.{AreEnds, bytes_put, ends_told, fault_told, places_any, text_put}
 use Rattle.lsp_edit.proofs.Composing.EditedLemmas.{plain_text}
 use Rattle.lsp_edit.proofs.Composing.RoomLemmas.{texts_len}
 use Rattle.lsp_edit.proofs.Deltas.InPlaceLemmas.{fault_edit, range_order, range_start, range_stop}
-use Rattle.std.proofs.lemmas.Grind.{common_steps}
 
 -- the text that items stand for, where there are any
 abbrev pub text_result : {E : Type 0} → List ℕ → Result (List Item) E → Result (List ℕ) E
@@ -48,8 +29,7 @@ replaced_text old items new (Some start) (Some stop) =
 change_text : (units : ℕ → ℕ) (old : List ℕ) (items : List Item) (new : List ℕ) (range : Option Range)
     → text_changed units (text_of old items) new range ≡ text_result old (changed_in units old items new range)
 change_text units old items new None = ap (λ (t : List ℕ). Ok t) (sym (text_of-new old new))
-change_text units old items new (Some range) =
-    grind (arith, common_steps, replaced_text)
+change_text units old items new (Some range) = grind (arith, common_steps, replaced_text)
 
 pub changes_text : (units : ℕ → ℕ) (old : List ℕ) (number : ℕ) (items : List Item) (batch : List ContentChange)
     → text_after_changes units number (text_of old items) batch
@@ -97,11 +77,9 @@ module _ (units : ℕ → ℕ) (before : List ℕ) (batch : List ContentChange) 
         ))
 
   pub left_fault : (max_len : ℕ) (fault : EditFault) → IsFaultOfBatch (text_after_changes units 0 (chars before) batch)
-      fault
-      → (batch_fault_of fault ≡ OutOfMemory) ⊎ (text_within max_len before (meaning units (chars before) batch)
+      fault → (batch_fault_of fault ≡ OutOfMemory) ⊎ (text_within max_len before (meaning units (chars before) batch)
       ≡ Err (batch_fault_of fault))
-  left_fault max_len fault error =
-      grind (arith, common_steps, inl, inr, batch_text, fault_edit)
+  left_fault max_len fault error = grind (arith, common_steps, inl, inr, batch_text, fault_edit)
 
 -- ---- one change of a range
 
@@ -169,11 +147,7 @@ module _ (units : ℕ → ℕ) (number : ℕ) (before : List ℕ) (utf8 : IsUtf8
       (λ (t : (why : Fault)
       × (changed_in units (chars before) (plain (chars before)) (chars new) (Some range) ≡ Err why)
       × (fault ≡ fault_at number why)).
-      inr (
-        t.0,
-        grind (arith, common_steps, plain_text, change_text),
-        t.2,
-      ))
+      inr (t.0, grind (arith, common_steps, plain_text, change_text), t.2))
       (fault_told units (chars before) (plain (chars before)) (chars new) range number fault
       (inr (subst (λ (s : List ℕ). ◌≡◌ {A = Result (ℕ × ℕ) EditFault} (Err fault)
       (places_at number s (ends_of units s range))) (sym (plain_text (chars before))) error)))
@@ -204,10 +178,8 @@ module _ (units : ℕ → ℕ) (left : Result (List ℕ) (ℕ × Fault)) (AreAll
       grind (arith, common_steps, same_here, append_assoc, texts_len, sum_by-cons, string_len)
 
   pub draft_faulted : (fault : EditFault) → IsFaultOf number (text_after_change units (chars draft)
-      (content_change change))
-      fault → IsFaultOfBatch left fault
-  draft_faulted fault error =
-      grind (arith, common_steps, inl, same_here, inr)
+      (content_change change)) fault → IsFaultOfBatch left fault
+  draft_faulted fault error = grind (arith, common_steps, inl, same_here, inr)
 
 -- After the last change.
 pub drafted_ends : (units : ℕ → ℕ) (left : Result (List ℕ) (ℕ × Fault)) (AreAll : List (ℕ × ℕ) → Type 0) (number : ℕ)

@@ -1,29 +1,5 @@
 -- What text edits leave of a text.
-use Rattle.std.proofs.Common.{ℕ, zero, suc, ◌≡◌, ◌+◌, ◌-◌, ◌<◌, ◌≤◌, ◌⊎◌, true, false, List, [], ◌∷◌, ◌++◌, length, map, take, drop, nat_lt, IsCharBoundary, Ok, Err, refl, sym, ap, ◌∙◌, subst, arith, ⊎_elim, inl, inr, ltb-true, append_assoc, append-nil, take-append-drop, encode_utf8_all, string_bytes}
-use Rattle.std.specs.List.{AllByRecursion}
-use Rattle.std.specs.Str.{chars, is_utf8, IsUtf8}
-use Rattle.std.proofs.lemmas.Bool.{cases_Bool}
-use Rattle.std.proofs.lemmas.List.Elements.{All-from_recursion, recursion_from_All}
-use Rattle.std.proofs.lemmas.List.Sorted.{All-permutation}
-use Rattle.std.proofs.lemmas.Str.{encodes-chars, is_utf8-from_IsUtf8, IsUtf8-string_bytes}
-use Rattle.lsp_text.specs.LineStarts.{IsPlace}
-use Rattle.lsp_text.specs.TextLines.{numbers_from, splits_crlf}
-use Rattle.lsp_text.proofs.TextLines.LineLemmas.{splits_none_past}
-use Rattle.lsp_text.proofs.Positions.PlaceLemmas.{place_boundary, place_end, place_rises, place_within}
-use Rattle.lsp_text.proofs.Positions.PositionLemmas.{denoted_whole}
-use Rattle.lsp_edit.specs.declared.fault.EditFault.{EditFault}
-use Rattle.lsp_edit.specs.declared.text_edits.Placed.{Placed}
-use Rattle.lsp_edit.specs.declared.text_edits.TextEdit.{TextEdit}
-use Rattle.lsp_edit.specs.declared.text_edits.TextEditFault.{TextEditFault}
-use Rattle.lsp_edit.specs.declared.text_edits.TextEditFault.TheVariants.{Overlap}
-use Rattle.lsp_edit.specs.Batch.{ContentChange, meaning, ends_of}
-use Rattle.lsp_edit.specs.Canonical.{canonical}
-use Rattle.lsp_edit.specs.Faults.{places_at}
-use Rattle.lsp_edit.specs.Items.{Item, Old, New}
-use Rattle.lsp_edit.specs.Keeps.{Keeps}
-use Rattle.lsp_edit.specs.Parts.{Part, AreParts, index_of, items_of, new_parts}
-use Rattle.lsp_edit.specs.TextEdits.{fault_of}
-use Rattle.lsp_edit.specs.inside.TextEdits.{IsPlaced, ArePlaced, AreApart, old_parts, parts_left, AreLeftByEdits, HasFaultyRange, DoOverlap}
+use Rattle.lsp_edit.proofs.Prelude.{ℕ, zero, suc, ◌≡◌, ◌+◌, ◌-◌, ◌<◌, ◌≤◌, ◌⊎◌, true, false, List, [], ◌∷◌, ◌++◌, length, map, take, drop, nat_lt, IsCharBoundary, Ok, Err, refl, sym, ap, ◌∙◌, subst, arith, ⊎_elim, inl, inr, ltb-true, append_assoc, append-nil, take-append-drop, encode_utf8_all, string_bytes, AllByRecursion, chars, is_utf8, IsUtf8, cases_Bool, All-from_recursion, recursion_from_All, All-permutation, encodes-chars, is_utf8-from_IsUtf8, IsUtf8-string_bytes, IsPlace, numbers_from, splits_crlf, splits_none_past, place_boundary, place_end, place_rises, place_within, denoted_whole, EditFault, Placed, TextEdit, TextEditFault, Overlap, ContentChange, meaning, ends_of, canonical, places_at, Item, Old, New, Keeps, Part, AreParts, index_of, items_of, new_parts, fault_of, IsPlaced, ArePlaced, AreApart, old_parts, parts_left, AreLeftByEdits, HasFaultyRange, DoOverlap, common_steps}
 use Rattle.lsp_edit.proofs.Composing.AppliedLemmas.{AreEnds, ends_told}
 use Rattle.lsp_edit.proofs.Deltas.OwnedLemmas.{are_both, items_both}
 use Rattle.lsp_edit.proofs.Composing.EditedLemmas.{index_first}
@@ -31,7 +7,6 @@ use Rattle.lsp_edit.proofs.Parts.IndexLemmas.{index_of-place, index_rises}
 use Rattle.lsp_edit.proofs.Canonical.KeepsLemmas.{keeps_from_lower, new_keeps}
 use Rattle.lsp_edit.proofs.Parts.PutLemmas.{new_items}
 use Rattle.lsp_edit.proofs.Canonical.RebuiltLemmas.{canonical_makes}
-use Rattle.std.proofs.lemmas.Grind.{common_steps}
 
 -- ---- where edits lie
 
@@ -110,13 +85,11 @@ module _ (len : ℕ) (ordered front rest : List Placed) (made : List Part) (low 
   pub spanning_on : (next : List Placed) (some all : List Part) → next ≡ front ++ edit ∷ [] → low ≤ edit.start
       → some ≡ made ++ old_parts low edit.start → all ≡ some ++ new_parts edit.text.now
       → Spanning len ordered next more all edit.stop edit.number
-  spanning_on next some all next_is order some_is all_is =
-      grind (arith, common_steps, append_assoc, inr)
+  spanning_on next some all next_is order some_is all_is = grind (arith, common_steps, append_assoc, inr)
 
   pub overlapping : (fault : TextEditFault) → ordered ≡ front ++ rest → edit.start < low
       → fault ≡ Overlap last edit.number → DoOverlap ordered fault
-  overlapping fault all less error =
-      grind (arith, common_steps, append_assoc)
+  overlapping fault all less error = grind (arith, common_steps, append_assoc)
 
 -- ---- what edits leave
 
@@ -196,8 +169,7 @@ module _ (before : List ℕ) (utf8 : IsUtf8 before) where
 
   old_are : (from to : ℕ) → IsPlace (chars before) from → IsPlace (chars before) to
       → AreParts before (old_parts from to)
-  old_are from to a b =
-      grind (arith, common_steps, nat_lt, ltb-true, at_boundary, cases_Bool)
+  old_are from to a b = grind (arith, common_steps, nat_lt, ltb-true, at_boundary, cases_Bool)
 
   old_keep : (from to : ℕ) (items : List Item) → IsPlace (chars before) from → IsPlace (chars before) to → from ≤ to
       → Keeps (chars before) (index_of (chars before) to) items
@@ -225,8 +197,7 @@ module _ (before : List ℕ) (utf8 : IsUtf8 before) where
       grind (arith, common_steps, are_both, old_are, new_items, (left_are e.stop edits all.0.at_stop all.1))
 
   left_keeps : (low : ℕ) (edits : List Placed) → IsPlace (chars before) low → AllByRecursion (Lies before) edits
-      → AreApart low edits
-      → Keeps (chars before) (index_of (chars before) low)
+      → AreApart low edits → Keeps (chars before) (index_of (chars before) low)
       (items_of (chars before) (parts_left (length before) low edits))
   left_keeps low [] at all apart =
       subst (Keeps (chars before) (index_of (chars before) low))
@@ -265,8 +236,7 @@ module _ (before : List ℕ) (utf8 : IsUtf8 before) where
     parts_are = subst (AreParts before) (sym left.are) (left_are 0 left.ordered at_first all_lie)
 
     pub items_keep : Keeps (chars before) 0 (items_of (chars before) parts)
-    items_keep =
-        grind (arith, common_steps, index_first, left_keeps, at_first, all_lie)
+    items_keep = grind (arith, common_steps, index_first, left_keeps, at_first, all_lie)
 
     pub batch_means : ((c : ℕ) → 1 ≤ units c) → (batch : List ContentChange) → batch ≡ canonical units (chars before)
         (items_of (chars before) parts) → meaning units (chars before) batch ≡ Ok (items_of (chars before) parts)

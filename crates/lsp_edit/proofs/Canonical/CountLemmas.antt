@@ -1,16 +1,6 @@
 -- Each change adds at most one changed gap, so the canonical batch has no more changes than the batch.
-use Rattle.std.proofs.Common.{ℕ, zero, suc, ◌≡◌, ◌+◌, ◌-◌, ◌≤◌, Bool, true, false, ◌||◌, nat_lt, nat_le, cond, List, [], ◌∷◌, ◌++◌, length, map, filter, take, drop, Option, Some, None, Result, Ok, Err, ⊎_elim, refl, sym, ap, ◌∙◌, subst, arith, append-nil, take-append-drop, drop-drop, le-ltb, leb-true, lt-ltb}
-use Rattle.std.proofs.lemmas.Bool.{cases_Bool}
-use Rattle.std.proofs.lemmas.List.{length-append, length-map, length-reverse}
-use Rattle.lsp_text.specs.declared.position.Range.{Range}
-use Rattle.lsp_text.specs.TextLines.{numbers_from}
-use Rattle.lsp_text.specs.Positions.{denoted}
-use Rattle.lsp_edit.specs.Items.{Item, Old, New, plain, text_of}
-use Rattle.lsp_edit.specs.Batch.{ContentChange, Fault, Reversed, changed_in, items_after, after_changes, continue_with, meaning}
-use Rattle.lsp_edit.specs.inside.Batch.{replaced}
-use Rattle.lsp_edit.specs.Canonical.{Gap, gaps_from, gaps, is_changed, change_of_gap, canonical}
+use Rattle.lsp_edit.proofs.Prelude.{ℕ, zero, suc, ◌≡◌, ◌+◌, ◌-◌, ◌≤◌, Bool, true, false, ◌||◌, nat_lt, nat_le, cond, List, [], ◌∷◌, ◌++◌, length, map, filter, take, drop, Option, Some, None, Result, Ok, Err, ⊎_elim, refl, sym, ap, ◌∙◌, subst, arith, append-nil, take-append-drop, drop-drop, le-ltb, leb-true, lt-ltb, cases_Bool, length-append, length-map, length-reverse, Range, numbers_from, denoted, Item, Old, New, plain, text_of, ContentChange, Fault, Reversed, changed_in, items_after, after_changes, continue_with, meaning, replaced, Gap, gaps_from, gaps, is_changed, change_of_gap, canonical, common_steps}
 use Rattle.lsp_edit.proofs.Canonical.GapLemmas.{gap}
-use Rattle.std.proofs.lemmas.Grind.{common_steps}
 
 abbrev one_if : Bool → ℕ
 one_if true = 1
@@ -110,8 +100,7 @@ module _ (size : ℕ) where
             ≤ suc (hunks size false 0 items)
         at_indexes None stop r = absurd (cc)
         at_indexes (Some a) None r = absurd (cc)
-        at_indexes (Some a) (Some b) r =
-            grind (arith, common_steps, nat_le, replaced_adds, leb-true, cases_Bool)
+        at_indexes (Some a) (Some b) r = grind (arith, common_steps, nat_le, replaced_adds, leb-true, cases_Bool)
 
         by_range : (range : Option Range) → changed_in units old items change.text range ≡ Ok next
             → hunks size false 0 next ≤ suc (hunks size false 0 items)
@@ -148,8 +137,7 @@ hunks_are len low text (New character ∷ items) =
     grind (arith, common_steps, nat_lt, lt-ltb, length-append, (hunks_are len low (text ++ character ∷ []) items))
 
 pub no_more_changes : (units : ℕ → ℕ) (old : List ℕ) (batch : List ContentChange) (items : List Item)
-    → meaning units old batch
-    ≡ Ok items → length (canonical units old items) ≤ length batch
+    → meaning units old batch ≡ Ok items → length (canonical units old items) ≤ length batch
 no_more_changes units old batch items is =
     let r : length (canonical units old items)
     ≡ length (map (change_of_gap units old) (filter is_changed (gaps old items))) =

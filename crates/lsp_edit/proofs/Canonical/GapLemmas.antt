@@ -1,14 +1,5 @@
 -- The gaps of items are those between kept characters; and what their ends are where the items keep each CRLF whole.
-use Rattle.std.proofs.Common.{ℕ, suc, ◌≡◌, ◌<◌, true, false, nat_lt, List, [], ◌∷◌, ◌++◌, length, map, refl, sym, ap, ap₂, arith, append_assoc, append-nil, ltb-true}
-use Rattle.std.proofs.lemmas.Bool.{or_cases}
-use Rattle.lsp_text.specs.TextLines.{splits_crlf}
-use Rattle.lsp_text.proofs.TextLines.LineLemmas.{splits_none_past}
-use Rattle.lsp_edit.specs.Items.{Item, Old, New}
-use Rattle.lsp_edit.specs.Canonical.{kept, gap_texts, put_first, Gap, gaps_from, gaps, is_changed}
-use Rattle.lsp_edit.specs.Keeps.{Keeps}
-use Rattle.lsp_edit.specs.inside.Canonical.{gaps_between, gaps_told}
-use Rattle.lsp_edit.specs.laws.Batches.{AllHaveExactEnds}
-use Rattle.std.proofs.lemmas.Grind.{common_steps}
+use Rattle.lsp_edit.proofs.Prelude.{ℕ, suc, ◌≡◌, ◌<◌, true, false, nat_lt, List, [], ◌∷◌, ◌++◌, length, map, refl, sym, ap, ap₂, arith, append_assoc, append-nil, ltb-true, or_cases, splits_crlf, splits_none_past, Item, Old, New, kept, gap_texts, put_first, Gap, gaps_from, gaps, is_changed, Keeps, gaps_between, gaps_told, AllHaveExactEnds, common_steps}
 
 abbrev pub gap : ℕ → ℕ → List ℕ → Gap
 gap low high text = record { low = low; high = high; text = text }
@@ -41,8 +32,7 @@ told_from len low text (New character ∷ items) =
 
 pub gaps_are : (old : List ℕ) (items : List Item) → gaps old items
     ≡ gaps_told (length old) (kept items) (gap_texts items)
-gaps_are old items =
-    grind (arith, common_steps, told_from, put_nothing)
+gaps_are old items = grind (arith, common_steps, told_from, put_nothing)
 
 -- Both ends of a changed gap split no CRLF, where the items keep each CRLF whole.
 ends_from : (old : List ℕ) (low : ℕ) (text : List ℕ) (items : List Item)
@@ -55,12 +45,10 @@ ends_from old low text (Old index ∷ items) whole keeps = (
 )
   where
     low_whole : is_changed (gap low index text) ≡ true → splits_crlf old low ≡ false
-    low_whole changed =
-        grind (arith, common_steps, nat_lt, ltb-true, or_cases)
+    low_whole changed = grind (arith, common_steps, nat_lt, ltb-true, or_cases)
 
     high_whole : splits_crlf old low ≡ false → splits_crlf old index ≡ false
-    high_whole e =
-        grind (arith, common_steps)
+    high_whole e = grind (arith, common_steps)
 ends_from old low text (New character ∷ items) whole keeps =
     ends_from old low (text ++ character ∷ []) items (λ h. keeps.0) keeps.1
 

@@ -1,17 +1,5 @@
 -- What a batch means keeps both characters of each CRLF of the old text, or neither.
-use Rattle.std.proofs.Common.{ℕ, zero, suc, ◌≡◌, ◌+◌, ◌-◌, ◌≤◌, true, false, List, [], ◌∷◌, ◌++◌, length, map, take, drop, nat_le, Option, Some, None, Result, Ok, Err, ⊎_elim, inl, inr, refl, sym, subst, arith, take-append-drop, take-add, length-take-le, leb-true}
-use Rattle.std.proofs.lemmas.Bool.{cases_Bool}
-use Rattle.std.proofs.lemmas.List.{length-map}
-use Rattle.lsp_text.specs.declared.position.Range.{Range}
-use Rattle.lsp_text.specs.TextLines.{numbers_from, splits_crlf}
-use Rattle.lsp_text.specs.Positions.{denoted}
-use Rattle.lsp_text.proofs.TextLines.LineLemmas.{splits_none_past}
-use Rattle.lsp_text.proofs.Positions.PositionLemmas.{IsWhole, denoted_whole}
-use Rattle.lsp_edit.specs.Items.{Item, Old, New, plain, character_of, text_of}
-use Rattle.lsp_edit.specs.Batch.{ContentChange, Fault, Reversed, changed_in, items_after, after_changes, continue_with, meaning}
-use Rattle.lsp_edit.specs.inside.Batch.{replaced}
-use Rattle.lsp_edit.specs.Keeps.{Keeps}
-use Rattle.std.proofs.lemmas.Grind.{common_steps}
+use Rattle.lsp_edit.proofs.Prelude.{ℕ, zero, suc, ◌≡◌, ◌+◌, ◌-◌, ◌≤◌, true, false, List, [], ◌∷◌, ◌++◌, length, map, take, drop, nat_le, Option, Some, None, Result, Ok, Err, ⊎_elim, inl, inr, refl, sym, subst, arith, take-append-drop, take-add, length-take-le, leb-true, cases_Bool, length-map, Range, numbers_from, splits_crlf, denoted, splits_none_past, IsWhole, denoted_whole, Item, Old, New, plain, character_of, text_of, ContentChange, Fault, Reversed, changed_in, items_after, after_changes, continue_with, meaning, replaced, Keeps, common_steps}
 
 -- The index behind the last kept character, where that before the items was `low`.
 abbrev pub after : ℕ → List Item → ℕ
@@ -76,8 +64,7 @@ module _ (old : List ℕ) where
   last_whole low (New character) rest k whole = k.0
   last_whole low (Old index) [] k whole = k.3.1
   last_whole low (Old index) (New character ∷ rest) k whole = k.3.0
-  last_whole low (Old index) (Old next ∷ rest) k whole =
-      grind (arith, common_steps)
+  last_whole low (Old index) (Old next ∷ rest) k whole = grind (arith, common_steps)
 
   pub place_whole : (low : ℕ) (item : Item) (front rest : List Item) → Keeps old low (item ∷ front ++ rest)
       → splits_crlf (text_of old (item ∷ front ++ rest)) (suc (length front)) ≡ false
@@ -89,8 +76,7 @@ module _ (old : List ℕ) where
   place_at : (item : Item) (front rest items : List Item) (n : ℕ) → front ++ rest ≡ items → length front ≡ n
       → Keeps old 0 (item ∷ items) → splits_crlf (text_of old (item ∷ items)) (suc n) ≡ false
       → splits_crlf old (after 0 (item ∷ front)) ≡ false
-  place_at item front rest items n all here k whole =
-      grind (arith, common_steps, place_whole)
+  place_at item front rest items n all here k whole = grind (arith, common_steps, place_whole)
 
   pub index_whole : (items : List Item) (k : ℕ) → Keeps old 0 items → k ≤ length items
       → splits_crlf (text_of old items) k ≡ false → splits_crlf old (after 0 (take k items)) ≡ false
@@ -186,6 +172,5 @@ module _ (old : List ℕ) where
 
   -- What a batch means keeps both characters of each CRLF or neither.
   pub meaning_keeps : (units : ℕ → ℕ) (batch : List ContentChange) (items : List Item)
-      → meaning units old batch ≡ Ok items
-      → Keeps old 0 items
+      → meaning units old batch ≡ Ok items → Keeps old 0 items
   meaning_keeps units batch items is = after_changes_keeps units 0 (plain old) items batch (plain_keeps old) is

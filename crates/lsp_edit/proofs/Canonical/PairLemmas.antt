@@ -1,9 +1,5 @@
 -- Items that keep each CRLF whole, in plain words: behind a kept CR of a CRLF stands its LF, and before that LF its CR.
-use Rattle.std.proofs.Common.{ℕ, suc, ◌≡◌, true, false, List, [], ◌∷◌, ◌++◌, ⊎_elim, sym, ap, subst, arith}
-use Rattle.lsp_text.specs.TextLines.{splits_crlf}
-use Rattle.lsp_edit.specs.Items.{Item, Old, New}
-use Rattle.lsp_edit.specs.Keeps.{Keeps}
-use Rattle.lsp_edit.specs.laws.Batches.{KeepsPairs}
+use Rattle.lsp_edit.proofs.Prelude.{ℕ, suc, ◌≡◌, true, false, List, [], ◌∷◌, ◌++◌, ⊎_elim, sym, ap, subst, arith, splits_crlf, Item, Old, New, Keeps, KeepsPairs}
 use Rattle.lsp_edit.proofs.Canonical.KeepsLemmas.{after, rest_keeps}
 
 module _ (old : List ℕ) where

@@ -1,22 +1,10 @@
 -- The canonical batch of items makes them of the old text again, and each of its ranges denotes in the text that it
 -- meets what it
 -- denotes in the old text.
-use Rattle.std.proofs.Common.{ℕ, zero, suc, ◌≡◌, ◌+◌, ◌-◌, ◌≤◌, true, false, nat_lt, cond, List, [], ◌∷◌, ◌++◌, length, map, reverse, filter, take, drop, slice_index, Some, Ok, ⊎_elim, refl, sym, ap, ◌∙◌, subst, arith, append_assoc, append-nil, take_at, drop_at, take-take, drop-cons, length-take-le, le-leb}
-use Rattle.std.proofs.lemmas.Bool.{cases_Bool, cases_eq, or_parts, ltb-false}
-use Rattle.std.proofs.lemmas.List.{nil_from_length, get_or-append-add, map-append, length-map, length-append, get_or_past, reverse-append}
-use Rattle.lsp_text.specs.TextLines.{numbers_from, splits_crlf}
-use Rattle.lsp_text.specs.Positions.{exact_position, denoted}
-use Rattle.lsp_text.proofs.Positions.PositionLemmas.{exact_denotes}
+use Rattle.lsp_edit.proofs.Prelude.{ℕ, zero, suc, ◌≡◌, ◌+◌, ◌-◌, ◌≤◌, true, false, nat_lt, cond, List, [], ◌∷◌, ◌++◌, length, map, reverse, filter, take, drop, slice_index, Some, Ok, ⊎_elim, refl, sym, ap, ◌∙◌, subst, arith, append_assoc, append-nil, take_at, drop_at, take-take, drop-cons, length-take-le, le-leb, cases_Bool, cases_eq, or_parts, ltb-false, nil_from_length, get_or-append-add, map-append, length-map, length-append, get_or_past, reverse-append, numbers_from, splits_crlf, exact_position, denoted, exact_denotes, Item, Old, New, plain, character_of, text_of, ContentChange, items_after, replaced, Gap, gaps_from, is_changed, change_of_gap, canonical, Keeps, HasExactEnds, AllHaveExactEnds, common_steps}
 use Rattle.lsp_text.proofs.Positions.NearLemmas.{AgreeBelow, agree_from_take, splits_near, exact_near}
-use Rattle.lsp_edit.specs.Items.{Item, Old, New, plain, character_of, text_of}
-use Rattle.lsp_edit.specs.Batch.{ContentChange, items_after}
-use Rattle.lsp_edit.specs.inside.Batch.{replaced}
-use Rattle.lsp_edit.specs.Canonical.{Gap, gaps_from, is_changed, change_of_gap, canonical}
-use Rattle.lsp_edit.specs.Keeps.{Keeps}
-use Rattle.lsp_edit.specs.laws.Batches.{HasExactEnds, AllHaveExactEnds}
 use Rattle.lsp_edit.proofs.Canonical.GapLemmas.{gap, ends_exact}
 use Rattle.lsp_edit.proofs.Batches.BatchLemmas.{Makes, makes_nothing, makes_joined}
-use Rattle.std.proofs.lemmas.Grind.{common_steps}
 
 -- the old characters before an index, as items
 abbrev pub plain_to : ℕ → List Item
@@ -59,8 +47,7 @@ module _ (old : List ℕ) where
   pub text_row : (low count : ℕ) → low + count ≤ length old → text_of old (map Old (numbers_from low count))
       ≡ take count (drop low old)
   text_row low zero within = refl
-  text_row low (suc count) within =
-      grind (arith, common_steps, drop-cons, (text_row (suc low) count (omega arith)))
+  text_row low (suc count) within = grind (arith, common_steps, drop-cons, (text_row (suc low) count (omega arith)))
 
   text_met : (high : ℕ) (rest : List Item) → high ≤ length old → text_of old (plain_to high ++ rest) ≡ take high old
       ++ text_of old rest
@@ -146,8 +133,7 @@ change_if units old g = cond (is_changed g) (change_of_gap units old g ∷ []) [
 
 pub batch_of-cons : (units : ℕ → ℕ) (old : List ℕ) (g : Gap) (gs : List Gap) → batch_of units old (g ∷ gs)
     ≡ batch_of units old gs ++ change_if units old g
-batch_of-cons units old g gs =
-    grind (arith, common_steps, reverse-append, append-nil, cases_Bool)
+batch_of-cons units old g gs = grind (arith, common_steps, reverse-append, append-nil, cases_Bool)
 
 module _ (units : ℕ → ℕ) (some : (c : ℕ) → 1 ≤ units c) (old : List ℕ) where
   gap_made : (low high : ℕ) (text : List ℕ) (rest : List Item) → low ≤ high

@@ -1,9 +1,5 @@
 -- Two batches have equal canonical batches exactly if they do the same, and the canonical batch is its own.
-use Rattle.std.proofs.Common.{ℕ, ◌≡◌, ◌≤◌, ◌↔◌, List, length, map, reverse, filter, Result, Ok, sym, ap, ap₂, ◌∙◌}
-use Rattle.lsp_edit.specs.Items.{Item}
-use Rattle.lsp_edit.specs.Batch.{ContentChange, Fault, meaning}
-use Rattle.lsp_edit.specs.Canonical.{kept, gap_texts, DoTheSame, Gap, is_changed, change_of_gap, canonical}
-use Rattle.lsp_edit.specs.inside.Canonical.{gaps_told}
+use Rattle.lsp_edit.proofs.Prelude.{ℕ, ◌≡◌, ◌≤◌, ◌↔◌, List, length, map, reverse, filter, Result, Ok, sym, ap, ap₂, ◌∙◌, Item, ContentChange, Fault, meaning, kept, gap_texts, DoTheSame, Gap, is_changed, change_of_gap, canonical, gaps_told}
 use Rattle.lsp_edit.proofs.Canonical.GapLemmas.{gaps_are}
 use Rattle.lsp_edit.proofs.Canonical.KeepsLemmas.{meaning_keeps}
 use Rattle.lsp_edit.proofs.Canonical.RebuiltLemmas.{canonical_makes}

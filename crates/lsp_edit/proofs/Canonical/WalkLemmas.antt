@@ -1,28 +1,8 @@
 -- The canonical batch of parts, written in one pass over them.
-use Rattle.std.proofs.Common.{ℕ, suc, ◌≡◌, ◌+◌, ◌-◌, ◌<◌, ◌≤◌, ◌⊎◌, true, false, nat_lt, cond, List, [], ◌∷◌, ◌++◌, length, map, reverse, filter, drop, get_or, refl, sym, ap, ap₂, ◌∙◌, subst, arith, append_assoc, append-nil, encode_utf8_all, IsCharBoundary, ⊎_elim, lt-ltb, le-ltb, zero, Some, String, string_bytes, string_len, ◌==◌, eqb-true}
-use Rattle.std.specs.Str.{chars, IsUtf8}
-use Rattle.std.proofs.lemmas.Bool.{cases_Bool, or_left, or_right, or_from, cases_lt, eqb-false}
-use Rattle.std.proofs.lemmas.List.{drop_more, drop_all, map-append, nil_from_length, reverse-append}
-use Rattle.std.proofs.lemmas.Str.{encodes-chars, chars-append, chars-nil, IsUtf8-string_bytes, IsCharBoundary-start, IsCharBoundary-end}
-use Rattle.lsp_text.specs.Text.{place_of}
-use Rattle.lsp_text.specs.TextLines.{numbers_from, splits_crlf}
-use Rattle.lsp_text.specs.LineStarts.{IsPlace}
-use Rattle.lsp_text.proofs.Positions.PlaceLemmas.{IsIndexAt, index_at}
-use Rattle.lsp_text.specs.declared.position.Position.{Position}
-use Rattle.lsp_text.specs.Positions.{exact_position}
-use Rattle.lsp_edit.specs.declared.change.Change.{Change}
-use Rattle.lsp_edit.specs.Edited.{content_change}
-use Rattle.lsp_edit.specs.Items.{Item, Old, New}
-use Rattle.lsp_edit.specs.Batch.{ContentChange}
-use Rattle.lsp_edit.specs.Canonical.{Gap, gaps_from, gaps, is_changed, change_of_gap}
-use Rattle.lsp_edit.specs.inside.Gaps.{gap_between, gap_change}
-use Rattle.lsp_edit.specs.laws.Batches.{HasExactEnds, AllHaveExactEnds}
-use Rattle.lsp_edit.specs.Parts.{Part, OldPart, NewPart, index_of, part_of, parts_of, items_in, items_of, IsPartOf, AreParts}
-use Rattle.lsp_edit.specs.declared.pieces.span.Span.{Span}
+use Rattle.lsp_edit.proofs.Prelude.{ℕ, suc, ◌≡◌, ◌+◌, ◌-◌, ◌<◌, ◌≤◌, ◌⊎◌, true, false, nat_lt, cond, List, [], ◌∷◌, ◌++◌, length, map, reverse, filter, drop, slice_index_or as get_or, refl, sym, ap, ap₂, ◌∙◌, subst, arith, append_assoc, append-nil, encode_utf8_all, IsCharBoundary, ⊎_elim, lt-ltb, le-ltb, zero, Some, String, string_bytes, string_len, ◌==◌, eqb-true, chars, IsUtf8, cases_Bool, or_left, or_right, or_from, cases_lt, eqb-false, drop_more, drop_all, map-append, nil_from_length, reverse-append, encodes-chars, chars-append, chars-nil, IsUtf8-string_bytes, IsCharBoundary-start, IsCharBoundary-end, place_of, numbers_from, splits_crlf, IsPlace, IsIndexAt, index_at, Position, exact_position, Change, content_change, Item, Old, New, ContentChange, Gap, gaps_from, gaps, is_changed, change_of_gap, gap_between, gap_change, HasExactEnds, AllHaveExactEnds, Part, OldPart, NewPart, index_of, part_of, parts_of, items_in, items_of, IsPartOf, AreParts, Span, common_steps}
 use Rattle.lsp_edit.proofs.Canonical.GapLemmas.{gap}
 use Rattle.lsp_edit.proofs.Composing.EditedLemmas.{index_first, index_last}
 use Rattle.lsp_edit.proofs.Parts.IndexLemmas.{index_of-place, index_rises, indexes_less}
-use Rattle.std.proofs.lemmas.Grind.{common_steps}
 
 -- the changes of gaps, from the first to the last
 abbrev pub changes_of : (ℕ → ℕ) → List ℕ → List Gap → List ContentChange
@@ -30,8 +10,7 @@ changes_of units old gs = map (change_of_gap units old) (filter is_changed gs)
 
 pub changes_of-cons : (units : ℕ → ℕ) (old : List ℕ) (g : Gap) (gs : List Gap) → changes_of units old (g ∷ gs)
     ≡ cond (is_changed g) (change_of_gap units old g ∷ []) [] ++ changes_of units old gs
-changes_of-cons units old g gs =
-    grind (arith, common_steps, cases_Bool)
+changes_of-cons units old g gs = grind (arith, common_steps, cases_Bool)
 
 -- the gaps of items over an old text, from an index on
 abbrev gaps_on : List ℕ → ℕ → List ℕ → List Item → List Gap
@@ -50,8 +29,7 @@ row_ends : (old : List ℕ) (low count : ℕ) (rest : List Item)
     → AllHaveExactEnds old (gaps_on old (low + count) [] rest)
 row_ends old low zero rest ends = let e : low ≡ low + 0 = omega arith in
     subst (λ (n : ℕ). AllHaveExactEnds old (gaps_on old n [] rest)) e ends
-row_ends old low (suc count) rest ends =
-    grind (arith, common_steps, (row_ends old (suc low) count rest ends.1))
+row_ends old low (suc count) rest ends = grind (arith, common_steps, (row_ends old (suc low) count rest ends.1))
 
 new_gaps : (old : List ℕ) (low : ℕ) (text characters : List ℕ) (rest : List Item)
     → gaps_on old low text (map New characters ++ rest) ≡ gaps_on old low (text ++ characters) rest
@@ -99,8 +77,7 @@ module _ (before : List ℕ) (utf8 : IsUtf8 before) where
   position_exact units place p at exact = by_index (index_at before place utf8 at)
     where
       by_index : IsIndexAt before place → p ≡ exact_position units (chars before) (index_of (chars before) place)
-      by_index a =
-          grind (arith, common_steps, index_of-place)
+      by_index a = grind (arith, common_steps, index_of-place)
 
   -- What a gap adds to the changes.
   pub gap_put : (units : ℕ → ℕ) (low high : ℕ) (changes : List Change) (change : Change) (start stop : Position)
@@ -126,8 +103,7 @@ module _ (before : List ℕ) (utf8 : IsUtf8 before) where
 
 -- whether a text has bytes
 pub text_some : {Z : Type 0} (text : String Z) → false ≡ (string_len text == 0) → 0 < length (string_bytes text)
-text_some text e =
-    grind (arith, common_steps, string_bytes, eqb-false, string_len, cases_lt)
+text_some text e = grind (arith, common_steps, string_bytes, eqb-false, string_len, cases_lt)
 
 pub text_none : {Z : Type 0} (text : String Z) → true ≡ (string_len text == 0) → length (string_bytes text) ≡ 0
 text_none text e = sym text.bytes.ok.0 ∙ eqb-true (string_len text) 0 (sym e)
@@ -148,16 +124,14 @@ module _ (units : ℕ → ℕ) (before : List ℕ) (utf8 : IsUtf8 before) where
   place_is place at whole = by_index (index_at before place utf8 at)
     where
       by_index : IsIndexAt before place → IsPlace (chars before) place
-      by_index a =
-          grind (arith, common_steps, index_of-place)
+      by_index a = grind (arith, common_steps, index_of-place)
 
   module _ (all made : List ContentChange) (low : ℕ) (text : List ℕ) (text_utf8 : IsUtf8 text) (rest : List Part)
       (walks : Walks units before all made low text rest) where
     -- behind a part of a new text
     pub walk_new : (bytes : List ℕ) (more : List Part) → rest ≡ NewPart bytes ∷ more
         → Walks units before all made low (text ++ bytes) more
-    walk_new bytes more is =
-        grind (arith, common_steps, new_gaps, chars-append)
+    walk_new bytes more is = grind (arith, common_steps, new_gaps, chars-append)
 
     -- behind a part of the old text
     module _ (from to : ℕ) (more : List Part) (is : rest ≡ OldPart from to ∷ more) where
@@ -204,8 +178,7 @@ module _ (units : ℕ → ℕ) (before : List ℕ) (utf8 : IsUtf8 before) where
       here_ends = subst (AllHaveExactEnds (chars before)) first_gap here.ends
 
       pub walk_old : Walks units before all (made ++ gap_change units before low from text) to [] more
-      walk_old =
-          grind (arith, common_steps, row_gaps, changes_of-cons, first_gap, empty_chars, append_assoc, row_ends)
+      walk_old = grind (arith, common_steps, row_gaps, changes_of-cons, first_gap, empty_chars, append_assoc, row_ends)
 
       pub walk_old_ends : (low < from) ⊎ (0 < length text) → IsPlace (chars before) low × IsPlace (chars before) from
       walk_old_ends changed =
@@ -226,8 +199,7 @@ module _ (units : ℕ → ℕ) (before : List ℕ) (utf8 : IsUtf8 before) where
       last_gap = ap (λ (n : ℕ). gap (index_of (chars before) low) n (chars text)) (sym (index_last before utf8))
 
       pub walk_end : made ++ gap_change units before low (length before) text ≡ all
-      walk_end =
-          grind (arith, common_steps, changes_of-cons, append-nil, last_gap)
+      walk_end = grind (arith, common_steps, changes_of-cons, append-nil, last_gap)
 
       pub walk_end_ends : (low < length before) ⊎ (0 < length text) → IsPlace (chars before) low
           × IsPlace (chars before) (length before)
@@ -258,8 +230,7 @@ walk_begins units before utf8 parts are ends =
 
 pub walk_turned : (changes : List Change) → map content_change (reverse changes) ≡ reverse (map content_change changes)
 walk_turned [] = refl
-walk_turned (change ∷ changes) =
-    grind (arith, common_steps, reverse-append, map-append, reverse, (walk_turned changes))
+walk_turned (change ∷ changes) = grind (arith, common_steps, reverse-append, map-append, reverse, (walk_turned changes))
 
 -- the parts that are left of spans
 pub rest_is : (spans : List Span) (i : ℕ) (default : Span) (first : Part) → i < length spans

@@ -1,15 +1,8 @@
 -- The texts of a canonical batch are together the new characters, so they are no longer than the final text, whatever a
 -- character
 -- weighs.
-use Rattle.std.proofs.Common.{ℕ, suc, ◌≡◌, ◌+◌, ◌≤◌, nat_lt, List, [], ◌∷◌, ◌++◌, length, map, reverse, filter, sum_by, refl, arith}
-use Rattle.std.proofs.lemmas.Bool.{cases_Bool, or_parts, ltb-false}
-use Rattle.std.proofs.lemmas.List.{reverse-append, nil_from_length}
-use Rattle.std.proofs.lemmas.List.Sums.{sum_by-cons, sum_by-append}
-use Rattle.lsp_edit.specs.Items.{Item, Old, New, text_of}
-use Rattle.lsp_edit.specs.Batch.{ContentChange}
-use Rattle.lsp_edit.specs.Canonical.{Gap, gaps_from, gaps, is_changed, change_of_gap, canonical}
+use Rattle.lsp_edit.proofs.Prelude.{ℕ, suc, ◌≡◌, ◌+◌, ◌≤◌, nat_lt, List, [], ◌∷◌, ◌++◌, length, map, reverse, filter, sum_by, refl, arith, cases_Bool, or_parts, ltb-false, reverse-append, nil_from_length, sum_by-cons, sum_by-append, Item, Old, New, text_of, ContentChange, Gap, gaps_from, gaps, is_changed, change_of_gap, canonical, common_steps}
 use Rattle.lsp_edit.proofs.Canonical.GapLemmas.{gap}
-use Rattle.std.proofs.lemmas.Grind.{common_steps}
 
 sum_by-reverse : {X : Type 0} (f : X → ℕ) (xs : List X) → sum_by f (reverse xs) ≡ sum_by f xs
 sum_by-reverse f [] = refl
@@ -54,11 +47,9 @@ module _ (weight : ℕ → ℕ) where
       )
 
   changes_weigh : (units : ℕ → ℕ) (old : List ℕ) (gs : List Gap) → sum_by change_weight (map
-      (change_of_gap units old) gs)
-      ≡ sum_by gap_weight gs
+      (change_of_gap units old) gs) ≡ sum_by gap_weight gs
   changes_weigh units old [] = refl
-  changes_weigh units old (g ∷ gs) =
-      grind (arith, common_steps, sum_by-cons, (changes_weigh units old gs))
+  changes_weigh units old (g ∷ gs) = grind (arith, common_steps, sum_by-cons, (changes_weigh units old gs))
 
   new_lighter : (old : List ℕ) (items : List Item) → new_weight items ≤ sum_by weight (text_of old items)
   new_lighter old [] = omega arith

@@ -1,34 +1,10 @@
 -- What a change makes of the fields of pieces.
-use Rattle.std.proofs.Common.{ℕ, ◌≡◌, ◌+◌, ◌-◌, ◌<◌, ◌≤◌, true, false, List, [], ◌∷◌, ◌++◌, length, map, take, drop, nat_le, refl, sym, ap, ap₂, ◌∙◌, subst, arith, append_assoc, take-append-drop, encode_utf8_all, IsCharBoundary, ⊎_elim, inl, inr, leb-true, le-leb, Option, Some, None, Result, Ok, Err, string_bytes}
-use Rattle.std.specs.List.{replace_range}
-use Rattle.std.specs.Str.{chars, IsUtf8}
-use Rattle.std.proofs.lemmas.Bool.{cases_Bool}
-use Rattle.std.proofs.lemmas.List.{length-map, length-append, map-append, take-map, drop-map}
-use Rattle.std.proofs.lemmas.Str.{encodes-append, encodes-chars, chars_from_encodes, IsUtf8-from_is_utf8, is_utf8-from_IsUtf8}
-use Rattle.lsp_text.specs.declared.position.Range.{Range}
-use Rattle.lsp_text.specs.Text.{place_of}
-use Rattle.lsp_text.specs.Positions.{denoted}
-use Rattle.lsp_text.proofs.Positions.PlaceLemmas.{place_rises, place_within, place_boundary, take_place, drop_place}
-use Rattle.lsp_text.proofs.Positions.PositionLemmas.{denoted_whole}
-use Rattle.lsp_buffer.proofs.Changes.ChangeLemmas.{replaced_length}
-use Rattle.lsp_edit.specs.declared.change.Change.{Change}
-use Rattle.lsp_edit.specs.declared.fault.EditFault.{EditFault}
-use Rattle.lsp_edit.specs.declared.fault.EditFault.TheVariants.{NoMemory}
-use Rattle.lsp_edit.specs.Items.{Item, New, character_of, text_of}
-use Rattle.lsp_edit.specs.Batch.{ContentChange, Fault, InsideStart, InsideStop, Reversed, items_after, in_order, ends_of}
-use Rattle.lsp_edit.specs.inside.Batch.{replaced}
-use Rattle.lsp_edit.specs.Faults.{fault_at, IsFaultOfChange, places_at}
-use Rattle.lsp_edit.specs.inside.Faults.{IsPlaces}
-use Rattle.lsp_edit.specs.Keeps.{Keeps}
-use Rattle.lsp_edit.specs.Parts.{Part, items_of, bytes_of, AreParts, NoneTouch, new_parts}
-use Rattle.lsp_edit.specs.inside.Parts.{AreCut, AreOrdered, replaced_parts}
-use Rattle.lsp_edit.specs.Edited.{ArePieces, Applied, PlainData, content_change, edited_text, edited_bytes, next_number}
+use Rattle.lsp_edit.proofs.Prelude.{ℕ, ◌≡◌, ◌+◌, ◌-◌, ◌<◌, ◌≤◌, true, false, List, [], ◌∷◌, ◌++◌, length, map, take, drop, nat_le, refl, sym, ap, ap₂, ◌∙◌, subst, arith, append_assoc, take-append-drop, encode_utf8_all, IsCharBoundary, ⊎_elim, inl, inr, leb-true, le-leb, Option, Some, None, Result, Ok, Err, string_bytes, replace_range, chars, IsUtf8, cases_Bool, length-map, length-append, map-append, take-map, drop-map, encodes-append, encodes-chars, chars_from_encodes, IsUtf8-from_is_utf8, is_utf8-from_IsUtf8, Range, place_of, denoted, place_rises, place_within, place_boundary, take_place, drop_place, denoted_whole, replaced_length, Change, EditFault, NoMemory, Item, New, character_of, text_of, ContentChange, Fault, InsideStart, InsideStop, Reversed, items_after, in_order, ends_of, replaced, fault_at, IsFaultOfChange, places_at, IsPlaces, Keeps, Part, items_of, bytes_of, AreParts, NoneTouch, new_parts, AreCut, AreOrdered, replaced_parts, ArePieces, Applied, PlainData, content_change, edited_text, edited_bytes, next_number, common_steps}
 use Rattle.lsp_edit.proofs.Canonical.KeepsLemmas.{after_change_keeps}
 use Rattle.lsp_edit.proofs.Parts.CutLemmas.{text_of-new, part_ordered}
 use Rattle.lsp_edit.proofs.Parts.CutPartsLemmas.{cut_parts, parts_bytes}
 use Rattle.lsp_edit.proofs.Parts.MergedLemmas.{new_apart, replaced_apart}
 use Rattle.lsp_edit.proofs.Parts.PutLemmas.{replaced_items, replaced_few, new_items, new_few}
-use Rattle.std.proofs.lemmas.Grind.{common_steps}
 
 -- A range whose places were told, with the indexes that they are of.
 pub record AreEnds (units : ℕ → ℕ) (text : List ℕ) (range : Range) (start stop : ℕ) : Type 0 where
@@ -88,8 +64,7 @@ fault_told units old items characters range number fault error =
         fault
     by_ends None b e = inr (InsideStart, refl, cc)
     by_ends (Some a) None e = inr (InsideStop, refl, cc)
-    by_ends (Some a) (Some b) e =
-        grind (arith, common_steps, nat_le, inr, cases_Bool)
+    by_ends (Some a) (Some b) e = grind (arith, common_steps, nat_le, inr, cases_Bool)
 
 -- Places that were told are the same, whatever the number of the change.
 pub places_any : (number : ℕ) (text : List ℕ) (start stop : ℕ) (ends : Result (ℕ × ℕ) Fault)
@@ -99,8 +74,7 @@ places_any number text start stop (Err why) e = absurd (cc)
 
 pub places_found : (number : ℕ) (text : List ℕ) (start stop : ℕ) (ends : Result (ℕ × ℕ) Fault)
     → IsPlaces (Ok (start, stop)) (places_at number text ends) → Ok (start, stop) ≡ places_at 0 text ends
-places_found number text start stop ends told =
-    grind (arith, common_steps, places_any)
+places_found number text start stop ends told = grind (arith, common_steps, places_any)
 
 -- What was found of the places in a text, said of its bytes.
 pub places_seen : (units : ℕ → ℕ) (number : ℕ) (range : Range) (r : Result (ℕ × ℕ) EditFault) (seen bytes : List ℕ)
@@ -143,8 +117,7 @@ seen before parts changes = record { before = chars before; items = items_of (ch
 pub record IsNext (units : ℕ → ℕ) (before : List ℕ) (parts : List Part) (changes : ℕ) (change : ContentChange)
     (next : List Part)
     (len : ℕ) : Type 0 where
-  pub made : items_after units (chars before) (items_of (chars before) parts) change
-      ≡ Ok (items_of (chars before) next)
+  pub made : items_after units (chars before) (items_of (chars before) parts) change ≡ Ok (items_of (chars before) next)
   pub are : ArePieces before next len (next_number changes)
 
 module _ (units : ℕ → ℕ) (before : List ℕ) (parts : List Part) (len changes : ℕ)
@@ -280,8 +253,7 @@ module _ (units : ℕ → ℕ) (before : List ℕ) (parts : List Part) (len chan
 
     pub range_short : (bytes : List ℕ) → bytes ≡ bytes_of before parts → length (replace_range bytes start stop new)
         ≤ 2147483648
-    range_short bytes same =
-        grind (arith, common_steps, range_bytes, in_order_places)
+    range_short bytes same = grind (arith, common_steps, range_bytes, in_order_places)
 
     pub range_next : length (replaced_parts parts start stop new) < 18446744073709551616
         → IsNext units before parts changes (record { range = Some range; text = chars new })
@@ -310,16 +282,14 @@ room_told before parts len changes more edited are is room =
     omega (arith, n, ap (λ (e : PlainData). length (edited_bytes e)) is)
 
 pub next_told : (units : ℕ → ℕ) (before : List ℕ) (parts : List Part) (changes : ℕ) (change : ContentChange)
-    (next : List Part)
-    (len : ℕ) → IsNext units before parts changes change next len
+    (next : List Part) (len : ℕ) → IsNext units before parts changes change next len
     → (edited : PlainData) → seen before parts changes ≡ edited → (made : List Part) → made ≡ next → (count : ℕ)
     → count ≡ next_number changes → Applied units edited change (seen before made count)
 next_told units before parts changes change next len is edited view made same count counted =
     subst (λ (e : PlainData). Applied units e change (seen before made count)) view (grind (arith, common_steps))
 
 pub next_holds : (units : ℕ → ℕ) (before : List ℕ) (parts : List Part) (changes : ℕ) (change : ContentChange)
-    (next : List Part)
-    (len : ℕ) → IsNext units before parts changes change next len
+    (next : List Part) (len : ℕ) → IsNext units before parts changes change next len
     → (made : List Part) → made ≡ next → (count : ℕ) → count ≡ next_number changes → ArePieces before made len count
 next_holds units before parts changes change next len is made same count counted = rw (same, counted) is.are
 

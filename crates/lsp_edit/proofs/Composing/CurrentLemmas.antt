@@ -1,9 +1,5 @@
 -- The text that changes meet, with some of its bytes replaced.
-use Rattle.std.proofs.Common.{ℕ, ◌≡◌, List, subst, sym, Option, Some}
-use Rattle.std.specs.Str.{IsUtf8}
-use Rattle.std.proofs.lemmas.Str.{IsUtf8-from_is_utf8}
-use Rattle.lsp_edit.specs.Edited.{ArePieces, IsCurrent}
-use Rattle.lsp_edit.specs.Parts.{Part, bytes_of}
+use Rattle.lsp_edit.proofs.Prelude.{ℕ, ◌≡◌, List, subst, sym, Option, Some, IsUtf8, IsUtf8-from_is_utf8, ArePieces, IsCurrent, Part, bytes_of}
 use Rattle.lsp_edit.proofs.Deltas.LayerLemmas.{parts_utf8}
 
 pub current_is : (bytes : List ℕ) (made : Option (List ℕ)) (current : List ℕ) → IsCurrent bytes made

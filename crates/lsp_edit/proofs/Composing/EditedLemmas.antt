@@ -1,26 +1,9 @@
 -- The fields of pieces: what they are at first, and what they tell.
-use Rattle.std.proofs.Common.{ℕ, ◌≡◌, ◌-◌, ◌≤◌, true, false, List, [], ◌∷◌, length, ◌==◌, eqb-true, refl, sym, ap, ap₂, ◌∙◌, subst, arith, append-nil, take_all, encode_utf8_all, ⊎_elim, inr, Result}
-use Rattle.std.specs.Str.{chars, IsUtf8}
-use Rattle.std.proofs.lemmas.Bool.{cases_Bool, eqb-false}
-use Rattle.std.proofs.lemmas.List.{nil_from_length}
-use Rattle.std.proofs.lemmas.Str.{encodes-chars, is_utf8-from_IsUtf8, IsUtf8-from_is_utf8, chars-nil, chars_from_encodes, IsCharBoundary-start, IsCharBoundary-end}
-use Rattle.lsp_text.specs.Text.{place_of}
-use Rattle.lsp_text.proofs.Positions.PlaceLemmas.{place_end}
-use Rattle.lsp_edit.specs.Items.{plain, text_of}
-use Rattle.lsp_edit.specs.Parts.{Part, OldPart, index_of, items_of, bytes_of, AreParts, NoneTouch}
-use Rattle.lsp_edit.specs.inside.Parts.{whole_parts}
-use Rattle.lsp_edit.specs.Keeps.{Keeps}
-use Rattle.lsp_edit.specs.Edited.{ArePieces, PlainData, edited_text, edited_bytes}
-use Rattle.lsp_edit.specs.Faults.{places_at}
-use Rattle.lsp_edit.specs.Batch.{ends_of}
-use Rattle.lsp_edit.specs.inside.Faults.{IsPlaces}
-use Rattle.lsp_edit.specs.declared.fault.EditFault.{EditFault}
-use Rattle.lsp_text.specs.declared.position.Range.{Range}
+use Rattle.lsp_edit.proofs.Prelude.{ℕ, ◌≡◌, ◌-◌, ◌≤◌, true, false, List, [], ◌∷◌, length, ◌==◌, eqb-true, refl, sym, ap, ap₂, ◌∙◌, subst, arith, append-nil, take_all, encode_utf8_all, ⊎_elim, inr, Result, chars, IsUtf8, cases_Bool, eqb-false, nil_from_length, encodes-chars, is_utf8-from_IsUtf8, IsUtf8-from_is_utf8, chars-nil, chars_from_encodes, IsCharBoundary-start, IsCharBoundary-end, place_of, place_end, plain, text_of, Part, OldPart, index_of, items_of, bytes_of, AreParts, NoneTouch, whole_parts, Keeps, ArePieces, PlainData, edited_text, edited_bytes, places_at, ends_of, IsPlaces, EditFault, Range, common_steps}
 use Rattle.lsp_edit.proofs.Canonical.KeepsLemmas.{plain_keeps}
 use Rattle.lsp_edit.proofs.Canonical.RebuiltLemmas.{text_row}
 use Rattle.lsp_edit.proofs.Parts.IndexLemmas.{index_of-place}
 use Rattle.lsp_edit.proofs.Parts.CutPartsLemmas.{parts_bytes}
-use Rattle.std.proofs.lemmas.Grind.{common_steps}
 
 pub index_first : (text : List ℕ) → index_of text 0 ≡ 0
 index_first [] = refl
@@ -43,8 +26,7 @@ pub record IsWhole (before : List ℕ) (parts : List Part) : Type 0 where
   pub few : length parts ≤ 1
 
 whole_none : (before : List ℕ) → length before ≡ 0 → IsWhole before []
-whole_none before none =
-    grind (arith, common_steps, nil_from_length, chars-nil)
+whole_none before none = grind (arith, common_steps, nil_from_length, chars-nil)
 
 whole_some : (before : List ℕ) → IsUtf8 before → (length before ≡ 0 → ⊥)
     → IsWhole before (OldPart 0 (length before) ∷ [])

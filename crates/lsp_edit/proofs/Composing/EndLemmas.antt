@@ -1,16 +1,5 @@
 -- The places of a range's ends, in order, are those of the indexes that the ends denote.
-use Rattle.std.proofs.Common.{ℕ, ◌≡◌, ◌<◌, ◌≤◌, List, Option, Some, None, option_map, Ok, Err, refl, arith, le-leb, ⊎_elim}
-use Rattle.std.proofs.lemmas.Bool.{cases_lt, lt-leb}
-use Rattle.lsp_text.specs.declared.position.Range.{Range}
-use Rattle.lsp_text.specs.Text.{place_of}
-use Rattle.lsp_text.specs.Positions.{denoted}
-use Rattle.lsp_text.proofs.Positions.PlaceLemmas.{place_order, place_rises}
-use Rattle.lsp_text.proofs.Positions.PositionLemmas.{IsWhole, denoted_whole}
-use Rattle.lsp_edit.specs.declared.fault.EditFault.TheVariants.{ReversedRange}
-use Rattle.lsp_edit.specs.Faults.{places_at}
-use Rattle.lsp_edit.specs.Batch.{ends_of, in_order}
-use Rattle.lsp_edit.specs.inside.Faults.{numbered}
-use Rattle.std.proofs.lemmas.Grind.{common_steps}
+use Rattle.lsp_edit.proofs.Prelude.{ℕ, ◌≡◌, ◌<◌, ◌≤◌, List, Option, Some, None, option_map, Ok, Err, refl, arith, le-leb, ⊎_elim, cases_lt, lt-leb, Range, place_of, denoted, place_order, place_rises, IsWhole, denoted_whole, ReversedRange, places_at, ends_of, in_order, numbered, common_steps}
 
 -- the index of a denoted place
 record IsPlaceOf (text : List ℕ) (found : Option ℕ) (place : ℕ) : Type 0 where
@@ -59,8 +48,7 @@ pub places_same : (units : ℕ → ℕ) (text : List ℕ) (range : Range) (numbe
     → stop ≡ option_map (place_of text) (denoted units text range.stop)
     → numbered number (in_order start stop) ≡ places_at number text (ends_of units text range)
 places_same units text range number None stop a b = rw (none_found text (denoted units text range.start) a) refl
-places_same units text range number (Some start) None a b =
-    grind (arith, common_steps, place_found, none_found)
+places_same units text range number (Some start) None a b = grind (arith, common_steps, place_found, none_found)
 places_same units text range number (Some start) (Some stop) a b =
     ⊎_elim
     (λ (less : stop < start). rw (lt-leb start stop less) (places_reversed units text range number start stop a b less))

@@ -1,20 +1,7 @@
 -- How long a text gets by a batch: each change adds its own text at most.
-use Rattle.std.proofs.Common.{ℕ, suc, ◌≡◌, ◌+◌, ◌-◌, ◌<◌, ◌≤◌, true, false, List, ◌∷◌, ◌++◌, length, map, take, drop, nat_le, sym, ap, ◌∙◌, subst, arith, drop-drop, encode_utf8_all, ⊎_elim, leb-true, Option, Some, None, Result, Ok, Err, sum_by, string_len, string_bytes}
-use Rattle.std.specs.Str.{chars}
-use Rattle.std.proofs.lemmas.Bool.{cases_Bool}
-use Rattle.std.proofs.lemmas.List.{length-append}
-use Rattle.std.proofs.lemmas.List.Sums.{sum_by-cons}
-use Rattle.std.proofs.lemmas.Str.{encodes-append, encodes-chars, IsUtf8-string_bytes}
-use Rattle.lsp_text.specs.declared.position.Range.{Range}
-use Rattle.lsp_text.specs.Positions.{denoted}
-use Rattle.lsp_edit.specs.declared.change.Change.{Change}
-use Rattle.lsp_edit.specs.Items.{Item, New, text_of}
-use Rattle.lsp_edit.specs.Batch.{ContentChange, Fault, Reversed, changed_in, items_after, after_changes, continue_with}
-use Rattle.lsp_edit.specs.inside.Batch.{replaced}
-use Rattle.lsp_edit.specs.Edited.{Applied, PlainData, content_change, edited_bytes}
+use Rattle.lsp_edit.proofs.Prelude.{ℕ, suc, ◌≡◌, ◌+◌, ◌-◌, ◌<◌, ◌≤◌, true, false, List, ◌∷◌, ◌++◌, length, map, take, drop, nat_le, sym, ap, ◌∙◌, subst, arith, drop-drop, encode_utf8_all, ⊎_elim, leb-true, Option, Some, None, Result, Ok, Err, sum_by, string_len, string_bytes, chars, cases_Bool, length-append, sum_by-cons, encodes-append, encodes-chars, IsUtf8-string_bytes, Range, denoted, Change, Item, New, text_of, ContentChange, Fault, Reversed, changed_in, items_after, after_changes, continue_with, replaced, Applied, PlainData, content_change, edited_bytes, common_steps}
 use Rattle.lsp_edit.proofs.Parts.CutLemmas.{text_of-new}
 use Rattle.lsp_edit.proofs.Composing.AppliedLemmas.{bytes_split, text_put}
-use Rattle.std.proofs.lemmas.Grind.{common_steps}
 
 replaced_longer : (text characters : List ℕ) (a b : ℕ) → a ≤ b
     → length (encode_utf8_all (take a text ++ (characters ++ drop b text))) ≤ length (encode_utf8_all text)

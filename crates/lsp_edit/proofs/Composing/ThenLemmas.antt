@@ -1,13 +1,5 @@
 -- The fields of pieces that two series of changes make together.
-use Rattle.std.proofs.Common.{ℕ, ◌≡◌, ◌<◌, List, length, sym, ap, ◌∙◌, subst, arith, encode_utf8_all}
-use Rattle.std.specs.Str.{chars, IsUtf8}
-use Rattle.std.proofs.lemmas.Str.{IsUtf8-from_is_utf8, IsCharBoundary-start}
-use Rattle.lsp_edit.specs.Items.{plain, text_of}
-use Rattle.lsp_edit.specs.Compose.{then_items}
-use Rattle.lsp_edit.specs.Keeps.{Keeps}
-use Rattle.lsp_edit.specs.Parts.{Part, items_of, bytes_of, AreParts, NoneTouch, Ascend}
-use Rattle.lsp_edit.specs.inside.Parts.{through_parts, AreThrough}
-use Rattle.lsp_edit.specs.Edited.{ArePieces, PlainData, both_counts, edited_text}
+use Rattle.lsp_edit.proofs.Prelude.{ℕ, ◌≡◌, ◌<◌, List, length, sym, ap, ◌∙◌, subst, arith, encode_utf8_all, chars, IsUtf8, IsUtf8-from_is_utf8, IsCharBoundary-start, plain, text_of, then_items, Keeps, Part, items_of, bytes_of, AreParts, NoneTouch, Ascend, through_parts, AreThrough, ArePieces, PlainData, both_counts, edited_text, common_steps}
 use Rattle.lsp_edit.proofs.Batches.ComposeLemmas.{text_of-then, then-plain, then_keeps}
 use Rattle.lsp_edit.proofs.Parts.CutPartsLemmas.{parts_bytes}
 use Rattle.lsp_edit.proofs.Composing.EditedLemmas.{index_first}
@@ -15,7 +7,6 @@ use Rattle.lsp_edit.proofs.Composing.AppliedLemmas.{seen}
 use Rattle.lsp_edit.proofs.Parts.MergedLemmas.{through_apart}
 use Rattle.lsp_edit.proofs.Parts.PassedLemmas.{through_few}
 use Rattle.lsp_edit.proofs.Parts.ThroughLemmas.{through_items, are_through, ascending}
-use Rattle.std.proofs.lemmas.Grind.{common_steps}
 
 -- The parts of the old text come in order.
 pub pieces_ascend : (before : List ℕ) (parts : List Part) (len changes : ℕ) → ArePieces before parts len changes

@@ -1,30 +1,13 @@
 -- What was resolved once, read again.
-use Rattle.std.proofs.Common.{ℕ, ◌≡◌, ◌+◌, ◌-◌, ◌<◌, ◌≤◌, List, ◌∷◌, length, map, drop, refl, sym, ap, ap₂, ◌∙◌, subst, arith, encode_utf8_all, nat_lt, Some, Result, Ok, Err}
-use Rattle.std.proofs.lemmas.Bool.{cases_Bool, cases_lt, ltb-false}
-use Rattle.std.proofs.lemmas.List.{drop_all}
-use Rattle.std.specs.List.{replace_range}
+use Rattle.lsp_edit.proofs.Prelude.{ℕ, ◌≡◌, ◌+◌, ◌-◌, ◌<◌, ◌≤◌, List, ◌∷◌, length, map, drop, refl, sym, ap, ap₂, ◌∙◌, subst, arith, encode_utf8_all, nat_lt, Some, Result, Ok, Err, cases_Bool, cases_lt, ltb-false, drop_all, replace_range, Encoding, units_in, replaced_length, Change, EditFault, Item, plain, text_of, ContentChange, Fault, items_after, continue_with, ends_of, meaning, canonical, AreEndsIn, AreEndsOf, IsDeltaOf, IsLeft, IsOn, IsPut, bytes_after, delta_encoding, meant_by, put_items, Applied, PlainData, content_change, edited_bytes, edited_text, places_at, IsCanonicalBatch, alone, bytes_left, text_within, HasRange, common_steps}
 use Rattle.std.specs.Str.{IsCharBoundary, IsUtf8, chars}
-use Rattle.lsp_text.specs.declared.encoding.Encoding.{Encoding}
-use Rattle.lsp_text.specs.Units.{units_in}
-use Rattle.lsp_buffer.proofs.Changes.ChangeLemmas.{replaced_length}
-use Rattle.lsp_edit.specs.declared.change.Change.{Change}
 use Rattle.lsp_edit.specs.declared.delta.Delta.{Delta}
 use Rattle.lsp_edit.specs.declared.delta.Delta.TheVariants.{Put, Left}
-use Rattle.lsp_edit.specs.declared.fault.EditFault.{EditFault}
-use Rattle.lsp_edit.specs.Items.{Item, plain, text_of}
-use Rattle.lsp_edit.specs.Batch.{ContentChange, Fault, items_after, continue_with, ends_of, meaning}
-use Rattle.lsp_edit.specs.Canonical.{canonical}
-use Rattle.lsp_edit.specs.Delta.{AreEndsIn, AreEndsOf, IsDeltaOf, IsLeft, IsOn, IsPut, bytes_after, delta_encoding, meant_by, put_items}
-use Rattle.lsp_edit.specs.Edited.{Applied, PlainData, content_change, edited_bytes, edited_text}
-use Rattle.lsp_edit.specs.Faults.{places_at}
-use Rattle.lsp_edit.specs.Indexed.{IsCanonicalBatch, alone, bytes_left, text_within}
-use Rattle.lsp_edit.specs.inside.Faults.{HasRange}
 use Rattle.lsp_edit.proofs.Batches.LawLemmas.{canonical_law, units_some}
 use Rattle.lsp_edit.proofs.Batches.PlainLemmas.{applying_begins}
 use Rattle.lsp_edit.proofs.Composing.EditedLemmas.{first_bytes, plain_text}
 use Rattle.lsp_edit.proofs.Composing.RoomLemmas.{Applying, applying_on}
 use Rattle.lsp_edit.proofs.Deltas.InPlaceLemmas.{range_bytes_left, range_means, range_order, range_start, range_stop}
-use Rattle.std.proofs.lemmas.Grind.{common_steps}
 
 -- A text that is within a limit is what a batch leaves.
 pub record IsWithin (before : List ℕ) (meant : Result (List Item) (ℕ × Fault)) (left : List ℕ) : Type 0 where
@@ -35,14 +18,12 @@ pub record IsWithin (before : List ℕ) (meant : Result (List Item) (ℕ × Faul
 pub within_told : (max_len : ℕ) (before : List ℕ) (meant : Result (List Item) (ℕ × Fault)) (left : List ℕ)
     → text_within max_len before meant ≡ Ok left → IsWithin before meant left
 within_told max_len before (Err fault) left e = absurd (cc)
-within_told max_len before (Ok items) left e =
-    grind (arith, common_steps, nat_lt, cases_Bool)
+within_told max_len before (Ok items) left e = grind (arith, common_steps, nat_lt, cases_Bool)
 
 pub within_fits : (max_len : ℕ) (before : List ℕ) (meant : Result (List Item) (ℕ × Fault)) (left : List ℕ)
     → text_within max_len before meant ≡ Ok left → length left ≤ max_len
 within_fits max_len before (Err fault) left e = absurd (cc)
-within_fits max_len before (Ok items) left e =
-    grind (arith, common_steps, nat_lt, ltb-false, cases_Bool)
+within_fits max_len before (Ok items) left e = grind (arith, common_steps, nat_lt, ltb-false, cases_Bool)
 
 module _ (units : ℕ → ℕ) (before : List ℕ) (start stop : ℕ) (new : List ℕ) (p : IsPut units before start stop new) where
   pub put_order : start ≤ stop
@@ -164,8 +145,7 @@ module _ (units : ℕ → ℕ) (before : List ℕ) (meant : Result (List Item) (
   here = rw is at putting.ends_are
 
   pub putting_bounds : (all : List (ℕ × ℕ)) → ends ≡ drop done all → done < length all
-  putting_bounds all rest_is =
-      grind (arith, common_steps, drop_all, cases_lt)
+  putting_bounds all rest_is = grind (arith, common_steps, drop_all, cases_lt)
 
   module _ (end : ℕ × ℕ) (others : List (ℕ × ℕ)) (ends_is : ends ≡ end ∷ others) where
     first : AreEndsOf units before edited.items (content_change change ∷ map content_change more) (end ∷ others)

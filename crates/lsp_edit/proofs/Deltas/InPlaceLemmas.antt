@@ -1,24 +1,10 @@
 -- What a change of a range makes of the bytes of a text, and of its lines.
-use Rattle.std.proofs.Common.{ℕ, ◌≡◌, ◌<◌, ◌≤◌, ◌⊎◌, List, ◌++◌, length, map, take, drop, refl, sym, ap, ◌∙◌, subst, arith, encode_utf8_all, inl, inr, le-leb, Ok, Err}
-use Rattle.std.proofs.lemmas.Bool.{lt-ltb, le-ltb}
-use Rattle.std.proofs.lemmas.Str.{encodes-chars}
-use Rattle.std.specs.List.{replace_range}
+use Rattle.lsp_edit.proofs.Prelude.{ℕ, ◌≡◌, ◌<◌, ◌≤◌, ◌⊎◌, List, ◌++◌, length, map, take, drop, refl, sym, ap, ◌∙◌, subst, arith, encode_utf8_all, inl, inr, le-leb, Ok, Err, lt-ltb, le-ltb, encodes-chars, replace_range, Range, place_of, place_boundary, place_rises, EditFault, Item, New, plain, text_of, Fault, InsideStart, InsideStop, Reversed, meaning, ends_of, fault_at, places_at, alone, bytes_left, text_within, batch_fault_of, put_items, index_of, common_steps}
 use Rattle.std.specs.Str.{IsCharBoundary, IsUtf8, chars}
-use Rattle.lsp_text.specs.declared.position.Range.{Range}
-use Rattle.lsp_text.specs.Text.{place_of}
-use Rattle.lsp_text.proofs.Positions.PlaceLemmas.{place_boundary, place_rises}
-use Rattle.lsp_edit.specs.declared.fault.EditFault.{EditFault}
 use Rattle.lsp_edit.specs.declared.indexed.fault.BatchFault.TheVariants.{Edit as EditOf, TooLong, NoMemory}
-use Rattle.lsp_edit.specs.Items.{Item, New, plain, text_of}
-use Rattle.lsp_edit.specs.Batch.{Fault, InsideStart, InsideStop, Reversed, meaning, ends_of}
-use Rattle.lsp_edit.specs.Faults.{fault_at, places_at}
-use Rattle.lsp_edit.specs.Indexed.{alone, bytes_left, text_within, batch_fault_of}
-use Rattle.lsp_edit.specs.Delta.{put_items}
-use Rattle.lsp_edit.specs.Parts.{index_of}
 use Rattle.lsp_edit.proofs.Parts.IndexLemmas.{index_of-place}
 use Rattle.lsp_edit.proofs.Composing.AppliedLemmas.{AreEnds, bytes_put, ends_told, fault_told, text_put}
 use Rattle.lsp_edit.proofs.Composing.EditedLemmas.{plain_text}
-use Rattle.std.proofs.lemmas.Grind.{common_steps}
 
 pub fault_edit : (number : ℕ) (why : Fault) → EditOf (fault_at number why) ≡ batch_fault_of (fault_at number why)
 fault_edit number InsideStart = refl
@@ -35,8 +21,7 @@ module _ (units : ℕ → ℕ) (before : List ℕ) (utf8 : IsUtf8 before) (range
     now = text_of (chars before) (plain (chars before))
 
     ends : AreEnds units now range start stop
-    ends =
-        grind (arith, common_steps, ends_told, plain_text)
+    ends = grind (arith, common_steps, ends_told, plain_text)
 
     low_place : place_of (chars before) ends.low ≡ start
     low_place = subst (λ (t : List ℕ). place_of t ends.low ≡ start) (plain_text (chars before)) ends.start_is
@@ -91,8 +76,7 @@ module _ (units : ℕ → ℕ) (before : List ℕ) (utf8 : IsUtf8 before) (range
     range_bytes_left = ap (bytes_left before) put_is ∙ left
 
     pub range_start : IsCharBoundary before start
-    range_start =
-        grind (arith, common_steps, low_place, place_boundary, high_within)
+    range_start = grind (arith, common_steps, low_place, place_boundary, high_within)
 
     pub range_stop : IsCharBoundary before stop
     range_stop = subst (IsCharBoundary before) high_place (place_boundary before ends.high utf8 high_within)
@@ -109,5 +93,4 @@ module _ (units : ℕ → ℕ) (before : List ℕ) (utf8 : IsUtf8 before) (range
       (ends_of units (chars before) range)
       → (batch_fault_of fault ≡ NoMemory) ⊎ (text_within max_len before (meaning units (chars before) (alone range new))
       ≡ Err (batch_fault_of fault))
-  range_fault max_len fault error =
-      grind (arith, common_steps, inl, inr, fault_edit, fault_told, plain_text)
+  range_fault max_len fault error = grind (arith, common_steps, inl, inr, fault_edit, fault_told, plain_text)

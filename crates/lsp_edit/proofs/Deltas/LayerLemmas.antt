@@ -1,27 +1,11 @@
 -- Layers that are joined, and how they are folded into one row.
-use Rattle.std.proofs.Common.{ℕ, ◌≡◌, ◌+◌, ◌<◌, List, [], ◌∷◌, ◌++◌, length, map, drop, get_or, refl, sym, ap, ◌∙◌, subst, arith, nat_lt, encode_utf8_all, Ok}
-use Rattle.std.specs.Str.{chars, IsUtf8}
-use Rattle.std.proofs.lemmas.Bool.{cases_Bool}
-use Rattle.std.proofs.lemmas.List.{drop_more, map-append}
-use Rattle.std.proofs.lemmas.Str.{chars_from_encodes, IsUtf8-append, IsUtf8-between, IsUtf8-nil, IsUtf8-from_is_utf8, IsCharBoundary-start}
-use Rattle.lsp_edit.specs.declared.joined.layer.Layer.{Layer}
-use Rattle.lsp_edit.specs.Items.{Item, plain, text_of}
-use Rattle.lsp_edit.specs.Batch.{ContentChange, meaning}
-use Rattle.lsp_edit.specs.Compose.{then_items}
-use Rattle.lsp_edit.specs.Layers.{AllOver, layer_parts, IsOver, items_over}
-use Rattle.lsp_edit.specs.inside.Layers.{IsLayer}
-use Rattle.lsp_edit.specs.Indexed.{bytes_left, text_within}
-use Rattle.lsp_edit.specs.Joined.{IsJoined, IsReached, JoinedData, joined_text}
-use Rattle.lsp_edit.specs.Keeps.{Keeps}
-use Rattle.lsp_edit.specs.Parts.{Part, OldPart, NewPart, AreParts, Ascend, IsPartOf, bytes_in, bytes_of, items_of}
-use Rattle.lsp_edit.specs.inside.Parts.{AreThrough, through_parts, whole_parts}
+use Rattle.lsp_edit.proofs.Prelude.{ℕ, ◌≡◌, ◌+◌, ◌<◌, List, [], ◌∷◌, ◌++◌, length, map, drop, slice_index_or as get_or, refl, sym, ap, ◌∙◌, subst, arith, nat_lt, encode_utf8_all, Ok, chars, IsUtf8, cases_Bool, drop_more, map-append, chars_from_encodes, IsUtf8-append, IsUtf8-between, IsUtf8-nil, IsUtf8-from_is_utf8, IsCharBoundary-start, Layer, Item, plain, text_of, ContentChange, meaning, then_items, AllOver, layer_parts, IsOver, items_over, IsLayer, bytes_left, text_within, IsJoined, IsReached, JoinedData, joined_text, Keeps, Part, OldPart, NewPart, AreParts, Ascend, IsPartOf, bytes_in, bytes_of, items_of, AreThrough, through_parts, whole_parts, common_steps}
 use Rattle.lsp_edit.proofs.Batches.ComposeLemmas.{text_of-then, then_keeps}
 use Rattle.lsp_edit.proofs.Parts.CutPartsLemmas.{parts_bytes}
 use Rattle.lsp_edit.proofs.Composing.EditedLemmas.{index_first, plain_text, whole_is}
 use Rattle.lsp_edit.proofs.Canonical.KeepsLemmas.{meaning_keeps, plain_keeps}
 use Rattle.lsp_edit.proofs.Parts.ThroughLemmas.{are_through, ascending, through_items}
 use Rattle.lsp_edit.proofs.Deltas.OwnedLemmas.{items_over-append, all_both, rows}
-use Rattle.std.proofs.lemmas.Grind.{common_steps}
 
 -- what callers see of the fields
 abbrev pub joined_seen : List ℕ → List Layer → JoinedData
@@ -59,8 +43,7 @@ module _ (before : List ℕ) (layers : List Layer)
 
   more_items : items_over (chars before) (plain (chars before)) (map layer_parts now)
       ≡ then_items items_then (items_of (chars reached) (layer_parts layer))
-  more_items =
-      grind (arith, common_steps, rows_more, items_over-append, reached_then)
+  more_items = grind (arith, common_steps, rows_more, items_over-append, reached_then)
 
   pub more_is : joined_seen before now ≡ record old {
     items = then_items old.items (items_of (chars reached) (layer_parts layer));
@@ -102,12 +85,10 @@ parts_utf8 old utf8 (part ∷ parts) are =
 
 within_is : (max_len : ℕ) (reached : List ℕ) (items : List Item) (left : List ℕ)
     → text_within max_len reached (Ok items) ≡ Ok left → bytes_left reached items ≡ left
-within_is max_len reached items left is =
-    grind (arith, common_steps, nat_lt, cases_Bool)
+within_is max_len reached items left is = grind (arith, common_steps, nat_lt, cases_Bool)
 
 pub left_reached : (units : ℕ → ℕ) (old new : JoinedData) (batch : List ContentChange) (reached left : List ℕ)
-    (max_len : ℕ)
-    (parts : List Part) → IsReached old reached
+    (max_len : ℕ) (parts : List Part) → IsReached old reached
     → (is : IsLayer (meaning units (chars reached) batch) reached parts) → new ≡ record old {
       items = then_items old.items (items_of (chars reached) parts);
     }

@@ -1,26 +1,11 @@
 -- Spans that own their texts, and rows of them over one another.
-use Rattle.std.proofs.Common.{ℕ, ◌≡◌, ◌+◌, ◌-◌, ◌≤◌, List, [], ◌∷◌, ◌++◌, length, map, take, get_or, refl, sym, ap, ap₂, ◌∙◌, subst, arith, append_assoc, append-nil, encode_utf8_all, Result}
-use Rattle.std.specs.Str.{chars, IsUtf8}
-use Rattle.std.proofs.lemmas.List.{drop_more, drop_all, map-append, take-append-drop}
-use Rattle.std.proofs.lemmas.List.Concat.{flat_map-append}
-use Rattle.std.proofs.lemmas.Str.{encodes-chars, chars-append, IsUtf8-append, IsUtf8-from_is_utf8, is_utf8-from_IsUtf8, IsCharBoundary-start}
-use Rattle.lsp_edit.specs.declared.joined.layer.Layer.{Layer}
+use Rattle.lsp_edit.proofs.Prelude.{ℕ, ◌≡◌, ◌+◌, ◌-◌, ◌≤◌, List, [], ◌∷◌, ◌++◌, length, map, take, slice_index_or as get_or, refl, sym, ap, ap₂, ◌∙◌, subst, arith, append_assoc, append-nil, encode_utf8_all, Result, chars, IsUtf8, drop_more, drop_all, map-append, take-append-drop, flat_map-append, encodes-chars, chars-append, IsUtf8-append, IsUtf8-from_is_utf8, is_utf8-from_IsUtf8, IsCharBoundary-start, Layer, Item, New, text_of, Fault, then_items, AllOver, layer_parts, IsOver, items_over, owned_parts, AreSameItems, IsLayer, PlainData, Means, before_bytes, Keeps, Part, OldPart, NewPart, AreParts, Ascend, items_in, items_of, new_parts, AreThrough, through_parts, common_steps}
 use Rattle.lsp_edit.specs.declared.joined.layer.OwnedSpan.{OwnedSpan}
 use Rattle.lsp_edit.specs.declared.joined.layer.OwnedSpan.TheVariants.{Old as OldSpan}
-use Rattle.lsp_edit.specs.Items.{Item, New, text_of}
-use Rattle.lsp_edit.specs.Batch.{Fault}
-use Rattle.lsp_edit.specs.Compose.{then_items}
-use Rattle.lsp_edit.specs.Layers.{AllOver, layer_parts, IsOver, items_over, owned_parts}
-use Rattle.lsp_edit.specs.inside.Layers.{AreSameItems, IsLayer}
-use Rattle.lsp_edit.specs.Edited.{PlainData, Means, before_bytes}
-use Rattle.lsp_edit.specs.Keeps.{Keeps}
-use Rattle.lsp_edit.specs.Parts.{Part, OldPart, NewPart, AreParts, Ascend, items_in, items_of, new_parts}
-use Rattle.lsp_edit.specs.inside.Parts.{AreThrough, through_parts}
 use Rattle.lsp_edit.proofs.Batches.ComposeLemmas.{text_of-then, then_associative, then_keeps}
 use Rattle.lsp_edit.proofs.Composing.EditedLemmas.{index_first}
 use Rattle.lsp_edit.proofs.Parts.PutLemmas.{new_items}
 use Rattle.lsp_edit.proofs.Parts.ThroughLemmas.{are_through, ascending, through_items}
-use Rattle.std.proofs.lemmas.Grind.{common_steps}
 
 -- ---- parts of a text in two lists
 
@@ -44,13 +29,11 @@ items_both old parts more = flat_map-append (items_in (chars old)) parts more
 pub same_old : (whole done : List Part) (text : List ℕ) (part : Part) (rest : List Part)
     → AreSameItems (done ++ (new_parts text ++ (part ∷ rest))) whole
     → AreSameItems (((done ++ new_parts text) ++ part ∷ []) ++ (new_parts [] ++ rest)) whole
-same_old whole done text part rest same =
-    grind (arith, common_steps, append_assoc)
+same_old whole done text part rest same = grind (arith, common_steps, append_assoc)
 
 pub same_old_on : (whole : List Part) (spans made : List OwnedSpan) (text filled : List ℕ) (from to : ℕ)
     (rest more : List Part) → AreSameItems (owned_parts spans ++ (new_parts text ++ rest)) whole
-    → rest ≡ OldPart from to ∷ more
-    → owned_parts made ≡ owned_parts spans ++ new_parts filled → filled ≡ text
+    → rest ≡ OldPart from to ∷ more → owned_parts made ≡ owned_parts spans ++ new_parts filled → filled ≡ text
     → AreSameItems (owned_parts (made ++ OldSpan from to ∷ []) ++ (new_parts [] ++ more)) whole
 same_old_on whole spans made text filled from to rest more same rest_is made_is filled_is =
     grind (arith, common_steps, map-append, same_old)
@@ -168,8 +151,7 @@ module _ (old : List ℕ) (items : List Item) (first second : List Part) (a : Is
 
 pub two_last : {X : Type 0} (xs : List X) (len : ℕ) (x y : X) → 2 ≤ len → length xs ≡ len → x ≡ get_or xs (len - 2) x
     → y ≡ get_or xs (len - 1) y → xs ≡ take (len - 2) xs ++ (x ∷ y ∷ [])
-two_last xs len x y some long first second =
-    grind (arith, common_steps, drop_more, drop_all, take-append-drop)
+two_last xs len x y some long first second = grind (arith, common_steps, drop_more, drop_all, take-append-drop)
 
 module _ (old : List ℕ) (items : List Item) (layers front : List Layer) (first second : Layer)
     (is : layers ≡ front ++ (first ∷ second ∷ [])) (all : AllOver old items (map layer_parts layers)) where

@@ -1,10 +1,5 @@
 -- A batch that is joined series by series.
-use Rattle.std.proofs.Common.{ℕ, ◌≡◌, ◌≤◌, List, ◌++◌, length, sym, ap, ◌∙◌, append_assoc, Ok}
-use Rattle.std.specs.Str.{chars}
-use Rattle.lsp_edit.specs.Items.{text_of}
-use Rattle.lsp_edit.specs.Batch.{ContentChange, meaning}
-use Rattle.lsp_edit.specs.Indexed.{text_within}
-use Rattle.lsp_edit.specs.Joined.{IsJoined, IsReached, JoinedData, joined_text}
+use Rattle.lsp_edit.proofs.Prelude.{ℕ, ◌≡◌, ◌≤◌, List, ◌++◌, length, sym, ap, ◌∙◌, append_assoc, Ok, chars, text_of, ContentChange, meaning, text_within, IsJoined, IsReached, JoinedData, joined_text}
 use Rattle.lsp_edit.proofs.Batches.ComposeLemmas.{then_means}
 use Rattle.lsp_edit.proofs.Deltas.DeltaLemmas.{within_fits}
 
@@ -22,8 +17,7 @@ pub record IsSeries (units : ℕ → ℕ) (before : List ℕ) (batch : List Cont
 module _ (units : ℕ → ℕ) (before : List ℕ) (batch : List ContentChange) where
   pub series_next : (joined new : JoinedData) (reached left : List ℕ) (series rest more : List ContentChange)
       → IsSeries units before batch joined reached rest → rest ≡ series ++ more → IsJoined units joined series new
-      → IsReached new left
-      → text_within 1073741824 reached (meaning units (chars reached) series) ≡ Ok left
+      → IsReached new left → text_within 1073741824 reached (meaning units (chars reached) series) ≡ Ok left
       → IsSeries units before batch new left more
   series_next joined new reached left series rest more is parts next at within =
       let text : text_of (chars before) joined.items ≡ joined_text joined =

@@ -1,14 +1,6 @@
 -- What a batch of one whole text leaves, and how a batch of one change is taken apart.
-use Rattle.std.proofs.Common.{ℕ, ◌≡◌, ◌<◌, ◌≤◌, List, length, map, ap, sym, subst, ◌∙◌, Bool, if◌then◌else◌, nat_lt, None, Result, Ok, Err, encode_utf8_all}
-use Rattle.std.specs.Prelude.{IsOk, is_ok}
-use Rattle.std.proofs.lemmas.Bool.{lt-ltb, le-ltb}
-use Rattle.std.proofs.lemmas.Str.{encodes-chars}
-use Rattle.std.specs.Str.{IsUtf8, chars}
+use Rattle.lsp_edit.proofs.Prelude.{ℕ, ◌≡◌, ◌<◌, ◌≤◌, List, length, map, ap, sym, subst, ◌∙◌, Bool, if◌then◌else◌, nat_lt, None, Result, Ok, Err, encode_utf8_all, IsOk, is_ok, lt-ltb, le-ltb, encodes-chars, IsUtf8, chars, TooLong, New, ContentChange, meaning, bytes_left, one_change, text_within}
 use Rattle.lsp_edit.specs.declared.indexed.fault.BatchFault.{BatchFault}
-use Rattle.lsp_edit.specs.declared.indexed.fault.BatchFault.TheVariants.{TooLong}
-use Rattle.lsp_edit.specs.Items.{New}
-use Rattle.lsp_edit.specs.Batch.{ContentChange, meaning}
-use Rattle.lsp_edit.specs.Indexed.{bytes_left, one_change, text_within}
 use Rattle.lsp_edit.proofs.Parts.CutLemmas.{text_of-new}
 
 module _ (units : ℕ → ℕ) (max_len : ℕ) (before new : List ℕ) (utf8 : IsUtf8 new) where

@@ -1,14 +1,5 @@
 -- Parts cut at the place of an index: their items are those before it and behind it.
-use Rattle.std.proofs.Common.{ℕ, ◌≡◌, ◌+◌, ◌-◌, ◌<◌, ◌≤◌, List, [], ◌∷◌, length, map, take, drop, refl, sym, ap, ap₂, ◌∙◌, arith, take_at, drop_at, take-take, length-take-le, encode_utf8_all, IsCharBoundary}
-use Rattle.std.specs.Str.{chars, IsUtf8}
-use Rattle.std.proofs.lemmas.List.{length-map, length-drop, take-map, drop-map}
-use Rattle.std.proofs.lemmas.Str.{encodes-chars, IsUtf8-take, IsUtf8-drop, IsUtf8-from_is_utf8, is_utf8-from_IsUtf8, chars_from_encodes}
-use Rattle.lsp_text.specs.Text.{place_of}
-use Rattle.lsp_text.specs.TextLines.{numbers_from}
-use Rattle.lsp_text.proofs.Positions.PlaceLemmas.{place_end, place_rises, place_add, take_place, drop_place, part_place, place_boundary, place_within, IsIndexAt, index_at}
-use Rattle.lsp_edit.specs.Items.{Item, Old, New, character_of, text_of}
-use Rattle.lsp_edit.specs.Parts.{Part, OldPart, NewPart, index_of, items_in, bytes_in, part_len, IsPartOf}
-use Rattle.lsp_edit.specs.inside.Parts.{front_part, back_part, IsOrdered, IsCutAt}
+use Rattle.lsp_edit.proofs.Prelude.{ℕ, ◌≡◌, ◌+◌, ◌-◌, ◌<◌, ◌≤◌, List, [], ◌∷◌, length, map, take, drop, refl, sym, ap, ap₂, ◌∙◌, arith, take_at, drop_at, take-take, length-take-le, encode_utf8_all, IsCharBoundary, chars, IsUtf8, length-map, length-drop, take-map, drop-map, encodes-chars, IsUtf8-take, IsUtf8-drop, IsUtf8-from_is_utf8, is_utf8-from_IsUtf8, chars_from_encodes, place_of, numbers_from, place_end, place_rises, place_add, take_place, drop_place, part_place, place_boundary, place_within, IsIndexAt, index_at, Item, Old, New, character_of, text_of, Part, OldPart, NewPart, index_of, items_in, bytes_in, part_len, IsPartOf, front_part, back_part, IsOrdered, IsCutAt}
 use Rattle.lsp_edit.proofs.Canonical.RebuiltLemmas.{numbers-append, length-numbers, text_row}
 use Rattle.lsp_edit.proofs.Parts.IndexLemmas.{index_of-place, index_rises}
 

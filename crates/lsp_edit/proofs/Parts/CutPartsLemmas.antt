@@ -1,16 +1,6 @@
 -- Parts in a row, cut at the place of an index.
-use Rattle.std.proofs.Common.{ℕ, zero, suc, ◌≡◌, ◌+◌, ◌-◌, ◌<◌, ◌≤◌, List, [], ◌∷◌, ◌++◌, length, take, drop, refl, sym, ap, ap₂, ◌∙◌, subst, arith, append-nil, take_at, drop_at, lt-ltb, le-ltb, ne_eqb, encode_utf8_all, ⊎_elim}
-use Rattle.std.specs.Str.{chars, IsUtf8}
-use Rattle.std.proofs.lemmas.Bool.{cases_lt}
-use Rattle.std.proofs.lemmas.List.{map-append, length-append, take-append-le, drop-append-le}
-use Rattle.std.proofs.lemmas.Str.{encodes-append}
-use Rattle.lsp_text.specs.Text.{place_of}
-use Rattle.lsp_text.proofs.Positions.PlaceLemmas.{place_add}
-use Rattle.lsp_edit.specs.Items.{Item, text_of}
-use Rattle.lsp_edit.specs.Parts.{Part, items_in, items_of, bytes_of, part_len, IsPartOf, AreParts}
-use Rattle.lsp_edit.specs.inside.Parts.{front_part, back_part, front_parts, back_parts, AreCut}
+use Rattle.lsp_edit.proofs.Prelude.{ℕ, zero, suc, ◌≡◌, ◌+◌, ◌-◌, ◌<◌, ◌≤◌, List, [], ◌∷◌, ◌++◌, length, take, drop, refl, sym, ap, ap₂, ◌∙◌, subst, arith, append-nil, take_at, drop_at, lt-ltb, le-ltb, ne_eqb, encode_utf8_all, ⊎_elim, chars, IsUtf8, cases_lt, map-append, length-append, take-append-le, drop-append-le, encodes-append, place_of, place_add, Item, text_of, Part, items_in, items_of, bytes_of, part_len, IsPartOf, AreParts, front_part, back_part, front_parts, back_parts, AreCut, common_steps}
 use Rattle.lsp_edit.proofs.Parts.CutLemmas.{part_bytes, part_length, front_items, back_items, place_above, place_below, text_long, front_is, back_is, part_cut, part_ordered}
-use Rattle.std.proofs.lemmas.Grind.{common_steps}
 
 take_more : {X : Type 0} (xs ys : List X) (n : ℕ) → take (length xs + n) (xs ++ ys) ≡ xs ++ take n ys
 take_more [] ys n = let e : 0 + n ≡ n = omega arith in rw e refl
@@ -51,8 +41,7 @@ module _ (old : List ℕ) (utf8 : IsUtf8 old) where
     pub cut : AreCut parts place
 
   cut_of : (whole front back : List Part) (k place : ℕ) → front_parts whole place ≡ front → back_parts whole place
-      ≡ back
-      → items_of (chars old) front ≡ take k (items_of (chars old) whole) → items_of (chars old) back
+      ≡ back → items_of (chars old) front ≡ take k (items_of (chars old) whole) → items_of (chars old) back
       ≡ drop k (items_of (chars old) whole) → AreParts old front → AreParts old back → AreCut whole place
       → AreCutAt whole k place
   cut_of whole front back k place front_is_it back_is_it front_has back_has front_are back_are cut = record {
@@ -137,8 +126,7 @@ module _ (old : List ℕ) (utf8 : IsUtf8 old) where
 
   front_place : (items rest : List Item) (k : ℕ) → k ≤ length items → place_of (text_of (chars old) (items ++ rest)) k
       ≡ place_of (text_of (chars old) items) k
-  front_place items rest k within =
-      grind (arith, common_steps, text_long, map-append, encode_utf8_all, take-append-le)
+  front_place items rest k within = grind (arith, common_steps, text_long, map-append, encode_utf8_all, take-append-le)
 
   behind_place : (items rest : List Item) (k : ℕ) → place_of (text_of (chars old) (items ++ rest)) (length items + k)
       ≡ length (encode_utf8_all (text_of (chars old) items)) + place_of (text_of (chars old) rest) k

@@ -1,14 +1,6 @@
 -- The index of a place, and the bytes of a list of items.
-use Rattle.std.proofs.Common.{ℕ, zero, suc, ◌≡◌, ◌+◌, ◌-◌, ◌<◌, ◌≤◌, List, [], ◌∷◌, length, refl, sym, ap, ◌∙◌, arith, ne_eqb, encode_utf8, encode_utf8_all, IsCharBoundary, ⊎_elim}
-use Rattle.std.proofs.lemmas.Bool.{cases_eq, cases_lt}
-use Rattle.std.proofs.lemmas.List.{length-append}
-use Rattle.std.proofs.lemmas.Str.{length-encode, len_utf8_bounds}
+use Rattle.lsp_edit.proofs.Prelude.{ℕ, zero, suc, ◌≡◌, ◌+◌, ◌-◌, ◌<◌, ◌≤◌, List, [], ◌∷◌, length, refl, sym, ap, ◌∙◌, arith, ne_eqb, encode_utf8, encode_utf8_all, IsCharBoundary, ⊎_elim, cases_eq, cases_lt, length-append, length-encode, len_utf8_bounds, chars, IsUtf8, place_of, place_rises, IsIndexAt, index_at, index_of, common_steps}
 use Rattle.std.specs.Char.{len_utf8}
-use Rattle.std.specs.Str.{chars, IsUtf8}
-use Rattle.lsp_text.specs.Text.{place_of}
-use Rattle.lsp_text.proofs.Positions.PlaceLemmas.{place_rises, IsIndexAt, index_at}
-use Rattle.lsp_edit.specs.Parts.{index_of}
-use Rattle.std.proofs.lemmas.Grind.{common_steps}
 
 pub length-bytes : (c : ℕ) (text : List ℕ) → length (encode_utf8_all (c ∷ text))
     ≡ len_utf8 c + length (encode_utf8_all text)

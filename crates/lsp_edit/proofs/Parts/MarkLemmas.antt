@@ -1,14 +1,8 @@
 -- A place in a row of spans, from which a walk over them goes on.
-use Rattle.std.proofs.Common.{ℕ, zero, suc, ◌≡◌, ◌+◌, ◌<◌, ◌≤◌, List, length, take, drop, get_or, sum_by, refl, sym, ap, ◌∙◌, subst, arith}
-use Rattle.std.proofs.lemmas.List.{take_more}
-use Rattle.std.proofs.lemmas.List.Sums.{sum_by_push}
-use Rattle.lsp_edit.specs.declared.pieces.span.Span.{Span}
+use Rattle.lsp_edit.proofs.Prelude.{ℕ, zero, suc, ◌≡◌, ◌+◌, ◌<◌, ◌≤◌, List, length, take, drop, slice_index_or as get_or, sum_by, refl, sym, ap, ◌∙◌, subst, arith, take_more, sum_by_push, Span, part_of, parts_of, AreOrdered, EndAfter, IsMark, IsOrdered, span_len, common_steps}
 use Rattle.lsp_edit.specs.declared.pieces.span.Span.TheVariants.{Old as OldSpan}
-use Rattle.lsp_edit.specs.Parts.{part_of, parts_of}
-use Rattle.lsp_edit.specs.inside.Parts.{AreOrdered, EndAfter, IsMark, IsOrdered, span_len}
 use Rattle.lsp_edit.proofs.Parts.PassingLemmas.{Passing, drop_ordered, ends_behind, first_ordered, passing_begins, span_passing}
 use Rattle.lsp_edit.proofs.Canonical.WalkLemmas.{rest_is}
-use Rattle.std.proofs.lemmas.Grind.{common_steps}
 
 before_more : (spans : List Span) (index : ℕ) (default : Span) → index < length spans
     → sum_by span_len (take (index + 1) spans) ≡ sum_by span_len (take index spans)
@@ -17,8 +11,7 @@ before_more spans index default within = ap (sum_by span_len) (take_more spans i
     ∙ sum_by_push span_len (take index spans) (get_or spans index default)
 
 passing_at : (spans : List Span) (low index : ℕ) → index ≤ length spans → sum_by span_len (take index spans) ≤ low
-    → AreOrdered (parts_of spans)
-    → Passing (parts_of spans) (parts_of (take index spans)) (parts_of (drop index spans))
+    → AreOrdered (parts_of spans) → Passing (parts_of spans) (parts_of (take index spans)) (parts_of (drop index spans))
     (sum_by span_len (take index spans)) low
 passing_at spans low zero within fits ordered = passing_begins (parts_of spans) low ordered
 passing_at spans low (suc index) within fits ordered =
@@ -42,8 +35,7 @@ passing_at spans low (suc index) within fits ordered =
 pub mark_passing : (spans : List Span) (index passed low : ℕ) → IsMark spans index passed → passed ≤ low
     → AreOrdered (parts_of spans) → Passing (parts_of spans) (parts_of (take index spans)) (parts_of (drop index spans))
     passed low
-mark_passing spans index passed low mark order ordered =
-    grind (arith, common_steps, passing_at)
+mark_passing spans index passed low mark order ordered = grind (arith, common_steps, passing_at)
 
 -- each span's ends are in order
 pub span_ordered : (spans : List Span) (index : ℕ) (default : Span) → index < length spans → AreOrdered (parts_of spans)
@@ -55,5 +47,4 @@ span_ordered spans index default within ordered =
 
 pub behind_at : (spans : List Span) (index place len : ℕ) (default : Span) → index < length spans
     → len ≡ span_len (get_or spans index default) → place < len → EndAfter (parts_of (drop index spans)) place
-behind_at spans index place len default within is less =
-    grind (arith, common_steps, ends_behind)
+behind_at spans index place len default within is less = grind (arith, common_steps, ends_behind)

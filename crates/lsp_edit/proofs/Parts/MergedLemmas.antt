@@ -1,8 +1,5 @@
 -- Parts of which no two neighbours touch.
-use Rattle.std.proofs.Common.{ℕ, ◌≡◌, ◌-◌, ◌<◌, ◌≤◌, true, false, List, [], ◌∷◌, ◌++◌, length, ◌==◌, refl, append-nil, lt-ltb, le-ltb, ne_eqb, ⊎_elim}
-use Rattle.std.proofs.lemmas.Bool.{cases_eq, cases_lt, cases_Bool}
-use Rattle.lsp_edit.specs.Parts.{Part, OldPart, NewPart, part_len, new_parts, touch, IsApart, NoneTouch}
-use Rattle.lsp_edit.specs.inside.Parts.{front_part, back_part, front_parts, back_parts, joined, put_part, put_parts, replaced_parts, through_part, put_through, through_parts}
+use Rattle.lsp_edit.proofs.Prelude.{ℕ, ◌≡◌, ◌-◌, ◌<◌, ◌≤◌, true, false, List, [], ◌∷◌, ◌++◌, length, ◌==◌, refl, append-nil, lt-ltb, le-ltb, ne_eqb, ⊎_elim, cases_eq, cases_lt, cases_Bool, Part, OldPart, NewPart, part_len, new_parts, touch, IsApart, NoneTouch, front_part, back_part, front_parts, back_parts, joined, put_part, put_parts, replaced_parts, through_part, put_through, through_parts}
 
 -- A part apart from the first of others is apart from what begins where that one does.
 apart_front : (part next : Part) (count : ℕ) → touch part next ≡ false → touch part (front_part next count) ≡ false

@@ -1,9 +1,5 @@
 -- Parts: putting one behind others, and cutting at a place.
-use Rattle.std.proofs.Common.{ℕ, ◌≡◌, ◌-◌, ◌<◌, ◌≤◌, List, [], ◌∷◌, ◌++◌, refl, sym, ap, ◌∙◌, append_assoc, append-nil, lt-ltb, le-ltb, ne_eqb}
-use Rattle.std.proofs.lemmas.List.{map-append}
-use Rattle.lsp_edit.specs.declared.pieces.span.Span.{Span}
-use Rattle.lsp_edit.specs.Parts.{Part, part_of, parts_of, part_len}
-use Rattle.lsp_edit.specs.inside.Parts.{joined, put_part, front_part, front_parts, back_part, back_parts, IsOrdered, IsCutAt, AreCut}
+use Rattle.lsp_edit.proofs.Prelude.{ℕ, ◌≡◌, ◌-◌, ◌<◌, ◌≤◌, List, [], ◌∷◌, ◌++◌, refl, sym, ap, ◌∙◌, append_assoc, append-nil, lt-ltb, le-ltb, ne_eqb, map-append, Span, Part, part_of, parts_of, part_len, joined, put_part, front_part, front_parts, back_part, back_parts, IsOrdered, IsCutAt, AreCut}
 
 put_behind : (parts : List Part) (last part : Part) → put_part (parts ++ last ∷ []) part ≡ parts ++ joined last part
 put_behind [] last part = refl

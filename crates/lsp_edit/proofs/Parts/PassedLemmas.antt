@@ -1,12 +1,7 @@
 -- A walk over parts, which never goes back to those that it passed.
-use Rattle.std.proofs.Common.{ℕ, suc, ◌≡◌, ◌+◌, ◌-◌, ◌<◌, ◌≤◌, List, [], ◌∷◌, ◌++◌, length, drop, max, refl, sym, ap, ap₂, ◌∙◌, subst, arith, append_assoc, append-nil, lt-ltb, le-ltb, ne_eqb, ⊎_elim}
-use Rattle.std.proofs.lemmas.Bool.{cases_eq, cases_lt}
-use Rattle.std.proofs.lemmas.List.{length-drop}
-use Rattle.lsp_edit.specs.Parts.{new_parts, Part, OldPart, NewPart, part_len, Ascend}
-use Rattle.lsp_edit.specs.inside.Parts.{EndAfter, first_front, put_first_back, replaced_parts, back_part, front_parts, back_parts, IsCutAt, AreCut, put_part, put_parts, between_parts, put_through, through_parts, AreThrough, ArePassed}
+use Rattle.lsp_edit.proofs.Prelude.{ℕ, suc, ◌≡◌, ◌+◌, ◌-◌, ◌<◌, ◌≤◌, List, [], ◌∷◌, ◌++◌, length, drop, max, refl, sym, ap, ap₂, ◌∙◌, subst, arith, append_assoc, append-nil, lt-ltb, le-ltb, ne_eqb, ⊎_elim, cases_eq, cases_lt, length-drop, new_parts, Part, OldPart, NewPart, part_len, Ascend, EndAfter, first_front, put_first_back, replaced_parts, back_part, front_parts, back_parts, IsCutAt, AreCut, put_part, put_parts, between_parts, put_through, through_parts, AreThrough, ArePassed, common_steps}
 use Rattle.lsp_edit.proofs.Parts.PutLemmas.{put_all_few, back_fewer, cut_adds}
 use Rattle.lsp_edit.proofs.Parts.PassingLemmas.{none_passed, passed_later, more_passed}
-use Rattle.std.proofs.lemmas.Grind.{common_steps}
 
 -- How far parts were told through others: what is left to tell gives the rest, over the parts that were not passed.
 pub record Walks (first second made rest : List Part) (passed : ℕ) (left : List Part) : Type 0 where
@@ -31,8 +26,7 @@ module _ (first second made rest : List Part) (passed : ℕ) (left : List Part)
   -- behind a part of a new text
   pub walk_new : (bytes : List ℕ) (more : List Part) → left ≡ NewPart bytes ∷ more
       → Walks first second (put_part made (NewPart bytes)) rest passed more
-  walk_new bytes more is =
-      grind (arith, common_steps, append-nil)
+  walk_new bytes more is = grind (arith, common_steps, append-nil)
 
   -- at a part of the middle text
   module _ (from to : ℕ) (more : List Part) (is : left ≡ OldPart from to ∷ more) where
@@ -52,8 +46,7 @@ module _ (first second made rest : List Part) (passed : ℕ) (left : List Part)
     pub walk_old : (now after : List Part) (on : ℕ)
         → now ≡ put_parts made (front_parts (back_parts rest (from - passed)) (to - from))
         → ArePassed rest after on (from - passed) → Walks first second now after (passed + on) more
-    walk_old now after on made_is were =
-        grind (arith, common_steps, passed_later, more_passed)
+    walk_old now after on made_is were = grind (arith, common_steps, passed_later, more_passed)
 
 -- Parts put behind others, of which the last may be touched.
 put_behind_more : (front : List Part) (first : Part) (made : List Part) (part : Part)
@@ -71,8 +64,7 @@ put_behind_some front (first ∷ made) part none = put_behind_more front first m
 first_some : (rest : List Part) (place : ℕ) (new : List Part) → (rest ≡ [] → ⊥) → first_front rest place ++ new ≡ []
     → place ≡ 0
 first_some [] place new some e = absurd (some refl)
-first_some (part ∷ parts) place new some e =
-    grind (arith, common_steps, ne_eqb, cases_eq)
+first_some (part ∷ parts) place new some e = grind (arith, common_steps, ne_eqb, cases_eq)
 
 -- What the parts are whose bytes between two places were replaced, told by those that were passed on the way to each.
 pub replaced_is : (parts front rest later : List Part) (start stop passed more : ℕ) (text : List ℕ) → start ≤ stop
@@ -123,28 +115,17 @@ back_twice (part ∷ parts) from to order cut =
 
     inside : from < part_len part → length (back_parts (back_part part from ∷ parts) (to - from))
         ≡ length (back_parts (part ∷ parts) to)
-    inside l =
-        grind (arith, common_steps, back_len, lt-ltb, le-ltb, cases_lt)
+    inside l = grind (arith, common_steps, back_len, lt-ltb, le-ltb, cases_lt)
 
 front_fewer : (parts : List Part) (place : ℕ) → length (front_parts parts place) ≤ length parts
 front_fewer [] place = omega arith
 front_fewer (part ∷ parts) place =
-    grind (
-      arith,
-      common_steps,
-      ne_eqb,
-      lt-ltb,
-      le-ltb,
-      cases_lt,
-      cases_eq,
-      (front_fewer parts (place - part_len part)),
-    )
+    grind (arith, common_steps, ne_eqb, lt-ltb, le-ltb, cases_lt, cases_eq, (front_fewer parts (place - part_len part)))
 
 module _ (first : List Part) where
   between_few : (from to : ℕ) → from ≤ to → AreCut first from → length (between_parts first from to)
       + length (back_parts first to) ≤ suc (length (back_parts first from))
-  between_few from to order cut =
-      grind (arith, common_steps, cut_adds, back_twice)
+  between_few from to order cut = grind (arith, common_steps, cut_adds, back_twice)
 
   put_few : (made second : List Part) (low : ℕ) → Ascend low second → AreThrough first second
       → length (put_through first made second) + 1 ≤ (length made + length second)

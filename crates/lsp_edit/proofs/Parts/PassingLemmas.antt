@@ -1,12 +1,5 @@
 -- Parts that a walk passed, and those that it has before it.
-use Rattle.std.proofs.Common.{ℕ, zero, suc, ◌≡◌, ◌+◌, ◌-◌, ◌<◌, ◌≤◌, List, [], ◌∷◌, ◌++◌, length, take, drop, get_or, refl, sym, ap, ap₂, ◌∙◌, subst, arith, append_assoc, take_all, lt-ltb, le-ltb, ne_eqb, ⊎_elim}
-use Rattle.std.proofs.lemmas.Bool.{cases_lt}
-use Rattle.std.proofs.lemmas.List.{length-drop, map-append, take_more}
-use Rattle.std.proofs.lemmas.Str.{IsCharBoundary-end}
-use Rattle.lsp_edit.specs.Parts.{Part, OldPart, NewPart, part_of, parts_of, part_len}
-use Rattle.lsp_edit.specs.inside.Parts.{AreBefore, AreOrdered, EndAfter, IsFirstCut, first_front, front_part, front_parts, back_parts, IsOrdered, IsCutAt, AreCut, ArePassed}
-use Rattle.lsp_edit.specs.declared.pieces.span.Span.{Span}
-use Rattle.std.proofs.lemmas.Grind.{common_steps}
+use Rattle.lsp_edit.proofs.Prelude.{ℕ, zero, suc, ◌≡◌, ◌+◌, ◌-◌, ◌<◌, ◌≤◌, List, [], ◌∷◌, ◌++◌, length, take, drop, slice_index_or as get_or, refl, sym, ap, ap₂, ◌∙◌, subst, arith, append_assoc, take_all, lt-ltb, le-ltb, ne_eqb, ⊎_elim, cases_lt, length-drop, map-append, take_more, IsCharBoundary-end, Part, OldPart, NewPart, part_of, parts_of, part_len, AreBefore, AreOrdered, EndAfter, IsFirstCut, first_front, front_part, front_parts, back_parts, IsOrdered, IsCutAt, AreCut, ArePassed, Span, common_steps}
 
 pub none_passed : (parts : List Part) → ArePassed parts parts 0 0
 none_passed parts = record {
@@ -36,8 +29,7 @@ pub span_passed : (spans : List Span) (index : ℕ) (default : Span) (passed low
     → len ≡ part_len (part_of (get_or spans index default)) → passed + len ≤ low
     → ArePassed (parts_of spans) (parts_of (drop index spans)) passed low
     → ArePassed (parts_of spans) (parts_of (drop (index + 1) spans)) (passed + len) low
-span_passed spans index default passed low len within is fits are =
-    grind (arith, common_steps, one_passed)
+span_passed spans index default passed low len within is fits are = grind (arith, common_steps, one_passed)
 
 pub rest_all : (spans : List Span) (first : ℕ) → take (length spans - first) (drop first spans) ≡ drop first spans
 rest_all spans first = take_all (length spans - first) (drop first spans) (omega (arith, length-drop first spans))
@@ -97,8 +89,7 @@ cut_end (NewPart bytes) order = IsCharBoundary-end bytes
 
 cut_to_end : (part : Part) (parts : List Part) (place : ℕ) → AreCut (part ∷ parts) place → place ≤ part_len part
     → IsCutAt part place
-cut_to_end part parts place cut fits =
-    grind (arith, common_steps, cut_end, cases_lt)
+cut_to_end part parts place cut fits = grind (arith, common_steps, cut_end, cases_lt)
 
 -- The first parts, up to a place that lies behind those passed.
 pub record AreEnded (parts front rest : List Part) (passed place : ℕ) : Type 0 where

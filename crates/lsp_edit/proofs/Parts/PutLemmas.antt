@@ -1,19 +1,8 @@
 -- Parts with the bytes between two places replaced: what they stand for, and how many they are.
-use Rattle.std.proofs.Common.{ℕ, suc, ◌≡◌, ◌+◌, ◌-◌, ◌≤◌, true, false, List, [], ◌∷◌, ◌++◌, length, map, take, drop, ◌==◌, sym, ap, ap₂, ◌∙◌, arith, append_assoc, append-nil, lt-ltb, le-ltb, ne_eqb, eq-eqb, eqb-true, ⊎_elim}
-use Rattle.std.specs.Str.{chars, IsUtf8, is_utf8}
-use Rattle.std.proofs.lemmas.Bool.{cases_eq, cases_lt, cases_Bool}
-use Rattle.std.proofs.lemmas.List.{map-append, length-append, nil_from_length}
-use Rattle.std.proofs.lemmas.List.Concat.{flat_map-append}
-use Rattle.std.proofs.lemmas.Str.{chars-nil}
-use Rattle.lsp_text.specs.Text.{place_of}
-use Rattle.lsp_text.specs.TextLines.{numbers_from}
-use Rattle.lsp_edit.specs.Items.{Item, Old, New, text_of}
-use Rattle.lsp_edit.specs.Parts.{Part, OldPart, NewPart, index_of, items_in, items_of, part_len, IsPartOf, AreParts, new_parts}
-use Rattle.lsp_edit.specs.inside.Parts.{front_parts, back_parts, joined, put_part, put_parts, replaced_parts}
+use Rattle.lsp_edit.proofs.Prelude.{ℕ, suc, ◌≡◌, ◌+◌, ◌-◌, ◌≤◌, true, false, List, [], ◌∷◌, ◌++◌, length, map, take, drop, ◌==◌, sym, ap, ap₂, ◌∙◌, arith, append_assoc, append-nil, lt-ltb, le-ltb, ne_eqb, eq-eqb, eqb-true, ⊎_elim, chars, IsUtf8, is_utf8, cases_eq, cases_lt, cases_Bool, map-append, length-append, nil_from_length, flat_map-append, chars-nil, place_of, numbers_from, Item, Old, New, text_of, Part, OldPart, NewPart, index_of, items_in, items_of, part_len, IsPartOf, AreParts, new_parts, front_parts, back_parts, joined, put_part, put_parts, replaced_parts, common_steps}
 use Rattle.lsp_edit.proofs.Canonical.RebuiltLemmas.{numbers-append}
 use Rattle.lsp_edit.proofs.Parts.IndexLemmas.{index_rises}
 use Rattle.lsp_edit.proofs.Parts.CutPartsLemmas.{AreCutAt, cut_parts}
-use Rattle.std.proofs.lemmas.Grind.{common_steps}
 
 -- How many parts there are.
 pub back_fewer : (parts : List Part) (place : ℕ) → length (back_parts parts place) ≤ length parts
@@ -38,24 +27,21 @@ cut_adds (part ∷ parts) start stop order =
     )
 
 joined_few : (first part : Part) → length (joined first part) ≤ 2
-joined_few (OldPart from to) (OldPart next end) =
-    grind (arith, common_steps, cases_Bool)
+joined_few (OldPart from to) (OldPart next end) = grind (arith, common_steps, cases_Bool)
 joined_few (OldPart from to) (NewPart bytes) = omega arith
 joined_few (NewPart bytes) part = omega arith
 
 put_one_more : (parts : List Part) (part : Part) → length (put_part parts part) ≤ suc (length parts)
 put_one_more [] part = omega arith
 put_one_more (first ∷ []) part = joined_few first part
-put_one_more (first ∷ second ∷ parts) part =
-    grind (arith, common_steps, (put_one_more (second ∷ parts) part))
+put_one_more (first ∷ second ∷ parts) part = grind (arith, common_steps, (put_one_more (second ∷ parts) part))
 
 pub put_all_few : (parts more : List Part) → length (put_parts parts more) ≤ length parts + length more
 put_all_few parts [] = omega arith
 put_all_few parts (first ∷ rest) = omega (arith, length-append (put_part parts first) rest, put_one_more parts first)
 
 pub new_few : (bytes : List ℕ) → length (new_parts bytes) ≤ 1
-new_few bytes =
-    grind (arith, common_steps, cases_Bool)
+new_few bytes = grind (arith, common_steps, cases_Bool)
 
 -- A replacement adds two parts at most.
 pub replaced_few : (parts : List Part) (start stop : ℕ) (bytes : List ℕ) → start ≤ stop
@@ -98,10 +84,7 @@ module _ (old : List ℕ) where
           = rows (index_of (chars old) from) (index_of (chars old) to) (index_of (chars old) end)
           (index_rises (chars old) from to (omega (arith, is.0)))
           (index_rises (chars old) to end (omega (arith, was.0))) in
-          rw e (
-            grind (arith, common_steps, append-nil),
-            ((omega (arith, is.0, was.0), is.1, was.2), tt),
-          )
+          rw e (grind (arith, common_steps, append-nil), ((omega (arith, is.0, was.0), is.1, was.2), tt))
   joined_items (OldPart from to) (NewPart bytes) is was = grind (arith, common_steps, append-nil)
   joined_items (NewPart bytes) part is was =
       (ap (λ (i : List Item). map New (chars bytes) ++ i) (append-nil (items_in (chars old) part)), (is, (was, tt)))
@@ -110,8 +93,7 @@ module _ (old : List ℕ) where
       → (items_of (chars old) (put_part parts part) ≡ items_of (chars old) parts ++ items_in (chars old) part)
       × AreParts old (put_part parts part)
   put_items [] part are is = (append-nil (items_in (chars old) part), (is, tt))
-  put_items (first ∷ []) part are is =
-      grind (arith, common_steps, joined_items, append-nil)
+  put_items (first ∷ []) part are is = grind (arith, common_steps, joined_items, append-nil)
   put_items (first ∷ second ∷ parts) part are is =
       grind (arith, common_steps, append_assoc, (put_items (second ∷ parts) part are.1 is))
 
@@ -158,7 +140,4 @@ module _ (old : List ℕ) where
       ≡ items_of (chars old) front ++ items_of (chars old) (back_parts parts (place_of text stop)))
       × AreParts old (put_parts front (back_parts parts (place_of text stop)))
       = put_all_items front (back_parts parts (place_of text stop)) (are_both (front_parts parts (place_of text start))
-      (new_parts bytes) a.front_are n.1) b.back_are in (
-        grind (arith, common_steps, ap₂, append_assoc),
-        all.1,
-      )
+      (new_parts bytes) a.front_are n.1) b.back_are in (grind (arith, common_steps, ap₂, append_assoc), all.1)

@@ -1,17 +1,11 @@
 -- Spans with some of their bytes replaced, in place.
-use Rattle.std.proofs.Common.{ℕ, ◌≡◌, ◌+◌, ◌-◌, ◌≤◌, List, [], ◌∷◌, ◌++◌, length, take, drop, min, drop-drop, sym, ap, ap₂, ◌∙◌, arith}
-use Rattle.std.proofs.lemmas.Bool.{cases_lt}
-use Rattle.std.proofs.lemmas.List.{drop_all, drop-map, map-append, map-id}
+use Rattle.lsp_edit.proofs.Prelude.{ℕ, ◌≡◌, ◌+◌, ◌-◌, ◌≤◌, List, [], ◌∷◌, ◌++◌, length, take, drop, min, drop-drop, sym, ap, ap₂, ◌∙◌, arith, cases_lt, drop_all, drop-map, map-append, map-id, Span, Part, part_of, parts_of, new_parts, front_parts, first_front, put_first_back, replaced_parts, ArePassed, EndAfter, common_steps}
 use Rattle.std.specs.declared.vec.IntoIter.{IntoIter}
 use Rattle.std.specs.Vec.Iter.{into_iter_items, into_iter_len, into_iter_steps}
 use Rattle.std.specs.Iterator.{Drains}
 use Rattle.std.proofs.lemmas.Iterator.{items_from_drains}
 use Rattle.std.proofs.lemmas.Iterator.Adapters.{YieldsList-from_vec}
-use Rattle.lsp_edit.specs.declared.pieces.span.Span.{Span}
-use Rattle.lsp_edit.specs.Parts.{Part, part_of, parts_of, new_parts}
-use Rattle.lsp_edit.specs.inside.Parts.{front_parts, first_front, put_first_back, replaced_parts, ArePassed, EndAfter}
 use Rattle.lsp_edit.proofs.Parts.PassedLemmas.{replaced_is}
-use Rattle.std.proofs.lemmas.Grind.{common_steps}
 
 -- What a `Vec` gave, item by item, is what it held.
 pub drained_is : {Z : Type 0} (s : IntoIter Span Z) (xs fresh : List Span) → into_iter_items s ≡ fresh → into_iter_len s
@@ -35,11 +29,9 @@ none_after (span ∷ rest) last none = absurd (cc)
 
 pub replaced_spans : (old now made : List Span) (first last passed more start stop past : ℕ) (text : List ℕ)
     → start ≤ stop → now ≡ take first old ++ (made ++ drop past old) → past ≡ first + min (length (drop first old))
-    (last + 1)
-    → ArePassed (parts_of old) (parts_of (drop first old)) passed start
+    (last + 1) → ArePassed (parts_of old) (parts_of (drop first old)) passed start
     → front_parts (parts_of old) start ≡ parts_of (take first old) ++ first_front (parts_of (drop first old))
-    (start - passed)
-    → (start - passed ≡ 0 → first ≡ 0)
+    (start - passed) → (start - passed ≡ 0 → first ≡ 0)
     → ArePassed (parts_of (drop first old)) (parts_of (drop last (drop first old))) more (stop - passed)
     → EndAfter (parts_of (drop last (drop first old))) ((stop - passed) - more)
     → parts_of made ≡ put_first_back (first_front (parts_of (drop first old)) (start - passed) ++ new_parts text)

@@ -1,23 +1,11 @@
 -- Parts over the text of other parts, told over what those are over.
-use Rattle.std.proofs.Common.{ℕ, zero, suc, ◌≡◌, ◌+◌, ◌-◌, ◌<◌, ◌≤◌, List, [], ◌∷◌, ◌++◌, length, map, take, drop, sym, ap, ap₂, ◌∙◌, subst, arith, append_assoc, append-nil, IsCharBoundary}
-use Rattle.std.specs.Str.{chars, IsUtf8}
-use Rattle.std.proofs.lemmas.Bool.{cases_lt}
-use Rattle.std.proofs.lemmas.List.{map-append, length-drop, drop-map}
-use Rattle.lsp_text.specs.Text.{place_of}
-use Rattle.lsp_text.specs.TextLines.{numbers_from}
-use Rattle.lsp_text.proofs.Positions.PlaceLemmas.{place_add, IsIndexAt, index_at}
-use Rattle.lsp_edit.specs.Items.{Item, Old, New, character_of, text_of}
-use Rattle.lsp_edit.specs.Compose.{item_through, then_items}
-use Rattle.lsp_edit.specs.Keeps.{Keeps}
-use Rattle.lsp_edit.specs.Parts.{Part, OldPart, NewPart, index_of, items_in, items_of, IsPartOf, AreParts, Ascend}
-use Rattle.lsp_edit.specs.inside.Parts.{back_parts, put_parts, through_part, put_through, through_parts, IsThrough, AreThrough}
+use Rattle.lsp_edit.proofs.Prelude.{ℕ, zero, suc, ◌≡◌, ◌+◌, ◌-◌, ◌<◌, ◌≤◌, List, [], ◌∷◌, ◌++◌, length, map, take, drop, sym, ap, ap₂, ◌∙◌, subst, arith, append_assoc, append-nil, IsCharBoundary, chars, IsUtf8, cases_lt, map-append, length-drop, drop-map, place_of, numbers_from, place_add, IsIndexAt, index_at, Item, Old, New, character_of, text_of, item_through, then_items, Keeps, Part, OldPart, NewPart, index_of, items_in, items_of, IsPartOf, AreParts, Ascend, back_parts, put_parts, through_part, put_through, through_parts, IsThrough, AreThrough, common_steps}
 use Rattle.lsp_edit.proofs.Batches.ComposeLemmas.{told_row, told_new}
 use Rattle.lsp_edit.proofs.Parts.CutLemmas.{text_long}
 use Rattle.lsp_edit.proofs.Parts.CutPartsLemmas.{AreCutAt, cut_parts}
 use Rattle.lsp_edit.proofs.Parts.IndexLemmas.{index_of-place, index_rises, indexes_less}
 use Rattle.lsp_edit.proofs.Canonical.KeepsLemmas.{after, rest_keeps}
 use Rattle.lsp_edit.proofs.Parts.PutLemmas.{put_all_items}
-use Rattle.std.proofs.lemmas.Grind.{common_steps}
 
 module _ (old mid : List ℕ) (old_utf8 : IsUtf8 old) (mid_utf8 : IsUtf8 mid) (first : List Part)
     (are : AreParts old first) (over : chars mid ≡ text_of (chars old) (items_of (chars old) first)) where
@@ -115,8 +103,7 @@ after_numbers first (suc count) = after_numbers (suc first) count ∙ omega arit
 module _ (mid : List ℕ) (utf8 : IsUtf8 mid) where
   places_rise : (low high : ℕ) → IsCharBoundary mid low → IsCharBoundary mid high → index_of (chars mid) low
       ≤ index_of (chars mid) high → low ≤ high
-  places_rise low high at_low at_high rise =
-      grind (arith, common_steps, indexes_less, cases_lt)
+  places_rise low high at_low at_high rise = grind (arith, common_steps, indexes_less, cases_lt)
 
   pub ascending : (low : ℕ) (parts : List Part) → IsCharBoundary mid low → AreParts mid parts
       → Keeps (chars mid) (index_of (chars mid) low) (items_of (chars mid) parts) → Ascend low parts
@@ -142,8 +129,7 @@ module _ (mid : List ℕ) (utf8 : IsUtf8 mid) where
           ≡ suc ((index_of (chars mid) to - index_of (chars mid) from) - 1)
       some = omega (arith, less)
 
-      keeps_row : Keeps (chars mid) (index_of (chars mid) low)
-          (map Old (numbers_from (index_of (chars mid) from)
+      keeps_row : Keeps (chars mid) (index_of (chars mid) low) (map Old (numbers_from (index_of (chars mid) from)
           (suc ((index_of (chars mid) to - index_of (chars mid) from) - 1))) ++ items_of (chars mid) parts)
       keeps_row = subst (λ (n : ℕ). Keeps (chars mid) (index_of (chars mid) low)
           (map Old (numbers_from (index_of (chars mid) from) n) ++ items_of (chars mid) parts)) some keeps

@@ -1,21 +1,8 @@
 -- The documents of both ends of a pair at a world.
-use Rattle.std.proofs.Common.{ℕ, ◌≡◌, ◌≤◌, nat_le, true, false, List, [], ◌∷◌, ◌++◌, length, map, take, slice_get, Option, Some, None, Result, Ok, Err, refl, sym, ap, ◌∙◌, arith, ⊎_elim}
-use Rattle.std.proofs.lemmas.Bool.{cases_Bool, leb-true, leb-false}
-use Rattle.std.proofs.lemmas.List.{append_assoc, append-nil, length-append, take-append-le, take_all, take-append-drop}
-use Rattle.lsp_message.specs.declared.agreement.SyncKind.{SyncKind}
-use Rattle.lsp_message.specs.Outgoing.{OutgoingData}
-use Rattle.lsp_message.specs.Message.{message}
-use Rattle.lsp_message.specs.laws.Sent.{sent}
-use Rattle.lsp_message.specs.Params.{DocumentItem}
-use Rattle.lsp_store.specs.Table.{table_of}
-use Rattle.lsp_client.specs.declared.fault.ClientFault.{ClientFault}
-use Rattle.lsp_client.specs.Step as client
-use Rattle.lsp_pair.specs.Events.{Setting, EventData, calls, to_server, to_client, messages_in}
-use Rattle.lsp_pair.specs.Pair.{PairData, IsFitting}
-use Rattle.lsp_pair.specs.laws.World.{ClientMessage, lifecycle, World, commands_in, turn_of_call, to_server_event, to_client_event, turn_of_result, turn, world_from, world_of, beginning, client_of}
-use Rattle.lsp_pair.specs.laws.At.{IsAt, frames_from, waiting_out}
+use Rattle.lsp_pair.proofs.Prelude.{ℕ, ◌≡◌, ◌≤◌, nat_le, true, false, List, [], ◌∷◌, ◌++◌, length, map, take, slice_get, Option, Some, None, Result, Ok, Err, refl, sym, ap, ◌∙◌, arith, ⊎_elim, cases_Bool, leb-true, leb-false, append_assoc, append-nil, length-append, take-append-le, take_all, take-append-drop, SyncKind, OutgoingData, message, sent, DocumentItem, table_of, ClientFault, Setting, EventData, calls, to_server, to_client, messages_in, PairData, IsFitting, ClientMessage, lifecycle, World, commands_in, turn_of_call, to_server_event, to_client_event, turn_of_result, turn, world_from, world_of, beginning, client_of, IsAt, frames_from, waiting_out}
 use Rattle.lsp_pair.specs.laws.Commanded.{sent_messages, delivered_messages, HaveCommanded}
 use Rattle.lsp_pair.proofs.Worlds.WorldLemmas.{world_sound}
+use Rattle.lsp_client.specs.Step as client
 
 -- ---- what waits
 

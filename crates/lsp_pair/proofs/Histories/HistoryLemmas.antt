@@ -1,26 +1,10 @@
 -- The history of a pair: each step makes the next, and both ends have the documents that it says.
-use Rattle.std.proofs.Common.{ℕ, zero, suc, ◌≡◌, ◌≤◌, ◌+◌, List, [], ◌∷◌, ◌++◌, length, take, slice_get, Option, Some, None, Result, Ok, Err, IfOk, refl, sym, ap, ◌∙◌, subst, arith}
-use Rattle.std.proofs.lemmas.List.{append-nil, length-drop, take_all}
-use Rattle.lsp_message.specs.declared.agreement.SyncKind.{SyncKind}
-use Rattle.lsp_message.specs.Outgoing.{OutgoingData}
-use Rattle.lsp_message.specs.Message.{message}
-use Rattle.lsp_message.specs.laws.Sent.{sent}
-use Rattle.lsp_message.specs.Params.{DocumentItem}
-use Rattle.lsp_client.specs.declared.fault.ClientFault.{ClientFault}
-use Rattle.lsp_client.specs.Step as client
-use Rattle.lsp_pair.specs.declared.event.Happened.{Happened}
-use Rattle.lsp_pair.specs.Events.{Setting, EventData, calls, to_server, to_client}
-use Rattle.lsp_pair.specs.Pair.{PairData, IsFitting, IsStep, new_pair}
-use Rattle.lsp_pair.specs.laws.World.{ClientMessage, commands, lifecycle, World, Turn, turn_of_call, turn_of_delivery, to_server_event, to_client_event, turn_of_result, turn, world_of, client_of, server_of}
-use Rattle.lsp_pair.specs.laws.At.{table_with, frames_from, waiting_out, IsAt}
-use Rattle.lsp_pair.specs.laws.Steps.{IsStepAt}
-use Rattle.lsp_pair.specs.Documents.{History, no_history, history_after, HaveDocuments, IsLater}
-use Rattle.lsp_pair.specs.inside.History.{tables_from, history_of, IsHistory}
+use Rattle.lsp_pair.proofs.Prelude.{ℕ, zero, suc, ◌≡◌, ◌≤◌, ◌+◌, List, [], ◌∷◌, ◌++◌, length, take, slice_get, Option, Some, None, Result, Ok, Err, IfOk, refl, sym, ap, ◌∙◌, subst, arith, append-nil, length-drop, take_all, SyncKind, OutgoingData, message, sent, DocumentItem, ClientFault, Happened, Setting, EventData, calls, to_server, to_client, PairData, IsFitting, IsStep, new_pair, ClientMessage, commands, lifecycle, World, Turn, turn_of_call, turn_of_delivery, to_server_event, to_client_event, turn_of_result, turn, world_of, client_of, server_of, table_with, frames_from, waiting_out, IsAt, IsStepAt, History, no_history, history_after, HaveDocuments, IsLater, tables_from, history_of, IsHistory, common_steps}
 use Rattle.lsp_pair.proofs.Worlds.ListLemmas.{table_after_all}
 use Rattle.lsp_pair.proofs.Worlds.Shapes.{the_kind}
 use Rattle.lsp_pair.proofs.Worlds.WorldLemmas.{world_sound, world-last}
 use Rattle.lsp_pair.proofs.Steps.StepLemmas.{new_at}
-use Rattle.std.proofs.lemmas.Grind.{common_steps}
+use Rattle.lsp_client.specs.Step as client
 
 -- ---- tables
 
@@ -137,8 +121,7 @@ pub next_history : (setting : Setting) (events : List EventData) (event : EventD
     (new : PairData)
     → IsFitting setting → h ≡ history_of (world_of setting events) → IsStepAt setting events event happened new
     → IsHistory (history_after h happened new.client.table) new
-next_history setting events event h happened new sound told steps =
-    grind (arith, common_steps, world-last, turn_next)
+next_history setting events event h happened new sound told steps = grind (arith, common_steps, world-last, turn_next)
 
 -- after a step that leads to the world of the list with its event added
 pub history_if : {E : Type 0} (old new : PairData) (event : EventData) (result : Result Happened E)
@@ -158,10 +141,8 @@ history_if old new event (Err e) steps = tt
 -- ---- a run
 
 pub later-last : (h mid_history : History) (old mid new : PairData) (events : List EventData) (event : EventData)
-    (happened : Happened) → IsLater h old events mid_history mid
-    → IsStep mid event happened new
-    → IsLater h old (events ++ event ∷ []) (history_after mid_history happened new.client.table)
-    new
+    (happened : Happened) → IsLater h old events mid_history mid → IsStep mid event happened new
+    → IsLater h old (events ++ event ∷ []) (history_after mid_history happened new.client.table) new
 later-last h mid_history old mid new [] event happened run steps = grind (arith, common_steps)
 later-last h mid_history old mid new (first ∷ events) event happened run steps = (
   run.0,

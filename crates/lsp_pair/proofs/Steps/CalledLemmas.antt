@@ -1,24 +1,8 @@
 -- A call of a pair's client, over plain values.
-use Rattle.std.proofs.Common.{ℕ, ◌≡◌, ◌≢◌, ◌⊎◌, List, [], ◌∷◌, ◌++◌, Result, Ok, Err, IfOk, IfErr, OnErr, Vec, refl, sym, ap, ◌∙◌, subst, ⊎_elim}
-use Rattle.std.specs.declared.alloc.Global.{Global}
+use Rattle.lsp_pair.proofs.Prelude.{ℕ, ◌≡◌, ◌≢◌, ◌⊎◌, List, [], ◌∷◌, ◌++◌, Result, Ok, Err, IfOk, IfErr, OnErr, Vec, refl, sym, ap, ◌∙◌, subst, ⊎_elim, Global, map-append, ClientFault, WrongPhase, Store, NoMemory, Sending, call_result, IsSent, IsFaultOf, Event, Start, Open, Edit, Close, Shutdown, Exit, ToServer, ToClient, Happened, Sent, Refused, Server, Client, Did, Heard, EventData, calls, to_server, to_client, PairData, IsCallStep, IsServerStep, IsClientStep, IsDeliveryStep, IsStep, event_view, frames, IsCall, HoldsOnCall, both_ends}
 use Rattle.std.specs.declared.alloc.AllocError.{AllocError}
-use Rattle.std.proofs.lemmas.List.{map-append}
 use Rattle.lsp_server.specs.Step as server
-use Rattle.lsp_client.specs.declared.fault.ClientFault.{ClientFault}
-use Rattle.lsp_client.specs.declared.fault.ClientFault.TheVariants.{WrongPhase, Store, NoMemory}
 use Rattle.lsp_client.specs.Step as client
-use Rattle.lsp_client.specs.Step.{Sending, call_result}
-use Rattle.lsp_client.specs.Seen.{IsSent, IsFaultOf}
-use Rattle.lsp_pair.specs.declared.event.Event.{Event}
-use Rattle.lsp_pair.specs.declared.event.Event.TheVariants.{Start, Open, Edit, Close, Shutdown, Exit, ToServer, ToClient}
-use Rattle.lsp_pair.specs.declared.event.Happened.{Happened}
-use Rattle.lsp_pair.specs.declared.event.Happened.TheVariants.{Sent, Refused, Server, Client}
-use Rattle.lsp_pair.specs.declared.event.Did.{Did}
-use Rattle.lsp_pair.specs.declared.event.Heard.{Heard}
-use Rattle.lsp_pair.specs.Events.{EventData, calls, to_server, to_client}
-use Rattle.lsp_pair.specs.Pair.{PairData, IsCallStep, IsServerStep, IsClientStep, IsDeliveryStep, IsStep}
-use Rattle.lsp_pair.specs.Seen.{event_view, frames}
-use Rattle.lsp_pair.specs.inside.Ends.{IsCall, HoldsOnCall, both_ends}
 
 pub is_call : (e : Event) → (e ≡ ToServer → ⊥) → (e ≡ ToClient → ⊥) → IsCall (event_view e)
 is_call Start p q = tt

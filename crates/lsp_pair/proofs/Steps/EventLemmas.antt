@@ -1,12 +1,5 @@
 -- Events as the types hold them.
-use Rattle.std.proofs.Common.{FitsSigned, w32}
-use Rattle.std.specs.Prelude.{⊤}
-use Rattle.std.proofs.lemmas.Str.{IsUtf8-string_bytes}
-use Rattle.lsp_store.proofs.Messages.MessageLemmas.{texts_held}
-use Rattle.lsp_pair.specs.declared.event.Event.{Event}
-use Rattle.lsp_pair.specs.declared.event.Event.TheVariants.{Start, Open, Edit, Close, Shutdown, Exit, ToServer, ToClient}
-use Rattle.lsp_pair.specs.laws.World.{IsProperEvent}
-use Rattle.lsp_pair.specs.Seen.{event_view}
+use Rattle.lsp_pair.proofs.Prelude.{FitsSigned, w32, ⊤, IsUtf8-string_bytes, texts_held, Event, Start, Open, Edit, Close, Shutdown, Exit, ToServer, ToClient, IsProperEvent, event_view}
 
 -- its version fits
 abbrev pub FitsVersion : Event → Type 0

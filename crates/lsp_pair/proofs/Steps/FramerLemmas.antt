@@ -1,10 +1,5 @@
 -- A whole frame that is fed is buffered whole.
-use Rattle.std.proofs.Common.{ℕ, zero, suc, ◌≡◌, get_or, ◌≤◌, ◌<◌, List, [], ◌∷◌, length, take, drop, refl, sym, ap, subst, arith, ⊎_elim}
-use Rattle.std.proofs.lemmas.Bool.{cases_lt}
-use Rattle.std.proofs.lemmas.List.{take-append-drop, length-drop}
-use Rattle.lsp_frame.specs.Frame.{IsFrameOf}
-use Rattle.lsp_frame.specs.Stream.{IsFrame}
-use Rattle.lsp_frame.proofs.LawLemmas.{one_frame_law}
+use Rattle.lsp_pair.proofs.Prelude.{ℕ, zero, suc, ◌≡◌, get_or, ◌≤◌, ◌<◌, List, [], ◌∷◌, length, take, drop, refl, sym, ap, subst, arith, ⊎_elim, cases_lt, take-append-drop, length-drop, IsFrameOf, IsFrame, one_frame_law}
 
 take_whole : {X : Type 0} (k : ℕ) (xs : List X) → length xs ≤ k → take k xs ≡ xs
 take_whole zero [] h = refl

@@ -1,14 +1,6 @@
 -- A new pair.
-use Rattle.std.proofs.Common.{◌≡◌, Bool, true, false, true≢false, not, IsTrue, [], nat_le, sym}
-use Rattle.std.specs.Prelude.{◌&&◌, ◌||◌}
-use Rattle.std.proofs.lemmas.Bool.{and_parts, leb-true}
-use Rattle.lsp_frame.specs.Limits.{LimitsData, AreInRange}
-use Rattle.lsp_message.specs.declared.agreement.Offers.{Offers}
+use Rattle.lsp_pair.proofs.Prelude.{◌≡◌, Bool, true, false, true≢false, not, IsTrue, [], nat_le, sym, ◌&&◌, ◌||◌, and_parts, leb-true, LimitsData, AreInRange, Offers, AreWithin, Setting, IsFitting, can_choose_utf16, are_within, new_pair, IsReached}
 use Rattle.lsp_server.specs.declared.config.Config.{Config}
-use Rattle.lsp_store.specs.Limits.{AreWithin}
-use Rattle.lsp_pair.specs.Events.{Setting}
-use Rattle.lsp_pair.specs.Pair.{IsFitting, can_choose_utf16, are_within, new_pair}
-use Rattle.lsp_pair.specs.inside.Reached.{IsReached}
 use Rattle.lsp_pair.proofs.Steps.StepLemmas.{new_at}
 
 lenient_from : (small great : Bool) → (not small || great) ≡ true → IsTrue small → IsTrue great

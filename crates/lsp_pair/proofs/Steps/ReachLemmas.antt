@@ -1,31 +1,14 @@
 -- What a reached pair has in its queues.
-use Rattle.std.proofs.Common.{ℕ, ◌≡◌, ◌≢◌, true, List, [], ◌∷◌, ◌++◌, map, Result, Ok, Err, IfOk, OnOk, OnErr, sym, ◌∙◌, subst, arith}
-use Rattle.lsp_frame.specs.Stream.{IsFrame}
-use Rattle.lsp_frame.proofs.WrittenLemmas.{written_is_frame}
-use Rattle.lsp_message.specs.Outgoing as outgoing
-use Rattle.lsp_message.specs.Outgoing.{OutgoingData}
-use Rattle.lsp_server.specs.declared.phase.Phase.TheVariants.{Ended}
-use Rattle.lsp_server.specs.Step as server
-use Rattle.lsp_client.specs.Step as client
-use Rattle.lsp_client.specs.Step.{is_listening}
-use Rattle.lsp_pair.specs.declared.event.Happened.{Happened}
-use Rattle.lsp_pair.specs.declared.event.Happened.TheVariants.{Server}
-use Rattle.lsp_pair.specs.declared.event.Did.TheVariants as done
-use Rattle.lsp_pair.specs.Events.{Setting, EventData}
-use Rattle.lsp_pair.specs.Pair.{PairData, message_frame, IsFitting, IsStep}
-use Rattle.lsp_pair.specs.laws.World.{ClientMessage, commands, lifecycle, World, server_of, IsProperEvent}
-use Rattle.lsp_pair.specs.laws.At.{frames_from, IsAt}
-use Rattle.lsp_pair.specs.laws.Usual.{IsUsual}
-use Rattle.lsp_pair.specs.laws.Steps.{IsStepAt}
-use Rattle.lsp_pair.specs.inside.Reached.{IsReached}
-use Rattle.lsp_pair.specs.inside.Ends.{both_ends}
-use Rattle.lsp_pair.specs.inside.Ends.{HoldsOfFirst}
+use Rattle.lsp_pair.proofs.Prelude.{ℕ, ◌≡◌, ◌≢◌, true, List, [], ◌∷◌, ◌++◌, map, Result, Ok, Err, IfOk, OnOk, OnErr, sym, ◌∙◌, subst, arith, IsFrame, written_is_frame, OutgoingData, Ended, is_listening, Happened, Server, Setting, EventData, PairData, message_frame, IsFitting, IsStep, ClientMessage, commands, lifecycle, World, server_of, IsProperEvent, frames_from, IsAt, IsUsual, IsStepAt, IsReached, both_ends, HoldsOfFirst, common_steps}
 use Rattle.lsp_pair.proofs.Worlds.Shapes.{the_kind, WorldSound}
 use Rattle.lsp_pair.proofs.Worlds.ArriveLemmas.{Arrives, Arrivals, body_on}
 use Rattle.lsp_pair.proofs.Worlds.ReturnLemmas.{Returning}
 use Rattle.lsp_pair.proofs.Worlds.WorldLemmas.{there_arrives, here_returns, world_sound}
 use Rattle.lsp_pair.proofs.Steps.StepLemmas.{frame_on, steps_at, steps_reach}
-use Rattle.std.proofs.lemmas.Grind.{common_steps}
+use Rattle.lsp_message.specs.Outgoing as outgoing
+use Rattle.lsp_server.specs.Step as server
+use Rattle.lsp_client.specs.Step as client
+use Rattle.lsp_pair.specs.declared.event.Did.TheVariants as done
 
 -- an ended server does nothing usual
 never_ended : (said : ClientMessage) → IsUsual said (Server done.Dropped) → ⊥
@@ -43,34 +26,29 @@ never_ended (lifecycle (outgoing.error_reply id error)) h = h
 
 module _ (setting : Setting) (sound : IsFitting setting) (w : World) (ok : WorldSound setting w) where
   not_ended : (said : ClientMessage) (rest : List ClientMessage) → Arrives setting w said rest → w.server_phase ≢ Ended
-  not_ended said rest a ended =
-      grind (arith, common_steps, never_ended)
+  not_ended said rest a ended = grind (arith, common_steps, never_ended)
 
   first_served : (q : List ClientMessage) → Arrivals setting w q
       → HoldsOfFirst (frames_from (the_kind setting) (server_of setting w).table q)
       (λ first. IsFrame setting.config.limits.max_body first × (w.server_phase ≢ Ended))
   first_served [] a = tt
-  first_served (said ∷ rest) a =
-      grind (arith, common_steps, body_on, the_kind, frame_on, written_is_frame)
+  first_served (said ∷ rest) a = grind (arith, common_steps, body_on, the_kind, frame_on, written_is_frame)
 
   first_heard : (q : List OutgoingData) → Returning setting w q
       → HoldsOfFirst (map message_frame q) (λ first. IsFrame setting.limits.max_body first
       × (is_listening w.client_phase ≡ true))
   first_heard [] r = tt
-  first_heard (m ∷ rest) r =
-      grind (arith, common_steps, written_is_frame)
+  first_heard (m ∷ rest) r = grind (arith, common_steps, written_is_frame)
 
 pub reached_serves : (pair : PairData) → IsReached pair
     → HoldsOfFirst pair.to_server (λ first. IsFrame pair.server.config.limits.max_body first
     × (pair.server.phase ≢ Ended))
-reached_serves pair r =
-    grind (arith, common_steps, world_sound, first_served, there_arrives)
+reached_serves pair r = grind (arith, common_steps, world_sound, first_served, there_arrives)
 
 pub reached_hears : (pair : PairData) → IsReached pair
     → HoldsOfFirst pair.to_client (λ first. IsFrame pair.client.limits.max_body first
     × (is_listening pair.client.phase ≡ true))
-reached_hears pair r =
-    grind (arith, common_steps, world_sound, first_heard, here_returns)
+reached_hears pair r = grind (arith, common_steps, world_sound, first_heard, here_returns)
 
 -- ---- a step that may run out of memory
 
@@ -81,10 +59,8 @@ reach_or_same old new event (Ok a) proper reached steps same = steps_reach old n
 reach_or_same old new event (Err e) proper reached steps same = subst IsReached (sym same) reached
 
 pub step_from : {E : Type 0} (old now new : PairData) (event given : EventData) (result : Result Happened E) → old ≡ now
-    → given ≡ event
-    → IfOk result (λ a. IsStep old event a new) → IfOk result (λ a. IsStep now given a new)
-step_from old now new event given result same is steps =
-    grind (arith, common_steps)
+    → given ≡ event → IfOk result (λ a. IsStep old event a new) → IfOk result (λ a. IsStep now given a new)
+step_from old now new event given result same is steps = grind (arith, common_steps)
 
 pub at_if : {E : Type 0} (old new : PairData) (event : EventData) (result : Result Happened E) → IsProperEvent event
     → IfOk result (λ a. IsStep old event a new)

@@ -1,8 +1,5 @@
 -- Runs of a pair.
-use Rattle.std.proofs.Common.{ℕ, zero, suc, ◌≡◌, ◌<◌, ◌+◌, length, map, take, get_or, add-one, arith, List, [], ◌∷◌, ◌++◌, refl, sym, ap, ◌∙◌, subst}
-use Rattle.lsp_pair.specs.declared.event.Happened.{Happened}
-use Rattle.lsp_pair.specs.Events.{EventData}
-use Rattle.lsp_pair.specs.Pair.{PairData, IsStep, IsRun}
+use Rattle.lsp_pair.proofs.Prelude.{ℕ, zero, suc, ◌≡◌, ◌<◌, ◌+◌, length, map, take, get_or, add-one, arith, List, [], ◌∷◌, ◌++◌, refl, sym, ap, ◌∙◌, subst, Happened, EventData, PairData, IsStep, IsRun}
 
 -- A run goes on by one step.
 pub run-last : (old mid new : PairData) (events : List EventData) (event : EventData) (happened : Happened)

@@ -1,26 +1,10 @@
 -- A delivery to the server, over plain values.
-use Rattle.std.proofs.Common.{ℕ, ◌≡◌, ◌≢◌, ◌<◌, Bool, true, false, List, [], ◌∷◌, ◌++◌, length, map, get_or, Vec, Ok, Err, refl, sym, subst, arith}
-use Rattle.std.specs.Prelude.{if◌then◌else◌}
-use Rattle.std.specs.declared.alloc.Global.{Global}
-use Rattle.lsp_frame.specs.Limits.{LimitsData}
-use Rattle.lsp_frame.specs.Frame.{IsFrameOf}
-use Rattle.lsp_message.specs.Message.{reading}
-use Rattle.lsp_message.specs.Outgoing.{OutgoingData}
-use Rattle.lsp_server.specs.declared.phase.Phase.TheVariants.{Ended}
-use Rattle.lsp_server.specs.Answer as answer
+use Rattle.lsp_pair.proofs.Prelude.{ℕ, ◌≡◌, ◌≢◌, ◌<◌, Bool, true, false, List, [], ◌∷◌, ◌++◌, length, map, get_or, Vec, Ok, Err, refl, sym, subst, arith, if◌then◌else◌, Global, LimitsData, IsFrameOf, reading, OutgoingData, Ended, WrongPhase, Did, Heard, Server, Client, to_server, to_client, did_of, replies_in, heard_of, messages_in, message_frame, IsStep, frames, HoldsOfFirst, did_of_sent, frames_in_answer, frames_in_delivery, common_steps}
 use Rattle.lsp_server.specs.Answer.{AnswerData, Sent, as_sent}
+use Rattle.lsp_server.specs.Answer as answer
 use Rattle.lsp_server.specs.Step as server
-use Rattle.lsp_client.specs.declared.fault.ClientFault.TheVariants.{WrongPhase}
 use Rattle.lsp_client.specs.Step as client
 use Rattle.lsp_client.specs.Seen as seen
-use Rattle.lsp_pair.specs.declared.event.Did.{Did}
-use Rattle.lsp_pair.specs.declared.event.Heard.{Heard}
-use Rattle.lsp_pair.specs.declared.event.Happened.TheVariants.{Server, Client}
-use Rattle.lsp_pair.specs.Events.{to_server, to_client, did_of, replies_in, heard_of, messages_in}
-use Rattle.lsp_pair.specs.Pair.{message_frame, IsStep}
-use Rattle.lsp_pair.specs.Seen.{frames}
-use Rattle.lsp_pair.specs.inside.Ends.{HoldsOfFirst, did_of_sent, frames_in_answer, frames_in_delivery}
-use Rattle.std.proofs.lemmas.Grind.{common_steps}
 
 did_same : (a : AnswerData OutgoingData) → did_of_sent (as_sent a) ≡ did_of a
 did_same (answer.reply m) = refl
@@ -85,8 +69,7 @@ pub hear_is : (s : server.ServerData) (c new : client.ClientData) (limits : Limi
     (items rest : List (Vec ℕ Global)) (there next : List (List ℕ)) (first : Vec ℕ Global) (body buffered : List ℕ)
     (given : client.DeliveredData (List ℕ)) (result : Heard)
     → items ≡ first ∷ rest → IsFrameOf limits.max_body buffered body → buffered ≡ first.items → limits ≡ c.limits
-    → client.is_listening c.phase ≡ true
-    → seen.IsDelivered (client.delivery_result c (reading body)) given new
+    → client.is_listening c.phase ≡ true → seen.IsDelivered (client.delivery_result c (reading body)) given new
     → result ≡ heard_of given → next ≡ there ++ frames_in_delivery given
     → IsStep (record { client = c; server = s; to_server = there; to_client = frames items }) to_client (Client result)
     (record { client = new; server = s; to_server = next; to_client = frames rest })

@@ -1,24 +1,6 @@
 -- A step of a pair at a world leaves it at the world after the event.
-use Rattle.std.proofs.Common.{ℕ, ◌≡◌, List, [], ◌∷◌, ◌++◌, map, take, drop, Result, Ok, Err, refl, sym, ap, ◌∙◌, subst, arith}
-use Rattle.std.proofs.lemmas.List.{drop-append-le, take-append-le, map-append}
-use Rattle.lsp_frame.specs.Frame.{frame}
-use Rattle.lsp_message.specs.declared.agreement.SyncKind.{SyncKind}
-use Rattle.lsp_message.specs.Message.{reading}
-use Rattle.lsp_message.specs.Outgoing.{OutgoingData, body_of}
-use Rattle.lsp_message.specs.Params.{DocumentItem}
-use Rattle.lsp_store.specs.Table.{table_of}
-use Rattle.lsp_server.specs.Step as server
-use Rattle.lsp_client.specs.declared.fault.ClientFault.{ClientFault}
+use Rattle.lsp_pair.proofs.Prelude.{ℕ, ◌≡◌, List, [], ◌∷◌, ◌++◌, map, take, drop, Result, Ok, Err, refl, sym, ap, ◌∙◌, subst, arith, drop-append-le, take-append-le, map-append, frame, SyncKind, reading, OutgoingData, body_of, DocumentItem, table_of, ClientFault, Happened, Server, Client, Setting, EventData, calls, to_server, to_client, did_of, replies_in, heard_of, messages_in, PairData, new_pair, message_frame, IsFitting, IsCallStep, IsServerStep, IsClientStep, IsDeliveryStep, IsStep, ClientMessage, commands, lifecycle, World, commands_in, Turn, turn_of_call, message_of_call, message_in, turn_of_step, turn_of_delivery, turn, world_of, beginning, client_of, server_of, IsProperEvent, frame_of, table_with, frames_from, waiting_out, waiting_back, pair_of, IsAt, IsUsualTurn, HaveOneEncoding, IsStepAt, IsReached, common_steps}
 use Rattle.lsp_client.specs.Step.{Call, Sending, Delivery, delivery_of, sent_body}
-use Rattle.lsp_pair.specs.declared.event.Happened.{Happened}
-use Rattle.lsp_pair.specs.declared.event.Happened.TheVariants.{Server, Client}
-use Rattle.lsp_pair.specs.Events.{Setting, EventData, calls, to_server, to_client, did_of, replies_in, heard_of, messages_in}
-use Rattle.lsp_pair.specs.Pair.{PairData, new_pair, message_frame, IsFitting, IsCallStep, IsServerStep, IsClientStep, IsDeliveryStep, IsStep}
-use Rattle.lsp_pair.specs.laws.World.{ClientMessage, commands, lifecycle, World, commands_in, Turn, turn_of_call, message_of_call, message_in, turn_of_step, turn_of_delivery, turn, world_of, beginning, client_of, server_of, IsProperEvent}
-use Rattle.lsp_pair.specs.laws.At.{frame_of, table_with, frames_from, waiting_out, waiting_back, pair_of, IsAt}
-use Rattle.lsp_pair.specs.laws.Usual.{IsUsualTurn, HaveOneEncoding}
-use Rattle.lsp_pair.specs.laws.Steps.{IsStepAt}
-use Rattle.lsp_pair.specs.inside.Reached.{IsReached}
 use Rattle.lsp_pair.proofs.Worlds.LifeLemmas.{one_body}
 use Rattle.lsp_pair.proofs.Worlds.ListLemmas.{table_after_all, after-last, quiet, whole_after, frames-append, frames_said, next_is}
 use Rattle.lsp_pair.proofs.Worlds.Shapes.{the_kind, WorldSound}
@@ -26,7 +8,7 @@ use Rattle.lsp_pair.proofs.Worlds.ArriveLemmas.{Arrives, Arrivals, body_on}
 use Rattle.lsp_pair.proofs.Worlds.ReturnLemmas.{Returns, Returning}
 use Rattle.lsp_pair.proofs.Worlds.CallLemmas.{IsSending, CallResult, called_sound}
 use Rattle.lsp_pair.proofs.Worlds.WorldLemmas.{good_turn, there_arrives, here_returns, served_turn, heard_turn, quiet_there, quiet_here, world_sound, world-last, proper_last, agree_at}
-use Rattle.std.proofs.lemmas.Grind.{common_steps}
+use Rattle.lsp_server.specs.Step as server
 
 pub frame_on : (kind : SyncKind) (table : List DocumentItem) (said : ClientMessage) → frame_of kind table said
     ≡ frame (body_on kind table said)
@@ -53,18 +35,15 @@ module _ (setting : Setting) (sound : IsFitting setting) (w : World) (ok : World
       (client_of setting w).table said ∷ []
       ≡ frames_from kind (table_of (commands_in (take w.out_delivered (w.out ++ said ∷ []))))
       (drop w.out_delivered (w.out ++ said ∷ []))
-  queue_more said =
-      grind (arith, common_steps, whole_after, frames-append, take-append-le, drop-append-le)
+  queue_more said = grind (arith, common_steps, whole_after, frames-append, take-append-le, drop-append-le)
 
   called_pair : (said : ClientMessage) (sending : Sending) → IsSending setting w said sending
       → record old { client = sending.state; to_server = old.to_server ++ message_frame sending.message ∷ [] }
       ≡ pair_of setting (turn_of_call w said (Ok sending)).world
-  called_pair said sending is =
-      grind (arith, common_steps, after-last, take-append-le, queue_more)
+  called_pair said sending is = grind (arith, common_steps, after-last, take-append-le, queue_more)
 
   call_step : (call : Call) (result : Result Sending ClientFault) (happened : Happened) (new : PairData)
-      → CallResult setting w (message_of_call (client_of setting w) call) result
-      → IsCallStep old result happened new
+      → CallResult setting w (message_of_call (client_of setting w) call) result → IsCallStep old result happened new
       → AsTurn setting (turn_of_call w (message_of_call (client_of setting w) call (message_in result)) result) happened
       new
   call_step call (Ok sending) happened new is steps = record {
@@ -76,8 +55,7 @@ module _ (setting : Setting) (sound : IsFitting setting) (w : World) (ok : World
   -- ---- a delivery to the server
 
   served_pair : (said : ClientMessage) (rest : List ClientMessage) (e : waiting_out w ≡ said ∷ rest)
-      (a : Arrives setting w said rest)
-      → record old {
+      (a : Arrives setting w said rest) → record old {
         server = a.step_is.state;
         to_server = frames_from kind (table_with old.server.table said) rest;
         to_client = old.to_client ++ map message_frame (replies_in a.step_is.answer);
@@ -87,12 +65,10 @@ module _ (setting : Setting) (sound : IsFitting setting) (w : World) (ok : World
       grind (arith, common_steps, next_is, table_after_all, after-last, map-append, drop-append-le)
 
   server_step : (q : List ClientMessage) → waiting_out w ≡ q → Arrivals setting w q → (happened : Happened)
-      (new : PairData)
-      → IsDeliveryStep (λ first rest. IsServerStep old first rest happened new) old
+      (new : PairData) → IsDeliveryStep (λ first rest. IsServerStep old first rest happened new) old
       (frames_from kind (server_of setting w).table q) happened new
       → AsTurn setting (turn setting w to_server) happened new
-  server_step [] e a happened new steps =
-      grind (arith, common_steps, quiet_there)
+  server_step [] e a happened new steps = grind (arith, common_steps, quiet_there)
   server_step (said ∷ rest) e a happened new steps =
       let within = sound.within.body in
       let body : steps.body ≡ body_on kind (server_of setting w).table said =
@@ -117,8 +93,7 @@ module _ (setting : Setting) (sound : IsFitting setting) (w : World) (ok : World
   -- ---- a delivery to the client
 
   heard_pair : (m : OutgoingData) (rest : List OutgoingData) (e : waiting_back w ≡ m ∷ rest)
-      (r : Returns setting w m rest)
-      → record old {
+      (r : Returns setting w m rest) → record old {
         client = r.delivery_is.state;
         to_client = map message_frame rest;
         to_server = old.to_server ++ map message_frame (messages_in r.delivery_is.delivered);
@@ -156,8 +131,7 @@ module _ (setting : Setting) (sound : IsFitting setting) (w : World) (ok : World
       (new : PairData)
       → IsDeliveryStep (λ first rest. IsClientStep old first rest happened new) old (map message_frame q) happened new
       → AsTurn setting (turn setting w to_client) happened new
-  client_step [] e r happened new steps =
-      grind (arith, common_steps, quiet_here)
+  client_step [] e r happened new steps = grind (arith, common_steps, quiet_here)
   client_step (m ∷ rest) e r happened new steps =
       let body : steps.body ≡ body_of m = one_body setting.limits.max_body (message_frame m) (body_of m) steps.body refl
       r.short sound.ranges.greatest_body steps.framed in
@@ -179,8 +153,7 @@ module _ (setting : Setting) (sound : IsFitting setting) (w : World) (ok : World
 
   pub steps_as : (event : EventData) → IsProperEvent event → (happened : Happened) (new : PairData)
       → IsStep old event happened new → AsTurn setting (turn setting w event) happened new
-  steps_as (calls call) proper happened new steps =
-      grind (arith, common_steps, call_step, called_sound)
+  steps_as (calls call) proper happened new steps = grind (arith, common_steps, call_step, called_sound)
   steps_as to_server proper happened new steps = server_step (waiting_out w) refl (there_arrives setting sound w ok)
       happened new steps
   steps_as to_client proper happened new steps = client_step (waiting_back w) refl (here_returns setting sound w ok)

@@ -1,36 +1,14 @@
 -- What the server does at each message that waits for it.
-use Rattle.std.proofs.Common.{ℕ, ◌≡◌, ◌≤◌, List, [], ◌∷◌, ◌++◌, length, take, Option, Some, refl, ap, ◌∙◌, subst, arith, pos}
-use Rattle.std.specs.Prelude.{⊤}
-use Rattle.std.proofs.lemmas.List.{append-nil, drop-append-le}
-use Rattle.lsp_text.specs.declared.encoding.Encoding.{Encoding}
-use Rattle.lsp_message.specs.declared.agreement.Offers.{Offers}
-use Rattle.lsp_message.specs.declared.agreement.SyncKind.{SyncKind}
-use Rattle.lsp_message.specs.Message.{whole, reading}
-use Rattle.lsp_message.specs.Outgoing as outgoing
-use Rattle.lsp_message.specs.Outgoing.{OutgoingData, body_of}
-use Rattle.lsp_message.specs.laws.Sent.{IsProper}
-use Rattle.lsp_message.proofs.ReadBack.{reading-body_of, is_read_back}
-use Rattle.lsp_message.specs.Params.{DocumentItem}
-use Rattle.lsp_store.specs.Table.{Command, table_after}
-use Rattle.lsp_store.specs.laws.Tables.{AllWithin}
-use Rattle.lsp_server.specs.declared.phase.Phase.{Phase}
-use Rattle.lsp_server.specs.declared.phase.Phase.TheVariants.{New, Running, Down, Ended}
-use Rattle.lsp_server.specs.Answer as answer
-use Rattle.lsp_server.specs.Incoming as incoming
-use Rattle.lsp_server.specs.Step as server
-use Rattle.lsp_server.specs.Step.{ServerData, Step, step_on, step_in, step, begin_step}
-use Rattle.lsp_client.specs.Step.{sent_body}
-use Rattle.lsp_pair.specs.declared.event.Happened.TheVariants.{Server}
-use Rattle.lsp_pair.specs.Events.{Setting, did_of, replies_in}
-use Rattle.lsp_pair.specs.Pair.{IsFitting}
-use Rattle.lsp_pair.specs.laws.World.{ClientMessage, commands, lifecycle, World, incoming_of_message, server_of, turn_of_step}
-use Rattle.lsp_pair.specs.laws.At.{waiting_out, table_with}
-use Rattle.lsp_pair.specs.laws.Usual.{IsUsual}
-use Rattle.lsp_pair.proofs.Worlds.SaidLemmas as lemmas
+use Rattle.lsp_pair.proofs.Prelude.{ℕ, ◌≡◌, ◌≤◌, List, [], ◌∷◌, ◌++◌, length, take, Option, Some, refl, ap, ◌∙◌, subst, arith, pos, ⊤, append-nil, drop-append-le, Encoding, Offers, SyncKind, whole, reading, OutgoingData, body_of, IsProper, reading-body_of, is_read_back, DocumentItem, Command, table_after, AllWithin, Phase, New, Running, Down, Ended, ServerData, Step, step_on, step_in, step, begin_step, sent_body, Server, Setting, did_of, replies_in, IsFitting, ClientMessage, commands, lifecycle, World, incoming_of_message, server_of, turn_of_step, waiting_out, table_with, IsUsual}
 use Rattle.lsp_pair.proofs.Worlds.SaidLemmas.{sent_short, done_by, IsServedAs}
 use Rattle.lsp_pair.proofs.Worlds.LifeLemmas.{last_result, short_initialize, short_initialized, short_shutdown, short_exit}
 use Rattle.lsp_pair.proofs.Worlds.ListLemmas.{next_is, length_more}
 use Rattle.lsp_pair.proofs.Worlds.Shapes.{the_encoding, the_kind, AreSaid, said_there, said_front, said_within, Shape, fresh, asking, answered, down, closed, leaving, left, working, closing, client_at, server_at, agreed_at, encoding_at, there_at, here_at, IsBusy, IsBusyShape, AtShape, WorldSound}
+use Rattle.lsp_message.specs.Outgoing as outgoing
+use Rattle.lsp_server.specs.Answer as answer
+use Rattle.lsp_server.specs.Incoming as incoming
+use Rattle.lsp_server.specs.Step as server
+use Rattle.lsp_pair.proofs.Worlds.SaidLemmas as lemmas
 
 -- the body in which a message is written, where the client kept this table when it said it
 abbrev pub body_on : SyncKind → List DocumentItem → ClientMessage → List ℕ
@@ -137,8 +115,7 @@ module _ (setting : Setting) (sound : IsFitting setting) (w : World) where
       → server_at shape ≡ Running → encoding_at setting shape ≡ Some (the_encoding setting)
       → IsBusyShape next → client_at shape ≡ client_at next → agreed_at setting shape ≡ agreed_at setting next
       → server_at shape ≡ server_at next → encoding_at setting shape ≡ encoding_at setting next
-      → rest ≡ there_at setting next → here_at setting shape ≡ here_at setting next
-      → Arrives setting w said rest
+      → rest ≡ there_at setting next → here_at setting shape ≡ here_at setting next → Arrives setting w said rest
   busy_arrives shape next (commands command) rest at is first running counts busy client agreed phase encoding there
       here =
       let e : waiting_out w ≡ commands command ∷ rest = at.there ∙ first in

@@ -1,29 +1,13 @@
 -- What a client's calls say.
-use Rattle.std.proofs.Common.{◌≡◌, List, [], ◌∷◌, ◌++◌, Option, Some, None, Result, Ok, Err, refl, sym, ap, ◌∙◌, subst}
-use Rattle.std.specs.Prelude.{⊤, unwrap_or}
-use Rattle.std.proofs.lemmas.List.{drop-append-le}
-use Rattle.lsp_text.specs.declared.encoding.Encoding.{Encoding}
-use Rattle.lsp_text.specs.declared.encoding.Encoding.TheVariants.{Utf16}
-use Rattle.lsp_message.specs.declared.agreement.SyncKind.TheVariants.{Incremental}
-use Rattle.lsp_message.specs.Outgoing as outgoing
-use Rattle.lsp_message.specs.Outgoing.{OutgoingData}
-use Rattle.lsp_store.specs.Table as documents
-use Rattle.lsp_store.specs.Table.{Command, table_after, table_of}
-use Rattle.lsp_client.specs.declared.fault.ClientFault.{ClientFault}
-use Rattle.lsp_client.specs.declared.agreed.Agreed.{Agreed}
+use Rattle.lsp_pair.proofs.Prelude.{◌≡◌, List, [], ◌∷◌, ◌++◌, Option, Some, None, Result, Ok, Err, refl, sym, ap, ◌∙◌, subst, ⊤, unwrap_or, drop-append-le, Encoding, Utf16, Incremental, OutgoingData, Command, table_after, table_of, ClientFault, Agreed, Asked, Closing, Done, order_refusal, order_result, Setting, calls, message_frame, ClientMessage, commands, lifecycle, World, commands_in, client_of, turn_of_call, message_of_call, IsProperOrder, IsProperEvent, frame_of, table_with, agreed_of}
 use Rattle.lsp_client.specs.declared.phase.Phase.{Phase}
-use Rattle.lsp_client.specs.declared.phase.Phase.TheVariants.{Asked, Closing, Done}
-use Rattle.lsp_client.specs.Step as client
 use Rattle.lsp_client.specs.Step.{Sending, Order, Call, opens, edits, closes, starts, shuts_down, exits, orders, call_result, call_result_in, command_result, command_of, sent_message, sending_unless, agreement}
-use Rattle.lsp_client.specs.inside.Orders.{order_refusal, order_result}
-use Rattle.lsp_pair.specs.Events.{Setting, calls}
-use Rattle.lsp_pair.specs.Pair.{message_frame}
-use Rattle.lsp_pair.specs.laws.World.{ClientMessage, commands, lifecycle, World, commands_in, client_of, turn_of_call, message_of_call, IsProperOrder, IsProperEvent}
-use Rattle.lsp_pair.specs.laws.At.{frame_of, table_with}
-use Rattle.lsp_pair.specs.laws.Usual.{agreed_of}
 use Rattle.lsp_pair.proofs.Worlds.SaidLemmas.{IsProperCommand}
 use Rattle.lsp_pair.proofs.Worlds.ListLemmas.{length_more}
 use Rattle.lsp_pair.proofs.Worlds.Shapes.{the_encoding, the_kind, IsSaidOn, said-append, Shape, fresh, asking, answered, down, closed, leaving, left, working, closing, client_at, server_at, agreed_at, encoding_at, there_at, here_at, busy_last, IsBusyShape, AtShape, WorldSound}
+use Rattle.lsp_message.specs.Outgoing as outgoing
+use Rattle.lsp_store.specs.Table as documents
+use Rattle.lsp_client.specs.Step as client
 
 -- What an accepted call leaves of the client, what it sends, and that the world stays sound.
 pub record IsSending (setting : Setting) (w : World) (said : ClientMessage) (sending : Sending) : Type 0 where
@@ -45,8 +29,7 @@ push : (setting : Setting) (w : World) (shape next : Shape) (said : ClientMessag
     → IsBusyShape next → server_at shape ≡ server_at next → encoding_at setting shape ≡ encoding_at setting next
     → sending.state.phase ≡ client_at next → sending.state.agreed ≡ agreed_at setting next
     → here_at setting shape ≡ here_at setting next → there_at setting shape ++ said ∷ [] ≡ there_at setting next
-    → IsSaidOn setting (table_of (commands_in w.out)) said
-    → WorldSound setting (turn_of_call w said (Ok sending)).world
+    → IsSaidOn setting (table_of (commands_in w.out)) said → WorldSound setting (turn_of_call w said (Ok sending)).world
 push setting w shape next said sending at busy server encoding phase agreed here there is =
     record {
       shape = next;
@@ -79,8 +62,7 @@ module _ (setting : Setting) (w : World) where
       by (order_refusal setting.limits (the_kind setting) (client_of setting w).table command) refl
     where
       by : (refusal : Option documents.Refusal) → order_refusal setting.limits (the_kind setting)
-          (client_of setting w).table command ≡ refusal
-          → CallResult setting w (λ m. commands command)
+          (client_of setting w).table command ≡ refusal → CallResult setting w (λ m. commands command)
           (sending_unless refusal (record {
             message = sent_message (the_kind setting) (client_of setting w).table command;
             state = record (client_of setting w) { table = table_after (client_of setting w).table command };
@@ -116,8 +98,7 @@ module _ (setting : Setting) (w : World) where
       → IsBusyShape next → server_at shape ≡ server_at next → encoding_at setting shape ≡ encoding_at setting next
       → phase ≡ client_at next → agreed_at setting shape ≡ agreed_at setting next
       → here_at setting shape ≡ here_at setting next → there_at setting shape ++ lifecycle m ∷ []
-      ≡ there_at setting next
-      → CallResult setting w lifecycle (client.lifecycle_result (client_of setting w) phase m)
+      ≡ there_at setting next → CallResult setting w lifecycle (client.lifecycle_result (client_of setting w) phase m)
   life_sound shape next phase m at busy server encoding is agreed here there =
       record {
         state = refl;

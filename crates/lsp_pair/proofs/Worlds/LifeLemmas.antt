@@ -1,18 +1,7 @@
 -- What both ends make of the messages of the lifecycle, and how long these are.
-use Rattle.std.proofs.Common.{ℕ, ◌≡◌, ◌≤◌, Bool, true, false, List, [], ◌++◌, length, refl, sym, ◌∙◌, subst, arith, pos}
-use Rattle.std.proofs.lemmas.List.{append-nil}
+use Rattle.lsp_pair.proofs.Prelude.{ℕ, ◌≡◌, ◌≤◌, Bool, true, false, List, [], ◌++◌, length, refl, sym, ◌∙◌, subst, arith, pos, append-nil, frame, IsFrameOf, one_frame_law, written_is_frame, Encoding, Utf8, Utf16, Utf32, Offers, SyncKind, Off, Full, Incremental, whole, OutgoingData, initialize, initialized, shutdown, exit, initialize_result, shutdown_result, body_of}
 use Rattle.json.specs.Print.{escape_byte}
 use Rattle.std.specs.Fmt.{digits}
-use Rattle.lsp_frame.specs.Frame.{frame, IsFrameOf}
-use Rattle.lsp_frame.proofs.LawLemmas.{one_frame_law}
-use Rattle.lsp_frame.proofs.WrittenLemmas.{written_is_frame}
-use Rattle.lsp_text.specs.declared.encoding.Encoding.{Encoding}
-use Rattle.lsp_text.specs.declared.encoding.Encoding.TheVariants.{Utf8, Utf16, Utf32}
-use Rattle.lsp_message.specs.declared.agreement.Offers.{Offers}
-use Rattle.lsp_message.specs.declared.agreement.SyncKind.{SyncKind}
-use Rattle.lsp_message.specs.declared.agreement.SyncKind.TheVariants.{Off, Full, Incremental}
-use Rattle.lsp_message.specs.Message.{whole}
-use Rattle.lsp_message.specs.Outgoing.{OutgoingData, initialize, initialized, shutdown, exit, initialize_result, shutdown_result, body_of}
 
 initialize_len : (utf8 utf32 : Bool) → length (body_of (initialize (record { utf8 = utf8; utf32 = utf32 }))) ≤ 4096
 unfolding escape_byte digits

@@ -1,15 +1,5 @@
 -- Messages that wait, and the tables before and after them.
-use Rattle.std.proofs.Common.{ℕ, zero, suc, ◌≡◌, ◌≤◌, ◌<◌, ◌+◌, List, [], ◌∷◌, ◌++◌, length, map, take, drop, add-one, Some, None, refl, sym, ap, ◌∙◌, arith}
-use Rattle.std.specs.Prelude.{slice_get}
-use Rattle.std.proofs.lemmas.List.{length-append, take-append-drop}
-use Rattle.lsp_message.specs.declared.agreement.SyncKind.{SyncKind}
-use Rattle.lsp_message.specs.Outgoing.{OutgoingData}
-use Rattle.lsp_message.specs.Params.{DocumentItem}
-use Rattle.lsp_store.specs.Table.{Command, table_after, table_from}
-use Rattle.lsp_pair.specs.Pair.{message_frame}
-use Rattle.lsp_pair.specs.laws.World.{ClientMessage, commands, lifecycle, commands_in}
-use Rattle.lsp_pair.specs.laws.At.{frame_of, table_with, frames_from}
-use Rattle.std.proofs.lemmas.Grind.{common_steps}
+use Rattle.lsp_pair.proofs.Prelude.{ℕ, zero, suc, ◌≡◌, ◌≤◌, ◌<◌, ◌+◌, List, [], ◌∷◌, ◌++◌, length, map, take, drop, add-one, Some, None, refl, sym, ap, ◌∙◌, arith, slice_get, length-append, take-append-drop, SyncKind, OutgoingData, DocumentItem, Command, table_after, table_from, message_frame, ClientMessage, commands, lifecycle, commands_in, frame_of, table_with, frames_from, common_steps}
 
 -- ---- what is at an index of a list
 
@@ -24,14 +14,11 @@ next_suc : {X : Type 0} (xs : List X) (n : ℕ) (x : X) (rest : List X) → drop
     → (slice_get xs n ≡ Some x) × (drop (suc n) xs ≡ rest) × (take (suc n) xs ≡ take n xs ++ x ∷ []) × (n < length xs)
 next_suc [] zero x rest e = absurd (cc)
 next_suc [] (suc n) x rest e = absurd (cc)
-next_suc (y ∷ ys) zero x rest e =
-    grind (arith, common_steps)
-next_suc (y ∷ ys) (suc n) x rest e =
-    grind (arith, common_steps, (next_suc ys n x rest e))
+next_suc (y ∷ ys) zero x rest e = grind (arith, common_steps)
+next_suc (y ∷ ys) (suc n) x rest e = grind (arith, common_steps, (next_suc ys n x rest e))
 
 pub next_is : {X : Type 0} (xs : List X) (n : ℕ) (x : X) (rest : List X) → drop n xs ≡ x ∷ rest → IsNext xs n x rest
-next_is xs n x rest e =
-    grind (arith, common_steps, next_suc, add-one)
+next_is xs n x rest e = grind (arith, common_steps, next_suc, add-one)
 
 pub none_next : {X : Type 0} (xs : List X) (n : ℕ) → drop n xs ≡ [] → slice_get xs n ≡ None
 none_next [] zero e = refl

@@ -1,37 +1,18 @@
 -- What the client makes of each message that waits for it.
-use Rattle.std.proofs.Common.{ℕ, ◌≡◌, ◌≤◌, true, false, List, [], ◌∷◌, ◌++◌, length, map, Some, refl, ap, ◌∙◌, arith}
-use Rattle.std.specs.Prelude.{⊤}
-use Rattle.std.proofs.lemmas.List.{drop-append-le}
-use Rattle.lsp_text.specs.declared.encoding.Encoding.{Encoding}
-use Rattle.lsp_text.specs.declared.encoding.Encoding.TheVariants.{Utf8, Utf16, Utf32}
-use Rattle.lsp_message.specs.declared.agreement.Offers.{Offers}
+use Rattle.lsp_pair.proofs.Prelude.{ℕ, ◌≡◌, ◌≤◌, true, false, List, [], ◌∷◌, ◌++◌, length, map, Some, refl, ap, ◌∙◌, arith, ⊤, drop-append-le, Encoding, Utf8, Utf16, Utf32, Offers, reading, message, OutgoingData, body_of, sent, reading-body_of, is_read_back, encoding_chosen, announced_kind, Closed, ClientData, Delivery, delivery_of, delivery_in, is_awaited, begin_if_agreed, begin_as_announced, begin_in, is_listening, Client, Setting, heard_of, messages_in, IsFitting, can_choose_utf16, ClientMessage, lifecycle, World, client_of, turn_of_delivery, waiting_back, IsUsualBack, common_steps}
 use Rattle.lsp_message.specs.Agreement.{is_offered, announced_of}
-use Rattle.lsp_message.specs.Message.{reading, message}
-use Rattle.lsp_message.specs.Outgoing as outgoing
-use Rattle.lsp_message.specs.Outgoing.{OutgoingData, body_of}
 use Rattle.lsp_message.specs.Written.{initialize_value}
-use Rattle.lsp_message.specs.laws.Sent.{sent}
-use Rattle.lsp_message.proofs.ReadBack.{reading-body_of, is_read_back}
 use Rattle.lsp_server.specs.declared.config.EncodingChoice.{EncodingChoice}
 use Rattle.lsp_server.specs.declared.config.EncodingChoice.TheVariants.{Fixed, Negotiated}
 use Rattle.lsp_server.specs.declared.config.ChangeForm.{ChangeForm}
 use Rattle.lsp_server.specs.declared.config.ChangeForm.TheVariants.{Incremental, Full}
-use Rattle.lsp_server.specs.Choice.{encoding_chosen, announced_kind}
 use Rattle.lsp_server.proofs.LawLemmas.{offered_if}
 use Rattle.lsp_client.specs.declared.phase.Phase.{Phase}
-use Rattle.lsp_client.specs.declared.phase.Phase.TheVariants.{Closed}
-use Rattle.lsp_client.specs.Step as client
-use Rattle.lsp_client.specs.Step.{ClientData, Delivery, delivery_of, delivery_in, is_awaited, begin_if_agreed, begin_as_announced, begin_in, is_listening}
-use Rattle.lsp_pair.specs.declared.event.Happened.TheVariants.{Client}
-use Rattle.lsp_pair.specs.Events.{Setting, heard_of, messages_in}
-use Rattle.lsp_pair.specs.Pair.{IsFitting, can_choose_utf16}
-use Rattle.lsp_pair.specs.laws.World.{ClientMessage, lifecycle, World, client_of, turn_of_delivery}
-use Rattle.lsp_pair.specs.laws.At.{waiting_back}
-use Rattle.lsp_pair.specs.laws.Usual.{IsUsualBack}
 use Rattle.lsp_pair.proofs.Worlds.LifeLemmas.{first_result, last_result, short_first, short_last}
 use Rattle.lsp_pair.proofs.Worlds.ListLemmas.{table_after_all, next_is, length_more}
 use Rattle.lsp_pair.proofs.Worlds.Shapes.{the_encoding, the_kind, said-append, said_quiet, Shape, fresh, asking, answered, down, closed, leaving, left, working, closing, client_at, server_at, agreed_at, encoding_at, there_at, here_at, IsBusyShape, AtShape, WorldSound}
-use Rattle.std.proofs.lemmas.Grind.{common_steps}
+use Rattle.lsp_message.specs.Outgoing as outgoing
+use Rattle.lsp_client.specs.Step as client
 
 -- What the client makes of a message that waits for it: as it is written and as it was said, it does the same.
 pub record Returns (setting : Setting) (w : World) (m : OutgoingData) (rest : List OutgoingData) : Type 0 where
@@ -57,8 +38,7 @@ return : (setting : Setting) (w : World) (shape next : Shape) (m : OutgoingData)
     → IsBusyShape next → server_at shape ≡ server_at next → encoding_at setting shape ≡ encoding_at setting next
     → delivery.state.phase ≡ client_at next → delivery.state.agreed ≡ agreed_at setting next
     → rest ≡ here_at setting next → there_at setting shape ++ map lifecycle (messages_in delivery.delivered)
-    ≡ there_at setting next
-    → WorldSound setting (turn_of_delivery w delivery).world
+    ≡ there_at setting next → WorldSound setting (turn_of_delivery w delivery).world
 return setting w shape next m rest delivery at e busy server encoding phase agreed here there =
     let i = next_is w.back w.back_delivered m rest e in
     record {
@@ -96,8 +76,7 @@ agrees_on s encoding Full e = rw e refl
 begins_given : (s : ClientData) (encoding : Encoding) (sync : ChangeForm) → is_offered s.offers encoding ≡ true
     → begin_as_announced s (announced_of (initialize_value encoding (announced_kind sync)))
     ≡ begin_in s encoding (announced_kind sync)
-begins_given s encoding sync e =
-    grind (arith, common_steps, is_read_back, first_result, agrees_on)
+begins_given s encoding sync e = grind (arith, common_steps, is_read_back, first_result, agrees_on)
 
 least : (setting : Setting) (n : ℕ) → IsFitting setting → n ≤ 4096 → n ≤ setting.limits.max_body
 least setting n sound h = let r = sound.ranges in omega (arith, r.least_body, h)

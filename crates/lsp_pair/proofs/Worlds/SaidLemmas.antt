@@ -1,43 +1,21 @@
 -- What a server makes of the messages of commands.
-use Rattle.std.proofs.Common.{ℕ, ℤ, ◌≡◌, ◌≤◌, List, [], ◌∷◌, length, map, FitsSigned, IsUtf8, encode_utf8_all, Option, Some, None, Ok, refl, sym, ap, ◌∙◌, subst, arith, nat_lt, w32}
+use Rattle.lsp_pair.proofs.Prelude.{ℕ, ℤ, ◌≡◌, ◌≤◌, List, [], ◌∷◌, length, map, FitsSigned, IsUtf8, encode_utf8_all, Option, Some, None, Ok, refl, sym, ap, ◌∙◌, subst, arith, nat_lt, w32, cases_Bool, ltb-false, encodes-chars, scalars-chars, LimitsData, AreInRange, Encoding, SyncKind, Off, Full, Incremental, reading, did_open, did_change, did_close, body_of, DocumentItem, ChangeData, CloseData, IsProper, IsProperDocument, IsProperChange, reading-body_of, is_read_back, body_of-unique, Refusal, Command, opens, changes, closes, change_refusal, after_change, changed, command_refusal, table_after, unless_refused, AllWithin, IsWithin, IsReplacedBy, AreWithin, Accepts, accepted_parts, batch_at, proper, within_at, within_changed, Phase, Running, ServerData, Step, content_change_from_data, result_step, command_step, step_on, step, step_in, session_encoding, order_refusal, commands, incoming_of_message, IsProperEdits, common_steps}
 use Rattle.std.specs.Str.{chars}
-use Rattle.std.proofs.lemmas.Bool.{cases_Bool, ltb-false}
-use Rattle.std.proofs.lemmas.Str.{encodes-chars, scalars-chars}
-use Rattle.lsp_frame.specs.Limits.{LimitsData, AreInRange}
-use Rattle.lsp_text.specs.declared.encoding.Encoding.{Encoding}
 use Rattle.lsp_text.specs.Units.{units_in}
 use Rattle.lsp_edit.specs.Items.{Item}
 use Rattle.lsp_edit.specs.Batch.{ContentChange, meaning}
 use Rattle.lsp_edit.specs.Canonical.{canonical}
 use Rattle.lsp_edit.specs.laws.Batches.{IsCanonical}
 use Rattle.lsp_edit.proofs.Batches.LawLemmas.{canonical_law, units_some}
-use Rattle.lsp_message.specs.declared.agreement.SyncKind.{SyncKind}
-use Rattle.lsp_message.specs.declared.agreement.SyncKind.TheVariants.{Off, Full, Incremental}
-use Rattle.lsp_message.specs.Message.{reading}
-use Rattle.lsp_message.specs.Outgoing.{did_open, did_change, did_close, body_of}
-use Rattle.lsp_message.specs.Params.{DocumentItem, ChangeData, CloseData}
-use Rattle.lsp_message.specs.laws.Sent.{IsProper, IsProperDocument, IsProperChange}
-use Rattle.lsp_message.proofs.ReadBack.{reading-body_of, is_read_back, body_of-unique}
-use Rattle.lsp_store.specs.Table.{Refusal, Command, opens, changes, closes, change_refusal, after_change, changed, command_refusal, table_after, unless_refused}
 use Rattle.lsp_store.specs.Message.{AreTexts, written_content_change, canonical_batch, whole_batch, whole_text, change_message, body_refusal}
-use Rattle.lsp_store.specs.laws.Tables.{AllWithin, IsWithin, IsReplacedBy}
-use Rattle.lsp_store.specs.Limits.{AreWithin}
 use Rattle.lsp_store.proofs.Tables.FirstLemmas.{first_none, later_none}
-use Rattle.lsp_store.proofs.Messages.MessageLemmas.{Accepts, accepted_parts, batch_at, proper}
 use Rattle.lsp_store.proofs.Messages.ScalarLemmas.{canonical_texts}
 use Rattle.lsp_store.proofs.LawLemmas.{found_changed, whole_text_law}
-use Rattle.lsp_store.proofs.WithinLemmas.{within_at, within_changed}
 use Rattle.lsp_store.proofs.GreaterLemmas.{MayChange, change_parts, greater_limits_law, canonical_batch_law}
-use Rattle.lsp_server.specs.declared.phase.Phase.{Phase}
-use Rattle.lsp_server.specs.declared.phase.Phase.TheVariants.{Running}
-use Rattle.lsp_server.specs.Answer as answer
-use Rattle.lsp_server.specs.Incoming as incoming
-use Rattle.lsp_server.specs.Step.{ServerData, Step, content_change_from_data, result_step, command_step, step_on, step, step_in, session_encoding}
 use Rattle.lsp_server.proofs.EditLemmas.{edits_back}
 use Rattle.lsp_client.specs.Step.{sent_batch, sent_body}
-use Rattle.lsp_client.specs.inside.Orders.{order_refusal}
-use Rattle.lsp_pair.specs.laws.World.{commands, incoming_of_message, IsProperEdits}
-use Rattle.std.proofs.lemmas.Grind.{common_steps}
+use Rattle.lsp_server.specs.Answer as answer
+use Rattle.lsp_server.specs.Incoming as incoming
 
 -- ---- commands as the types hold them
 
@@ -59,13 +37,11 @@ may_command limits kind table command e =
     first_none (command_refusal limits table command) (body_refusal limits (sent_body kind table command)) e
 
 body_short : (limits : LimitsData) (body : List ℕ) → body_refusal limits body ≡ None → length body ≤ limits.max_body
-body_short limits body e =
-    grind (arith, common_steps, nat_lt, ltb-false, cases_Bool)
+body_short limits body e = grind (arith, common_steps, nat_lt, ltb-false, cases_Bool)
 
 pub sent_short : (limits : LimitsData) (kind : SyncKind) (table : List DocumentItem) (command : Command)
     → order_refusal limits kind table command ≡ None → length (sent_body kind table command) ≤ limits.max_body
-sent_short limits kind table command e =
-    grind (arith, common_steps, body_short, later_none)
+sent_short limits kind table command e = grind (arith, common_steps, body_short, later_none)
 
 -- ---- the batch that is sent
 
@@ -78,8 +54,7 @@ pub record IsSentBatch (small great : LimitsData) (encoding : Encoding) (table :
 
 whole_proper : (uri : List ℕ) (version : ℤ) (bytes : List ℕ) → IsUtf8 uri → FitsSigned w32 version → IsUtf8 bytes
     → IsProper (change_message uri version (record { range = None; text = chars bytes } ∷ []))
-whole_proper uri version bytes u v b =
-    grind (arith, common_steps, encode_utf8_all, encodes-chars)
+whole_proper uri version bytes u v b = grind (arith, common_steps, encode_utf8_all, encodes-chars)
 
 module _ (small great : LimitsData) (encoding : Encoding) (table : List DocumentItem) (uri : List ℕ) (version : ℤ)
     (batch : List ContentChange) (ranges : AreInRange small) (within : AreWithin small great)
@@ -92,8 +67,7 @@ module _ (small great : LimitsData) (encoding : Encoding) (table : List Document
   entry_within = within_at small table uri parts.entry kept parts.is_open
 
   laws : (some : List ContentChange) (items : List Item) → meaning (units_in encoding)
-      (chars parts.entry.text) some ≡ Ok items
-      → IsCanonical (units_in encoding) (chars parts.entry.text) some items
+      (chars parts.entry.text) some ≡ Ok items → IsCanonical (units_in encoding) (chars parts.entry.text) some items
   laws some items means = canonical_law (units_in encoding) (units_some encoding) (chars parts.entry.text) some items
       means
 
@@ -227,8 +201,7 @@ module _ (small great : LimitsData) (encoding : Encoding) (kind : SyncKind) (s :
 
   -- a batch that does the same as the one that was given
   change_done : (uri : List ℕ) (version : ℤ) (batch other : List ContentChange) → AreTexts other
-      → IsReplacedBy great (units_in encoding) s.table uri version batch other
-      → step_on s (incoming.did_change
+      → IsReplacedBy great (units_in encoding) s.table uri version batch other → step_on s (incoming.did_change
       (Some (record { uri = uri; version = version; changes = map written_content_change other })))
       ≡ done_by s (after_change (units_in encoding) s.table uri version batch)
   change_done uri version batch other texts is =

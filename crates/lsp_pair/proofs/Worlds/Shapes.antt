@@ -1,28 +1,13 @@
 -- The shapes of a session: the phases of both ends, and which messages wait.
-use Rattle.std.proofs.Common.{ℕ, ◌≡◌, ◌≤◌, List, [], ◌∷◌, ◌++◌, length, map, take, drop, Option, Some, None, sym, subst, arith}
-use Rattle.std.specs.Prelude.{⊤}
-use Rattle.std.proofs.lemmas.List.{take-append-drop}
-use Rattle.lsp_text.specs.declared.encoding.Encoding.{Encoding}
-use Rattle.lsp_message.specs.declared.agreement.SyncKind.{SyncKind}
-use Rattle.lsp_message.specs.Outgoing as outgoing
-use Rattle.lsp_message.specs.Outgoing.{OutgoingData}
-use Rattle.lsp_message.specs.Params.{DocumentItem}
-use Rattle.lsp_store.specs.Table.{Command, opens, changes, closes, table_after}
-use Rattle.lsp_store.specs.laws.Tables.{AllWithin, HasTexts}
-use Rattle.lsp_store.proofs.WithinLemmas.{within_law}
-use Rattle.lsp_server.specs.declared.phase.Phase as server_phase
-use Rattle.lsp_server.specs.declared.phase.Phase.TheVariants as server_phases
-use Rattle.lsp_server.specs.Choice.{encoding_chosen, announced_kind}
-use Rattle.lsp_client.specs.declared.agreed.Agreed.{Agreed}
-use Rattle.lsp_client.specs.declared.phase.Phase as client_phase
-use Rattle.lsp_client.specs.declared.phase.Phase.TheVariants as client_phases
-use Rattle.lsp_pair.specs.Events.{Setting}
-use Rattle.lsp_pair.specs.laws.World.{ClientMessage, commands, lifecycle, World}
-use Rattle.lsp_pair.specs.laws.At.{waiting_out, waiting_back, table_with}
-use Rattle.lsp_pair.specs.laws.Usual.{agreed_of}
+use Rattle.lsp_pair.proofs.Prelude.{ℕ, ◌≡◌, ◌≤◌, List, [], ◌∷◌, ◌++◌, length, map, take, drop, Option, Some, None, sym, subst, arith, ⊤, take-append-drop, Encoding, SyncKind, OutgoingData, DocumentItem, Command, opens, changes, closes, table_after, AllWithin, HasTexts, within_law, encoding_chosen, announced_kind, Agreed, Setting, ClientMessage, commands, lifecycle, World, waiting_out, waiting_back, table_with, agreed_of}
 use Rattle.lsp_pair.proofs.Worlds.SaidLemmas.{IsProperCommand, IsSaid, may_command}
 use Rattle.lsp_pair.proofs.Worlds.LifeLemmas.{first_result, last_result}
 use Rattle.lsp_pair.proofs.Worlds.ListLemmas.{table_after_all}
+use Rattle.lsp_message.specs.Outgoing as outgoing
+use Rattle.lsp_server.specs.declared.phase.Phase as server_phase
+use Rattle.lsp_server.specs.declared.phase.Phase.TheVariants as server_phases
+use Rattle.lsp_client.specs.declared.phase.Phase as client_phase
+use Rattle.lsp_client.specs.declared.phase.Phase.TheVariants as client_phases
 
 -- ---- what was said
 

@@ -1,25 +1,11 @@
 -- What holds of the world of every list of events.
-use Rattle.std.proofs.Common.{◌≡◌, Bool, List, [], ◌∷◌, ◌++◌, Option, Result, Ok, Err, refl, sym, ap, ◌∙◌, subst, arith}
-use Rattle.std.specs.Prelude.{if◌then◌else◌, MatchOption}
-use Rattle.lsp_message.specs.Message.{message}
-use Rattle.lsp_message.specs.Outgoing.{OutgoingData}
-use Rattle.lsp_message.specs.laws.Sent.{sent}
-use Rattle.lsp_client.specs.declared.fault.ClientFault.{ClientFault}
-use Rattle.lsp_client.specs.declared.fault.ClientFault.TheVariants.{WrongPhase}
-use Rattle.lsp_client.specs.Step as client
-use Rattle.lsp_client.specs.Step.{Call}
-use Rattle.lsp_pair.specs.declared.event.Happened.TheVariants.{Server, Client, Nothing}
-use Rattle.lsp_pair.specs.Events.{Setting, EventData, calls, to_server, to_client, did_of, heard_of}
-use Rattle.lsp_pair.specs.Pair.{IsFitting}
-use Rattle.lsp_pair.specs.laws.World.{ClientMessage, World, beginning, Turn, turn_of_call, message_of_call, message_in, turn_of_step, to_server_event, turn_of_delivery, turn_of_result, to_client_event, turn, world_from, world_of, client_of, IsProperEvent, AreProperEvents}
-use Rattle.lsp_pair.specs.laws.At.{waiting_out, waiting_back, pair_of}
-use Rattle.lsp_pair.specs.laws.Usual.{IsUsual, IsUsualBack, IsUsualTurn, HaveOneEncoding}
+use Rattle.lsp_pair.proofs.Prelude.{◌≡◌, Bool, List, [], ◌∷◌, ◌++◌, Option, Result, Ok, Err, refl, sym, ap, ◌∙◌, subst, arith, if◌then◌else◌, MatchOption, message, OutgoingData, sent, ClientFault, WrongPhase, Call, Server, Client, Nothing, Setting, EventData, calls, to_server, to_client, did_of, heard_of, IsFitting, ClientMessage, World, beginning, Turn, turn_of_call, message_of_call, message_in, turn_of_step, to_server_event, turn_of_delivery, turn_of_result, to_client_event, turn, world_from, world_of, client_of, IsProperEvent, AreProperEvents, waiting_out, waiting_back, pair_of, IsUsual, IsUsualBack, IsUsualTurn, HaveOneEncoding, common_steps}
 use Rattle.lsp_pair.proofs.Worlds.ListLemmas.{next_is, none_next}
 use Rattle.lsp_pair.proofs.Worlds.Shapes.{Shape, fresh, asking, client_at, agreed_at, encoding_at, AtShape, WorldSound}
 use Rattle.lsp_pair.proofs.Worlds.ArriveLemmas.{Arrives, Arrivals, arrivals}
 use Rattle.lsp_pair.proofs.Worlds.ReturnLemmas.{Returns, Returning, returning}
 use Rattle.lsp_pair.proofs.Worlds.CallLemmas.{CallResult, called_sound}
-use Rattle.std.proofs.lemmas.Grind.{common_steps}
+use Rattle.lsp_client.specs.Step as client
 
 pub beginning_sound : (setting : Setting) → WorldSound setting beginning
 beginning_sound setting =
@@ -77,8 +63,7 @@ module _ (setting : Setting) (sound : IsFitting setting) (w : World) (ok : World
 
   server_turn : (q : List ClientMessage) → waiting_out w ≡ q → Arrivals setting w q
       → IsGoodTurn setting w to_server (turn setting w to_server)
-  server_turn [] e a =
-      grind (arith, common_steps, quiet_there, none_next)
+  server_turn [] e a = grind (arith, common_steps, quiet_there, none_next)
   server_turn (said ∷ rest) e a =
       subst (IsGoodTurn setting w to_server) (sym (served_turn said rest e a)) (record {
         usual =
@@ -90,8 +75,7 @@ module _ (setting : Setting) (sound : IsFitting setting) (w : World) (ok : World
 
   client_turn : (q : List OutgoingData) → waiting_back w ≡ q → Returning setting w q
       → IsGoodTurn setting w to_client (turn setting w to_client)
-  client_turn [] e r =
-      grind (arith, common_steps, quiet_here, none_next)
+  client_turn [] e r = grind (arith, common_steps, quiet_here, none_next)
   client_turn (m ∷ rest) e r =
       subst (IsGoodTurn setting w to_client) (sym (heard_turn m rest e r)) (record {
         usual =
@@ -109,8 +93,7 @@ module _ (setting : Setting) (sound : IsFitting setting) (w : World) (ok : World
   call_turn call (Err refusal) is = ok
 
   pub good_turn : (event : EventData) → IsProperEvent event → IsGoodTurn setting w event (turn setting w event)
-  good_turn (calls call) proper =
-      grind (arith, common_steps, call_turn, called_sound)
+  good_turn (calls call) proper = grind (arith, common_steps, call_turn, called_sound)
   good_turn to_server proper = server_turn (waiting_out w) refl there_arrives
   good_turn to_client proper = client_turn (waiting_back w) refl here_returns
 
@@ -141,5 +124,4 @@ proper_last (first ∷ events) event p q = (p.0, proper_last events event p.1 q)
 
 pub agree_at : (setting : Setting) (w : World) (shape : Shape) → AtShape setting w shape
     → HaveOneEncoding setting (pair_of setting w)
-agree_at setting w shape at =
-    grind (arith, common_steps, client_at, agreed_at, asking, encoding_at)
+agree_at setting w shape at = grind (arith, common_steps, client_at, agreed_at, asking, encoding_at)

@@ -1,18 +1,12 @@
 -- Units counted block by block.
-use Rattle.std.proofs.Common.{◌≡◌, ℕ, ◌+◌, ◌-◌, ◌*◌, ◌≤◌, false, List, [], ◌∷◌, ◌++◌, length, take, drop, sum_by, Option, option_map, nat_lt, sym, ap, ◌∙◌, arith, le-ltb}
-use Rattle.std.proofs.Math.Seq.{take-add}
-use Rattle.std.proofs.lemmas.List.{length-drop, length-take-le, take-append-drop, drop-drop, take_rest}
-use Rattle.std.proofs.lemmas.List.Sums.{sum_by-append, sum_by-cons, sum_by-take-drop}
-use Rattle.lsp_text.specs.inside.Leads.{byte_place}
+use Rattle.lsp_text.proofs.Prelude.{◌≡◌, ℕ, ◌+◌, ◌-◌, ◌*◌, ◌≤◌, false, List, [], ◌∷◌, ◌++◌, length, take, drop, sum_by, Option, option_map, ltb as nat_lt, sym, ap, ◌∙◌, arith, le-ltb, take-add, length-drop, length-take-le, take-append-drop, drop-drop, take_rest, sum_by-append, sum_by-cons, sum_by-take-drop, byte_place, common_steps}
 use Rattle.lsp_text.proofs.Counting.LeadLemmas.{map_twice, map_none}
-use Rattle.std.proofs.lemmas.Grind.{common_steps}
 
 -- Bytes that have no more units than are left are passed.
 module _ (lead : ℕ → ℕ) where
   pass : (xs ys : List ℕ) (c : ℕ) → sum_by lead xs ≤ c → byte_place lead (xs ++ ys) c ≡ option_map (λ n. length xs + n)
       (byte_place lead ys (c - sum_by lead xs))
-  pass [] ys c few =
-      grind (arith, common_steps, map_none)
+  pass [] ys c few = grind (arith, common_steps, map_none)
   pass (b ∷ xs) ys c few =
       let sum : sum_by lead (b ∷ xs) ≡ lead b + sum_by lead xs = sum_by-cons lead b xs in
       let more : nat_lt c (lead b) ≡ false = le-ltb c (lead b) (omega arith) in

@@ -1,19 +1,6 @@
 -- Units counted byte by byte are those counted character by character.
-use Rattle.std.proofs.Common.{◌≡◌, ℕ, zero, suc, ◌+◌, ◌-◌, ◌≤◌, ◌<◌, Bool, true, false, cond, ltb, List, [], ◌∷◌, ◌++◌, length, get_or, sum_by, Option, Some, None, option_map, nat_lt, ◌==◌, refl, sym, ap, ◌∙◌, arith, ⊎_elim, leb, ◌&&◌, lt-ltb, le-ltb}
-use Rattle.std.specs.Prelude.{encode_utf8_all}
-use Rattle.std.specs.Char.{len_utf8}
+use Rattle.lsp_text.proofs.Prelude.{◌≡◌, ℕ, zero, suc, ◌+◌, ◌-◌, ◌≤◌, ◌<◌, Bool, true, false, cond, ltb, List, [], ◌∷◌, ◌++◌, length, get_or, sum_by, Option, Some, None, option_map, ltb as nat_lt, ◌==◌, refl, sym, ap, ◌∙◌, arith, ⊎_elim, leb, ◌&&◌, lt-ltb, le-ltb, encode_utf8_all, len_utf8, length-append, get_or-append_right, sum_by-append, sum_by-cons, cases_lt, cond_both, nat_tests, length-encode, len_utf8_bounds, encodes-chars, IsUtf8, chars, units_in, Utf16, lead_units_utf16, lead_units_utf32, HaveNone, FirstHas, line_place, byte_place, common_steps}
 use Rattle.std.proofs.Math.Utf8.{encode}
-use Rattle.std.proofs.lemmas.List.{length-append, get_or-append_right}
-use Rattle.std.proofs.lemmas.List.Sums.{sum_by-append, sum_by-cons}
-use Rattle.std.proofs.lemmas.Bool.{cases_lt, cond_both}
-use Rattle.std.proofs.lemmas.Bool.Decides.{nat_tests}
-use Rattle.std.proofs.lemmas.Str.{length-encode, len_utf8_bounds, encodes-chars}
-use Rattle.std.specs.Str.{IsUtf8, chars}
-use Rattle.lsp_text.specs.Units.{units_in}
-use Rattle.lsp_text.specs.declared.encoding.Encoding.TheVariants.{Utf16}
-use Rattle.lsp_text.specs.Leads.{lead_units_utf16, lead_units_utf32}
-use Rattle.lsp_text.specs.inside.Leads.{HaveNone, FirstHas, line_place, byte_place}
-use Rattle.std.proofs.lemmas.Grind.{common_steps}
 
 -- a byte inside a character has no units
 utf16_none : (b : ℕ) → 128 ≤ b → b < 192 → lead_units_utf16 b ≡ 0
@@ -61,8 +48,7 @@ utf16_first c =
 
 pub utf32_first : (c : ℕ) → FirstHas lead_units_utf32 (encode c) 1
 unfolding encode
-utf32_first c =
-    grind (arith, common_steps, cond_both, ltb, utf32_ascii, utf32_lead, utf32_none)
+utf32_first c = grind (arith, common_steps, cond_both, ltb, utf32_ascii, utf32_lead, utf32_none)
 
 pub map_twice : (a b : ℕ) (o : Option ℕ) → option_map (λ n. a + n) (option_map (λ n. b + n) o)
     ≡ option_map (λ n. (a + b) + n) o
@@ -95,8 +81,7 @@ module _ (lead units : ℕ → ℕ) where
   skip_none (b ∷ bytes) rest c all =
       grind (arith, common_steps, nat_lt, nat_tests, map_twice, (skip_none bytes rest c all.1))
 
-  first_place : (bytes rest : List ℕ) (n c : ℕ) → FirstHas lead bytes n → 1 ≤ n →
-      byte_place lead (bytes ++ rest) c
+  first_place : (bytes rest : List ℕ) (n c : ℕ) → FirstHas lead bytes n → 1 ≤ n → byte_place lead (bytes ++ rest) c
       ≡ cond (c == 0) (Some 0)
       (cond (nat_lt c n) None (option_map (λ m. length bytes + m) (byte_place lead rest (c - n))))
   first_place [] rest n c first some = absurd first
@@ -134,8 +119,7 @@ FirstOutside (b ∷ bytes) = (is_inside b ≡ false) × AllInside bytes
 
 encode_outside : (c : ℕ) → FirstOutside (encode c)
 unfolding encode
-encode_outside c =
-    grind (arith, common_steps, cond_both, ltb, inside_ascii, inside_yes)
+encode_outside c = grind (arith, common_steps, cond_both, ltb, inside_ascii, inside_yes)
 
 at_inside : (bytes rest : List ℕ) (k : ℕ) → AllInside bytes → k < length bytes → is_inside (get_or (bytes ++ rest) k 0)
     ≡ true
@@ -220,13 +204,11 @@ utf8_units_of_text bytes utf8 = ap length (sym (encodes-chars bytes utf8)) ∙ s
 
 pub utf8_past_text : (bytes : List ℕ) → IsUtf8 bytes → (c : ℕ) → length bytes ≤ c → Some (length bytes)
     ≡ line_place len_utf8 (chars bytes) c
-utf8_past_text bytes utf8 c past =
-    grind (arith, common_steps, encodes-chars, utf8_past)
+utf8_past_text bytes utf8 c past = grind (arith, common_steps, encodes-chars, utf8_past)
 
 utf8_at_text : (bytes : List ℕ) → IsUtf8 bytes → (c : ℕ) → c < length bytes → line_place len_utf8 (chars bytes) c
     ≡ cond (is_inside (get_or bytes c 0)) None (Some c)
-utf8_at_text bytes utf8 c within =
-    grind (arith, common_steps, encodes-chars, utf8_at)
+utf8_at_text bytes utf8 c within = grind (arith, common_steps, encodes-chars, utf8_at)
 
 pub utf8_inside_text : (bytes : List ℕ) → IsUtf8 bytes → (c : ℕ) → c < length bytes → 128 ≤ get_or bytes c 0
     → get_or bytes c 0 < 192 → None ≡ line_place len_utf8 (chars bytes) c

@@ -1,10 +1,5 @@
 -- The units between two indexes: they add up, and rise with the index.
-use Rattle.std.proofs.Common.{ℕ, zero, suc, ◌≡◌, ◌+◌, ◌-◌, ◌<◌, ◌≤◌, List, length, get_or, drop, ⊎_elim, refl, arith, length-drop}
-use Rattle.std.proofs.lemmas.Bool.{cases_eq, cases_order}
-use Rattle.std.proofs.lemmas.List.{get_or-drop}
-use Rattle.std.proofs.lemmas.List.Sums.{sum_by_more}
-use Rattle.lsp_text.specs.Units.{units_between}
-use Rattle.std.proofs.lemmas.Grind.{common_steps}
+use Rattle.lsp_text.proofs.Prelude.{ℕ, zero, suc, ◌≡◌, ◌+◌, ◌-◌, ◌<◌, ◌≤◌, List, length, get_or, drop, ⊎_elim, refl, arith, length-drop, cases_eq, cases_order, get_or-drop, sum_by_more, units_between, common_steps}
 
 -- One character more has its units more.
 pub units_more : (units : ℕ → ℕ) (text : List ℕ) (i k : ℕ) → i ≤ k → k < length text
@@ -29,8 +24,7 @@ module _ (units : ℕ → ℕ) (some : (c : ℕ) → 1 ≤ units c) (text : List
       (cases_eq j k)
     where
       here : i ≤ k → units_between units text i k < units_between units text i (suc k)
-      here o =
-          grind (arith, common_steps, units_more)
+      here o = grind (arith, common_steps, units_more)
 
       further : units_between units text i j < units_between units text i k → units_between units text i j
           < units_between units text i (suc k)
@@ -40,5 +34,4 @@ module _ (units : ℕ → ℕ) (some : (c : ℕ) → 1 ≤ units c) (text : List
   -- Equal units from one index on reach equal indexes.
   pub units_same : (i j k : ℕ) → i ≤ j → i ≤ k → j ≤ length text → k ≤ length text → units_between units text i j
       ≡ units_between units text i k → j ≡ k
-  units_same i j k from_j from_k to_j to_k same =
-      grind (arith, common_steps, units_rise, cases_order)
+  units_same i j k from_j from_k to_j to_k same = grind (arith, common_steps, units_rise, cases_order)

@@ -1,20 +1,7 @@
 -- A place splits a CRLF of the bytes exactly if its index splits one of the characters.
-use Rattle.std.proofs.Common.{◌≡◌, ℕ, zero, suc, ◌+◌, ◌-◌, ◌≤◌, ◌<◌, Bool, true, false, ◌&&◌, ◌==◌, List, [], ◌∷◌, ◌++◌, length, drop, get_or, slice_index, refl, sym, ap, ◌∙◌, arith}
-use Rattle.std.specs.Prelude.{encode_utf8_all, IsTrue, ◌↔◌, not}
-use Rattle.std.specs.Char.{len_utf8}
-use Rattle.std.specs.Str.{chars, IsUtf8, IsCharBoundary}
-use Rattle.std.proofs.Math.Utf8.{encode}
-use Rattle.std.proofs.Math.Seq.{drop-cons}
-use Rattle.std.proofs.lemmas.List.{get_or-drop}
-use Rattle.std.proofs.lemmas.Bool.{cases_lt, not-true, not_from_false, false≢true}
-use Rattle.std.proofs.lemmas.Bool.Decides.{nat_tests}
-use Rattle.std.proofs.lemmas.Str.{encode_ascii, length-encode, len_utf8_bounds, encodes-chars}
-use Rattle.lsp_text.specs.Text.{place_of}
-use Rattle.lsp_text.specs.TextLines.{splits_crlf}
-use Rattle.lsp_text.specs.LineStarts.{IsPlace}
+use Rattle.lsp_text.proofs.Prelude.{◌≡◌, ℕ, zero, suc, ◌+◌, ◌-◌, ◌≤◌, ◌<◌, Bool, true, false, ◌&&◌, ◌==◌, List, [], ◌∷◌, ◌++◌, length, drop, get_or, slice_index, refl, sym, ap, ◌∙◌, arith, encode_utf8_all, IsTrue, ◌↔◌, not, len_utf8, chars, IsUtf8, IsCharBoundary, encode, drop-cons, get_or-drop, cases_lt, not-true, not_from_false, false≢true, nat_tests, encode_ascii, length-encode, len_utf8_bounds, encodes-chars, place_of, splits_crlf, IsPlace, common_steps}
 use Rattle.lsp_text.proofs.Positions.PlaceLemmas.{place_more, drop_place, place_boundary, index_at}
 use Rattle.lsp_text.proofs.TextLines.StartLemmas.{AllHigh, encode_high, first_line_feed}
-use Rattle.std.proofs.lemmas.Grind.{common_steps}
 
 high_at : (bytes rest : List ℕ) (k : ℕ) → AllHigh bytes → k < length bytes → 128 ≤ get_or (bytes ++ rest) k 0
 high_at [] rest k all h = absurd (omega arith)

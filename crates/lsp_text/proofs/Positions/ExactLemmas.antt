@@ -1,18 +1,5 @@
 -- The exact position of a place, by the line starts and the bytes of its line.
-use Rattle.std.proofs.Common.{◌≡◌, ℕ, zero, suc, ◌-◌, ◌≤◌, ◌<◌, List, [], ◌∷◌, length, slice_index, sum_by, Some, option_map, refl, sym, ap, ◌∙◌, arith, ⊎_elim, subst}
-use Rattle.std.specs.Char.{len_utf8}
-use Rattle.std.specs.Str.{chars, IsUtf8}
-use Rattle.std.proofs.lemmas.Bool.{cases_lt}
-use Rattle.std.proofs.lemmas.List.{length-take, length-drop}
-use Rattle.std.proofs.lemmas.List.Sums.{sum_by-cons}
-use Rattle.std.proofs.lemmas.Str.{encodes-chars, length-le-encodes}
-use Rattle.lsp_text.specs.declared.position.Position.{Position}
-use Rattle.lsp_text.specs.Text.{place_of}
-use Rattle.lsp_text.specs.TextLines.{line_at, line_ends, line_start}
-use Rattle.lsp_text.specs.LineStarts.{AreLinesOf, IsPlace}
-use Rattle.lsp_text.specs.Starts.{AreStarts, IsLineOf}
-use Rattle.lsp_text.specs.Units.{units_between}
-use Rattle.lsp_text.specs.Positions.{exact_position, denoted}
+use Rattle.lsp_text.proofs.Prelude.{◌≡◌, ℕ, zero, suc, ◌-◌, ◌≤◌, ◌<◌, List, [], ◌∷◌, length, slice_index, sum_by, Some, option_map, refl, sym, ap, ◌∙◌, arith, ⊎_elim, subst, len_utf8, chars, IsUtf8, cases_lt, length-take, length-drop, sum_by-cons, encodes-chars, length-le-encodes, Position, place_of, line_at, line_ends, line_start, AreLinesOf, IsPlace, AreStarts, IsLineOf, units_between, exact_position, denoted, common_steps}
 use Rattle.lsp_text.proofs.TextLines.LineLemmas.{line_rises, line_step, reached, in_content_line, line_has_start}
 use Rattle.lsp_text.proofs.Positions.PlaceLemmas.{place_order, place_rises, place_within}
 use Rattle.lsp_text.proofs.TextLines.StartLemmas.{starts_of_text}
@@ -20,7 +7,6 @@ use Rattle.lsp_text.proofs.TextLines.IndexesLemmas.{indexes_line, indexes_start,
 use Rattle.lsp_text.proofs.Positions.PositionLemmas.{exact_denotes}
 use Rattle.lsp_text.proofs.Counting.LeadLemmas.{utf8_units_of_text}
 use Rattle.lsp_text.proofs.Positions.ResolveLemmas.{part, part_utf8, chars_part}
-use Rattle.std.proofs.lemmas.Grind.{common_steps}
 
 pub indexes_are : (bytes lines : List ℕ) → IsUtf8 bytes → AreLinesOf lines bytes → AreStarts lines
 indexes_are bytes lines utf8 indexes = starts_from bytes lines (indexes.starts ∙ sym (starts_of_text bytes utf8))
@@ -44,8 +30,7 @@ indexes_few bytes lines utf8 indexes =
 
 -- A line starts at or before each of its indexes.
 pub start_before : (text : List ℕ) (k : ℕ) → k ≤ length text → line_start text (line_at text k) ≤ k
-start_before text k within =
-    grind (arith, common_steps, reached, line_has_start, line_rises)
+start_before text k within = grind (arith, common_steps, reached, line_has_start, line_rises)
 
 -- The line whose start is the last at or before the place of an index is the index's line.
 pub line_found : (bytes lines : List ℕ) (place line k : ℕ) → AreLinesOf lines bytes → IsLineOf lines place line
@@ -94,17 +79,13 @@ front_within bytes start place k utf8 front =
 pub front_utf8 : (bytes : List ℕ) (start place k : ℕ) → IsUtf8 bytes → IsFront bytes start place k
     → IsUtf8 (part bytes start place)
 front_utf8 bytes start place k utf8 front =
-    rw (
-      front.start_is,
-      ← front.place_is,
-    ) (part_utf8 bytes (line_start (chars bytes) (line_at (chars bytes) k)) k utf8
+    rw (front.start_is, ← front.place_is) (part_utf8 bytes (line_start (chars bytes) (line_at (chars bytes) k)) k utf8
     (start_before (chars bytes) k front.within) front.within)
 
 pub front_units : (units : ℕ → ℕ) (bytes : List ℕ) (start place k : ℕ) → IsUtf8 bytes → IsFront bytes start place k →
     sum_by units (chars (part bytes start place)) ≡ units_between units (chars bytes)
     (line_start (chars bytes) (line_at (chars bytes) k)) k
-front_units units bytes start place k utf8 front =
-    grind (arith, common_steps, sum_by, chars_part, start_before)
+front_units units bytes start place k utf8 front = grind (arith, common_steps, sum_by, chars_part, start_before)
 
 -- A part has no more units than bytes.
 units_few : (units : ℕ → ℕ) → ((c : ℕ) → units c ≤ len_utf8 c) → (cs : List ℕ) → sum_by units cs ≤ sum_by len_utf8 cs
@@ -147,8 +128,6 @@ exact_is units bytes lines shown place line count k utf8 indexes same found coun
 
 -- The exact position of a place denotes it.
 pub exact_resolves : (units : ℕ → ℕ) → ((c : ℕ) → 1 ≤ units c) → (text : List ℕ) (place : ℕ) (p : Position)
-    → IsPlace text place →
-    ((k : ℕ) → k ≤ length text → place_of text k ≡ place → p ≡ exact_position units text k)
+    → IsPlace text place → ((k : ℕ) → k ≤ length text → place_of text k ≡ place → p ≡ exact_position units text k)
     → option_map (place_of text) (denoted units text p) ≡ Some place
-exact_resolves units some text place p at exact =
-    grind (arith, common_steps, exact_denotes)
+exact_resolves units some text place p at exact = grind (arith, common_steps, exact_denotes)

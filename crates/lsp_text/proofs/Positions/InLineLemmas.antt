@@ -1,18 +1,9 @@
 -- Inside a line: its content is all indexes from its start to its stop, and a position goes by the characters between
 -- them alone.
-use Rattle.std.proofs.Common.{ℕ, zero, suc, ◌≡◌, ◌+◌, ◌-◌, ◌<◌, ◌≤◌, ◌⊎◌, Bool, true, false, not, ◌&&◌, cond, if◌then◌else◌, List, [], ◌∷◌, length, take, drop, sum_by, slice_index, ◌==◌, nat_lt, nat_le, Option, Some, None, option_map, find, ⊎_elim, inl, inr, refl, sym, ap, ◌∙◌, arith, eqb-true, ltb-true, ltb-false, le-ltb, le-leb, length-drop, length-take}
-use Rattle.std.proofs.lemmas.Bool.{cases_Bool, cases_eq, and_parts, and_from, or_right, not-true, not_from_false, lt-leb, eqb-false, false_from_ne_true}
-use Rattle.std.proofs.lemmas.List.{take-take, get_or-drop}
-use Rattle.std.proofs.lemmas.List.Sums.{sum_by-cons, prefix_len_is}
-use Rattle.std.specs.List.{prefix_len}
-use Rattle.lsp_text.specs.declared.position.Position.{Position}
-use Rattle.lsp_text.specs.TextLines.{line_feed, carriage_return, splits_crlf, line_at, line_ends, is_in_content, line_content, line_start, line_stop}
-use Rattle.lsp_text.specs.Units.{units_between}
-use Rattle.lsp_text.specs.Positions.{denoted}
+use Rattle.lsp_text.proofs.Prelude.{ℕ, zero, suc, ◌≡◌, ◌+◌, ◌-◌, ◌<◌, ◌≤◌, ◌⊎◌, Bool, true, false, not, ◌&&◌, cond, if◌then◌else◌, List, [], ◌∷◌, length, take, drop, sum_by, slice_index, ◌==◌, ltb as nat_lt, leb as nat_le, Option, Some, None, option_map, find, ⊎_elim, inl, inr, refl, sym, ap, ◌∙◌, arith, eqb-true, ltb-true, ltb-false, le-ltb, le-leb, length-drop, length-take, cases_Bool, cases_eq, and_parts, and_from, or_right, not-true, not_from_false, lt-leb, eqb-false, false_from_ne_true, take-take, get_or-drop, sum_by-cons, prefix_len_is, prefix_len, Position, line_feed, carriage_return, splits_crlf, line_at, line_ends, is_in_content, line_content, line_start, line_stop, units_between, denoted, common_steps}
 use Rattle.lsp_text.proofs.TextLines.RowLemmas.{find_none}
 use Rattle.lsp_text.proofs.TextLines.LineLemmas.{line_rises, in_content, in_content_line, in_content_whole, line_has_start, line_has_stop, IsStart, IsStop}
 use Rattle.lsp_text.proofs.Positions.PositionLemmas.{content_index}
-use Rattle.std.proofs.lemmas.Grind.{common_steps}
 
 -- The index in a line of the characters `line` that has c units before it: the line's end if it has no more, none
 -- inside a character.
@@ -61,8 +52,7 @@ between_in_content text line start stop k is_start is_stop from to =
 -- The units of the first n characters of a part of a text.
 units_of_front : (units : ℕ → ℕ) (text : List ℕ) (start count n : ℕ) → n ≤ count
     → units_between units text start (start + n) ≡ sum_by units (take n (take count (drop start text)))
-units_of_front units text start count n order =
-    grind (arith, common_steps, take-take, order)
+units_of_front units text start count n order = grind (arith, common_steps, take-take, order)
 
 -- Where there is an index in the line, it has exactly c units before it, or is the end of a line that has no more.
 index_found : (units : ℕ → ℕ) (line : List ℕ) (c n : ℕ) → index_in_line units line c ≡ Some n → (n ≤ length line)
@@ -92,9 +82,7 @@ index_found units (x ∷ line) c n found =
     rest_after : (o : Option ℕ) → index_in_line units line (c - units x) ≡ o
         → ((m : ℕ) → index_in_line units line (c - units x) ≡ Some m → (m ≤ length line)
         × ((sum_by units (take m line) ≡ c - units x) ⊎ ((m ≡ length line) × (sum_by units line ≤ c - units x))))
-        → units x ≤ c
-        → option_map suc (index_in_line units line (c - units x)) ≡ Some n
-        → (n ≤ suc (length line))
+        → units x ≤ c → option_map suc (index_in_line units line (c - units x)) ≡ Some n → (n ≤ suc (length line))
         × ((sum_by units (take n (x ∷ line)) ≡ c) ⊎ ((n ≡ suc (length line)) × (sum_by units (x ∷ line) ≤ c)))
     rest_after None is ih room g = absurd (let f : ◌≡◌ {A = Option ℕ} None (Some n) = rw is at g in cc)
     rest_after (Some m) is ih room g = further m (let f : Some (suc m) ≡ Some n = rw is at g in cc) room (ih m is)
@@ -129,8 +117,7 @@ index_missed units (x ∷ line) c missed =
 
     rest_after : (c ≡ 0 → ⊥) → (o : Option ℕ) → index_in_line units line (c - units x) ≡ o
         → (index_in_line units line (c - units x) ≡ None → (c - units x < sum_by units line)
-        × ((n : ℕ) → n ≤ length line → sum_by units (take n line) ≡ c - units x → ⊥))
-        → units x ≤ c
+        × ((n : ℕ) → n ≤ length line → sum_by units (take n line) ≡ c - units x → ⊥)) → units x ≤ c
         → option_map suc (index_in_line units line (c - units x)) ≡ None
         → (c < sum_by units (x ∷ line)) × ((n : ℕ) → n ≤ suc (length line) → sum_by units (take n (x ∷ line)) ≡ c → ⊥)
     rest_after above (Some m) is ih room g = absurd (let f : ◌≡◌ {A = Option ℕ} (Some (suc m)) None = rw is at g in cc)
@@ -173,8 +160,7 @@ in_bounds units some text line start stop c is_start is_stop =
         (between_in_content text line start stop (start + n) is_start is_stop (omega arith) (omega (arith, order))))
 
     at_stop : (n : ℕ) → n ≡ stop - start → units_between units text start stop ≤ c → denoted_here ≡ Some (start + n)
-    at_stop n e less =
-        grind (arith, common_steps, order, le-leb)
+    at_stop n e less = grind (arith, common_steps, order, le-leb)
 
     nowhere : c < units_between units text start stop → ((n : ℕ) → n ≤ length (take (stop - start) (drop start text))
         → sum_by units (take n (take (stop - start) (drop start text))) ≡ c → ⊥) → denoted_here ≡ None
@@ -196,8 +182,7 @@ in_bounds units some text line start stop c is_start is_stop =
 
     by_index : (o : Option ℕ) → index_in_line units (take (stop - start) (drop start text)) c ≡ o → denoted_here
         ≡ option_map (λ n. start + n) (index_in_line units (take (stop - start) (drop start text)) c)
-    by_index None is =
-        grind (arith, common_steps, nowhere, index_missed)
+    by_index None is = grind (arith, common_steps, nowhere, index_missed)
     by_index (Some n) is =
         rw is
         (⊎_elim
@@ -209,8 +194,7 @@ in_bounds units some text line start stop c is_start is_stop =
 
 -- A position in a line of the text denotes the index that the characters of that line alone give.
 pub denoted_in_line : (units : ℕ → ℕ) → ((c : ℕ) → 1 ≤ units c) → (text : List ℕ) (p : Position)
-    → p.line ≤ line_ends text
-    → denoted units text p ≡ option_map (λ n. line_start text p.line + n)
+    → p.line ≤ line_ends text → denoted units text p ≡ option_map (λ n. line_start text p.line + n)
     (index_in_line units (take (line_stop text p.line - line_start text p.line) (drop (line_start text p.line) text))
     p.character)
 denoted_in_line units some text p there =
@@ -225,8 +209,7 @@ is_inside_line c = not (c == line_feed) && not (c == carriage_return)
 -- Behind a character that is inside a line comes an index of the same line, which splits no CRLF.
 inside_next : (text : List ℕ) (k : ℕ) → is_inside_line (slice_index text k) ≡ true
     → (line_at text (suc k) ≡ line_at text k) × (splits_crlf text (suc k) ≡ false)
-inside_next text k inside =
-    grind (arith, common_steps, not-true, and_parts, inside)
+inside_next text k inside = grind (arith, common_steps, not-true, and_parts, inside)
 
 -- An index of the same line as the one before it, which splits no CRLF, has a character inside the line before it.
 next_inside : (text : List ℕ) (k : ℕ) → line_at text (suc k) ≡ line_at text k → splits_crlf text (suc k) ≡ false

@@ -1,12 +1,6 @@
 -- Exact positions are local: that of an index goes by the characters before it alone, where the index splits no CRLF.
-use Rattle.std.proofs.Common.{ℕ, zero, suc, ◌≡◌, ◌+◌, ◌-◌, ◌<◌, ◌≤◌, true, false, ◌||◌, List, length, take, drop, slice_index, sum_by, ◌==◌, ⊎_elim, refl, sym, ap, ◌∙◌, arith, get_or-take}
-use Rattle.std.proofs.lemmas.Bool.{cases_eq, cases_Bool, and_cases}
-use Rattle.std.proofs.lemmas.List.{drop-take}
-use Rattle.lsp_text.specs.TextLines.{line_feed, carriage_return, starts_line, splits_crlf, line_at, is_in_content, line_start}
-use Rattle.lsp_text.specs.Units.{units_between}
-use Rattle.lsp_text.specs.Positions.{exact_position}
+use Rattle.lsp_text.proofs.Prelude.{ℕ, zero, suc, ◌≡◌, ◌+◌, ◌-◌, ◌<◌, ◌≤◌, true, false, ◌||◌, List, length, take, drop, slice_index, sum_by, ◌==◌, ⊎_elim, refl, sym, ap, ◌∙◌, arith, get_or-take, cases_eq, cases_Bool, and_cases, drop-take, line_feed, carriage_return, starts_line, splits_crlf, line_at, is_in_content, line_start, units_between, exact_position, common_steps}
 use Rattle.lsp_text.proofs.TextLines.LineLemmas.{in_content, in_content_line, in_content_whole, start_in_content, IsStart}
-use Rattle.std.proofs.lemmas.Grind.{common_steps}
 
 -- The texts have the same characters below k.
 abbrev pub AgreeBelow : List ℕ → List ℕ → ℕ → Type 0
@@ -16,14 +10,12 @@ pub agree_back : (text other : List ℕ) (k : ℕ) → AgreeBelow text other k �
 agree_back text other k agree = λ j h. sym (agree j h)
 
 pub agree_from_take : (text other : List ℕ) (k : ℕ) → take k text ≡ take k other → AgreeBelow text other k
-agree_from_take text other k same j h =
-    grind (arith, common_steps, get_or-take)
+agree_from_take text other k same j h = grind (arith, common_steps, get_or-take)
 
 -- Where an index splits no CRLF, it ends a line exactly if a line feed or a carriage return stands before it.
 ends_line_whole : (text : List ℕ) (k : ℕ) → splits_crlf text (suc k) ≡ false → starts_line text (suc k)
     ≡ ((slice_index text k == line_feed) || (slice_index text k == carriage_return))
-ends_line_whole text k whole =
-    grind (arith, common_steps, cases_Bool, and_cases)
+ends_line_whole text k whole = grind (arith, common_steps, cases_Bool, and_cases)
 
 module _ (text other : List ℕ) where
   -- below the index up to which they agree, the texts split and end lines alike

@@ -1,9 +1,5 @@
 -- Positions past the end of a line's content, and past the last line.
-use Rattle.std.proofs.Common.{◌≡◌, ℕ, ◌≤◌, ◌<◌, List, length, Some, refl, lt-ltb, le-ltb, le-leb}
-use Rattle.lsp_text.specs.declared.position.Position.{Position}
-use Rattle.lsp_text.specs.TextLines.{line_ends, line_start, line_stop}
-use Rattle.lsp_text.specs.Units.{units_between}
-use Rattle.lsp_text.specs.Positions.{denoted}
+use Rattle.lsp_text.proofs.Prelude.{◌≡◌, ℕ, ◌≤◌, ◌<◌, List, length, Some, refl, lt-ltb, le-ltb, le-leb, Position, line_ends, line_start, line_stop, units_between, denoted}
 
 pub past_line : (units : ℕ → ℕ) (text : List ℕ) (p : Position) → p.line ≤ line_ends text
     → units_between units text (line_start text p.line) (line_stop text p.line) ≤ p.character → denoted units text p

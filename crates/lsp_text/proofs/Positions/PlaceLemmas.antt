@@ -1,15 +1,5 @@
 -- Indexes of a text and their places among its bytes.
-use Rattle.std.proofs.Common.{◌≡◌, ℕ, zero, suc, ◌+◌, ◌-◌, ◌≤◌, ◌<◌, true, List, [], ◌∷◌, ◌++◌, length, take, drop, get_or, refl, sym, ap, ◌∙◌, arith, ⊎_elim, append-nil}
-use Rattle.std.specs.Prelude.{encode_utf8_all}
-use Rattle.std.proofs.Math.Utf8.{scalar, scalars}
-use Rattle.std.specs.Char.{len_utf8}
-use Rattle.std.specs.Str.{chars, IsUtf8, IsCharBoundary}
-use Rattle.std.proofs.Math.Seq.{take-suc, take-add}
-use Rattle.std.proofs.lemmas.List.{length-append, length-take-le, take-append-drop, take_at, drop_at, take_all}
-use Rattle.std.proofs.lemmas.Bool.{cases_lt, and_parts, and_from}
-use Rattle.std.proofs.lemmas.Str.{encodes-append, length-encode, len_utf8_bounds, encodes-chars, chars-append, IsUtf8-take, IsCharBoundary-from_take, scalars-chars}
-use Rattle.lsp_text.specs.Text.{place_of}
-use Rattle.std.proofs.lemmas.Grind.{common_steps}
+use Rattle.lsp_text.proofs.Prelude.{◌≡◌, ℕ, zero, suc, ◌+◌, ◌-◌, ◌≤◌, ◌<◌, true, List, [], ◌∷◌, ◌++◌, length, take, drop, get_or, refl, sym, ap, ◌∙◌, arith, ⊎_elim, append-nil, encode_utf8_all, scalar, scalars, len_utf8, chars, IsUtf8, IsCharBoundary, take-suc, take-add, length-append, length-take-le, take-append-drop, take_at, drop_at, take_all, cases_lt, and_parts, and_from, encodes-append, length-encode, len_utf8_bounds, encodes-chars, chars-append, IsUtf8-take, IsCharBoundary-from_take, scalars-chars, place_of, common_steps}
 
 pub place_end : (text : List ℕ) → place_of text (length text) ≡ length (encode_utf8_all text)
 place_end text = ap (λ cs. length (encode_utf8_all cs)) (take_all (length text) text (omega arith))
@@ -17,8 +7,7 @@ place_end text = ap (λ cs. length (encode_utf8_all cs)) (take_all (length text)
 -- One index on, the place is that of one character more.
 pub place_more : (text : List ℕ) (k : ℕ) → k < length text → place_of text (suc k) ≡ place_of text k
     + len_utf8 (get_or text k 0)
-place_more text k h =
-    grind (arith, common_steps, take-suc, encodes-append, length-append, append-nil, length-encode)
+place_more text k h = grind (arith, common_steps, take-suc, encodes-append, length-append, append-nil, length-encode)
 
 pub place_rises : (text : List ℕ) (j k : ℕ) → j ≤ k → k ≤ length text → place_of text j + (k - j) ≤ place_of text k
 place_rises text j zero order within = omega (arith, ap (place_of text) (let e : j ≡ 0 = omega arith in e))
@@ -65,8 +54,7 @@ drop_place text k =
 
 -- The place of an index further on, in two parts.
 pub place_add : (text : List ℕ) (j n : ℕ) → place_of text (j + n) ≡ place_of text j + place_of (drop j text) n
-place_add text j n =
-    grind (arith, common_steps, take-add, encodes-append, length-append)
+place_add text j n = grind (arith, common_steps, take-add, encodes-append, length-append)
 
 -- the bytes from one place to another
 pub part_place : (text : List ℕ) (j k : ℕ) → j ≤ k → k ≤ length text →
@@ -94,8 +82,7 @@ index_at bytes place utf8 boundary =
     record {
       index = length (chars front);
       within = omega (arith, ap length split, length-append (chars front) (chars (drop place bytes)));
-      place_is =
-          grind (arith, common_steps, take_at, encodes-chars, length-take-le);
+      place_is = grind (arith, common_steps, take_at, encodes-chars, length-take-le);
     }
 
 scalars-take : (cs : List ℕ) (k : ℕ) → scalars cs ≡ true → scalars (take k cs) ≡ true

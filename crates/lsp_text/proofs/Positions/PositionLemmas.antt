@@ -1,15 +1,9 @@
 -- Positions: an exact position denotes its index, and whatever a position denotes is an index of the text that splits
 -- no CRLF.
-use Rattle.std.proofs.Common.{ℕ, suc, ◌≡◌, ◌<◌, ◌≤◌, true, false, cond, List, length, ◌==◌, nat_lt, nat_le, Some, find, ⊎_elim, refl, ap, arith, eqb-true, eq-eqb, le-ltb, ltb-false, le-leb}
-use Rattle.std.proofs.lemmas.Bool.{cases_Bool, cases_eq, lt-leb, leb-true}
-use Rattle.lsp_text.specs.declared.position.Position.{Position}
-use Rattle.lsp_text.specs.TextLines.{splits_crlf, line_at, line_ends, is_in_content, line_content, line_start, line_stop}
-use Rattle.lsp_text.specs.Units.{units_between}
-use Rattle.lsp_text.specs.Positions.{exact_position, denoted}
+use Rattle.lsp_text.proofs.Prelude.{ℕ, suc, ◌≡◌, ◌<◌, ◌≤◌, true, false, cond, List, length, ◌==◌, ltb as nat_lt, leb as nat_le, Some, find, ⊎_elim, refl, ap, arith, eqb-true, eq-eqb, le-ltb, ltb-false, le-leb, cases_Bool, cases_eq, lt-leb, leb-true, Position, splits_crlf, line_at, line_ends, is_in_content, line_content, line_start, line_stop, units_between, exact_position, denoted, common_steps}
 use Rattle.lsp_text.proofs.TextLines.RowLemmas.{find_only, IsFound, find_found}
 use Rattle.lsp_text.proofs.TextLines.LineLemmas.{line_rises, splits_none_past, in_content, in_content_line, in_content_whole, start_in_content, stop_in_content, line_has_stop, IsStart, IsStop}
 use Rattle.lsp_text.proofs.Counting.UnitLemmas.{units_rise, units_same}
-use Rattle.std.proofs.lemmas.Grind.{common_steps}
 
 -- The index of a content with the units of an index of that content is that index.
 pub content_index : (units : ℕ → ℕ) → ((c : ℕ) → 1 ≤ units c) → (text : List ℕ) (line start stop k : ℕ)
@@ -34,8 +28,7 @@ content_index units some text line start stop k is_start is_stop within content 
 
     only : (j : ℕ) → j < suc (length text) → is_in_content text line j ≡ true
         → (units_between units text start j == units_between units text start k) ≡ true → j ≡ k
-    only j in_row h e =
-        grind (arith, common_steps, units_same, start, begins, eqb-true)
+    only j in_row h e = grind (arith, common_steps, units_same, start, begins, eqb-true)
 
     searched : find (λ j. units_between units text start j == units_between units text start k) (line_content text line)
         ≡ Some k
@@ -107,8 +100,7 @@ denoted_whole units text p k h =
     in_line : p.line ≤ line_ends text
         → cond (nat_le (units_between units text (line_start text p.line) (line_stop text p.line)) p.character)
         (Some (line_stop text p.line)) (find (λ j. units_between units text (line_start text p.line) j == p.character)
-        (line_content text p.line)) ≡ Some k
-        → IsWhole text k
+        (line_content text p.line)) ≡ Some k → IsWhole text k
     in_line there g =
         ⊎_elim
         (λ (e : nat_le (units_between units text (line_start text p.line) (line_stop text p.line)) p.character ≡ true).
@@ -140,12 +132,10 @@ denoted_exact units text p k there within h =
     stop = line_stop text p.line
 
     exact : line_at text k ≡ p.line → units_between units text start k ≡ p.character → exact_position units text k ≡ p
-    exact line units_are =
-        grind (arith, common_steps)
+    exact line units_are = grind (arith, common_steps)
 
     at_stop : units_between units text start stop ≤ p.character → stop ≡ k → exact_position units text k ≡ p
-    at_stop least e =
-        grind (arith, common_steps, line_has_stop, exact, in_content_line, start)
+    at_stop least e = grind (arith, common_steps, line_has_stop, exact, in_content_line, start)
 
     at_found : IsFound (is_in_content text p.line) (λ j. units_between units text start j == p.character) 0
         (suc (length text)) k → exact_position units text k ≡ p

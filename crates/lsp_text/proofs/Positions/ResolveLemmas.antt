@@ -1,23 +1,10 @@
 -- The place that a position denotes, by the bytes of its line.
-use Rattle.std.proofs.Common.{◌≡◌, ℕ, suc, ◌+◌, ◌-◌, ◌≤◌, ◌<◌, ◌==◌, cond, List, [], ◌∷◌, ◌++◌, length, take, drop, Option, Some, None, option_map, nat_lt, refl, sym, ap, ◌∙◌, arith, lt-ltb}
-use Rattle.std.specs.Prelude.{encode_utf8_all}
-use Rattle.std.specs.Char.{len_utf8}
-use Rattle.std.specs.Str.{chars, IsCharBoundary, IsUtf8}
-use Rattle.std.proofs.Math.Utf8.{encode}
-use Rattle.std.proofs.lemmas.List.{take-append-drop, length-append, append-nil, length-take, length-drop}
-use Rattle.std.proofs.lemmas.Str.{encodes-append, encodes-chars, chars_from_encodes, IsUtf8-between, length-encode}
-use Rattle.lsp_text.specs.declared.position.Position.{Position}
-use Rattle.lsp_text.specs.Text.{place_of}
-use Rattle.lsp_text.specs.TextLines.{line_ends, line_start, line_stop}
-use Rattle.lsp_text.specs.Positions.{denoted}
-use Rattle.lsp_text.specs.LineStarts.{IsPlace}
+use Rattle.lsp_text.proofs.Prelude.{◌≡◌, ℕ, suc, ◌+◌, ◌-◌, ◌≤◌, ◌<◌, ◌==◌, cond, List, [], ◌∷◌, ◌++◌, length, take, drop, Option, Some, None, option_map, ltb as nat_lt, refl, sym, ap, ◌∙◌, arith, lt-ltb, encode_utf8_all, len_utf8, chars, IsCharBoundary, IsUtf8, encode, take-append-drop, length-append, append-nil, length-take, length-drop, encodes-append, encodes-chars, chars_from_encodes, IsUtf8-between, length-encode, Position, place_of, line_ends, line_start, line_stop, denoted, IsPlace, line_place, common_steps}
 use Rattle.lsp_text.proofs.Positions.PositionLemmas.{denoted_whole}
 use Rattle.lsp_text.proofs.Positions.BoundaryLemmas.{boundary_from}
-use Rattle.lsp_text.specs.inside.Leads.{line_place}
 use Rattle.lsp_text.proofs.Positions.InLineLemmas.{index_in_line, denoted_in_line}
 use Rattle.lsp_text.proofs.Positions.PlaceLemmas.{place_end, place_within, place_add, part_place, place_boundary, place_rises}
 use Rattle.lsp_text.proofs.TextLines.ContentLemmas.{stop_behind, stop_within}
-use Rattle.std.proofs.lemmas.Grind.{common_steps}
 
 -- the bytes from one place of a text to another
 abbrev pub part : List ℕ → ℕ → ℕ → List ℕ
@@ -64,10 +51,8 @@ shifted text start (Some n) = ap Some (place_add text start n)
 
 -- A position of a line denotes the place that the line's bytes alone give.
 pub resolved : (units : ℕ → ℕ) → ((c : ℕ) → 1 ≤ units c) → (bytes : List ℕ) (p : Position) → IsUtf8 bytes
-    → p.line ≤ line_ends (chars bytes) →
-    option_map (place_of (chars bytes)) (denoted units (chars bytes) p) ≡
-    option_map (λ n. place_of (chars bytes) (line_start (chars bytes) p.line) + n)
-    (line_place units
+    → p.line ≤ line_ends (chars bytes) → option_map (place_of (chars bytes)) (denoted units (chars bytes) p) ≡
+    option_map (λ n. place_of (chars bytes) (line_start (chars bytes) p.line) + n) (line_place units
     (chars (part bytes (place_of (chars bytes) (line_start (chars bytes) p.line))
     (place_of (chars bytes) (line_stop (chars bytes) p.line)))) p.character)
 resolved units some bytes p utf8 there =
@@ -85,8 +70,7 @@ resolved units some bytes p utf8 there =
 -- A position past the last line denotes the end.
 pub resolved_past : (units : ℕ → ℕ) (bytes : List ℕ) (p : Position) → IsUtf8 bytes → line_ends (chars bytes) < p.line
     → option_map (place_of (chars bytes)) (denoted units (chars bytes) p) ≡ Some (length bytes)
-resolved_past units bytes p utf8 past =
-    grind (arith, common_steps, lt-ltb, place_end, encodes-chars)
+resolved_past units bytes p utf8 past = grind (arith, common_steps, lt-ltb, place_end, encodes-chars)
 
 -- The bounds of a line's content, told by their places.
 pub record IsContent (bytes : List ℕ) (line start stop : ℕ) : Type 0 where
@@ -124,8 +108,7 @@ pub resolved_at : (units : ℕ → ℕ) → ((c : ℕ) → 1 ≤ units c) → (b
     (found : Option ℕ) → IsUtf8 bytes → IsContent bytes p.line start stop →
     found ≡ line_place units (chars (part bytes start stop)) p.character → option_map (λ n. start + n) found
     ≡ option_map (place_of (chars bytes)) (denoted units (chars bytes) p)
-resolved_at units some bytes p start stop found utf8 content is =
-    grind (arith, common_steps, resolved)
+resolved_at units some bytes p start stop found utf8 content is = grind (arith, common_steps, resolved)
 
 -- A place in a line's content lies in it.
 place_most : (cs : List ℕ) (k : ℕ) → place_of cs k ≤ length (encode_utf8_all cs)

@@ -1,27 +1,15 @@
 -- Where a line's content ends, by the start of the next line; and that it ends at the same place of the bytes.
-use Rattle.std.proofs.Common.{◌≡◌, ℕ, zero, suc, ◌+◌, ◌-◌, ◌≤◌, ◌<◌, true, false, cond, List, [], ◌∷◌, ◌++◌, length, take, drop, refl, sym, ap, ◌∙◌, arith, ⊎_elim, eqb-true, subst}
-use Rattle.std.specs.Prelude.{encode_utf8_all}
-use Rattle.std.specs.List.{prefix_len}
-use Rattle.std.proofs.Math.Utf8.{encode}
-use Rattle.std.proofs.lemmas.List.{length-append, get_or-map, length-map}
-use Rattle.std.proofs.lemmas.Bool.{cases_lt, cases_eq, cases_Bool, and_parts, and_right}
-use Rattle.std.proofs.lemmas.Bool.Decides.{nat_tests}
-use Rattle.std.proofs.lemmas.Str.{encode_ascii}
-use Rattle.lsp_text.specs.Text.{place_of}
-use Rattle.lsp_text.specs.TextLines.{splits_crlf, line_at, line_ends, line_start, line_stop, is_in_content}
-use Rattle.lsp_text.specs.LineStarts.{line_starts}
+use Rattle.lsp_text.proofs.Prelude.{◌≡◌, ℕ, zero, suc, ◌+◌, ◌-◌, ◌≤◌, ◌<◌, true, false, cond, List, [], ◌∷◌, ◌++◌, length, take, drop, refl, sym, ap, ◌∙◌, arith, ⊎_elim, eqb-true, subst, encode_utf8_all, prefix_len, encode, length-append, get_or-map, length-map, cases_lt, cases_eq, cases_Bool, and_parts, and_right, nat_tests, encode_ascii, place_of, splits_crlf, line_at, line_ends, line_start, line_stop, is_in_content, line_starts, common_steps}
 use Rattle.lsp_text.proofs.TextLines.LineLemmas.{line_rises, in_content, in_content_line, in_content_whole, line_has_start, line_has_stop, IsStop, splits_none_past}
 use Rattle.lsp_text.proofs.Positions.InLineLemmas.{is_inside_line, line_length}
 use Rattle.lsp_text.proofs.TextLines.StartRowLemmas.{next_start, IsNextStart, start_at, length-line_starts}
 use Rattle.lsp_text.proofs.TextLines.StartLemmas.{starts_of_bytes, AllHigh, encode_high}
 use Rattle.lsp_text.proofs.Positions.PlaceLemmas.{place_add, drop_place}
-use Rattle.std.proofs.lemmas.Grind.{common_steps}
 
 -- Before an index that splits a CRLF stands an index of the same line, which splits none.
 before_split : (text : List ℕ) (k : ℕ) → splits_crlf text (suc k) ≡ true → (line_at text (suc k) ≡ line_at text k)
     × (splits_crlf text k ≡ false)
-before_split text k split =
-    grind (arith, common_steps, and_parts, eqb-true, and_right)
+before_split text k split = grind (arith, common_steps, and_parts, eqb-true, and_right)
 
 -- A line's content ends before its line end: one index before the next line's start, or two where that would split a
 -- CRLF.

@@ -1,11 +1,6 @@
 -- The line ends of a text, found among its line feeds and carriage returns.
-use Rattle.std.proofs.Common.{◌≡◌, ℕ, zero, suc, ◌+◌, ◌-◌, ◌≤◌, ◌<◌, false, List, [], ◌∷◌, ◌++◌, length, take, drop, map, get_or, slice_index, filter, refl, ap, ◌∙◌, arith}
-use Rattle.std.proofs.lemmas.List.{length-take, length-take-le, length-drop, get_or-take, get_or-drop, append-nil}
-use Rattle.std.proofs.lemmas.Bool.{cases_Bool}
-use Rattle.std.proofs.lemmas.Bool.Decides.{nat_tests}
+use Rattle.lsp_text.proofs.Prelude.{◌≡◌, ℕ, zero, suc, ◌+◌, ◌-◌, ◌≤◌, ◌<◌, false, List, [], ◌∷◌, ◌++◌, length, take, drop, map, get_or, slice_index, filter, refl, ap, ◌∙◌, arith, length-take, length-take-le, length-drop, get_or-take, get_or-drop, append-nil, cases_Bool, nat_tests, starts_line, numbers_from, common_steps}
 use Rattle.memchr.specs.Find.{places_from, places, is_byte2}
-use Rattle.lsp_text.specs.TextLines.{starts_line, numbers_from}
-use Rattle.std.proofs.lemmas.Grind.{common_steps}
 
 -- the ends behind the marks at these offsets from `low`
 abbrev pub ends_of : List ℕ → ℕ → List ℕ → List ℕ
@@ -63,8 +58,7 @@ Marks-part text low high order within =
 
 -- the last turn: nothing is left
 pub ends_of-all : (text : List ℕ) (low high : ℕ) (starts old marks : List ℕ) → low ≤ high → high ≤ length text
-    → marks ≡ [] →
-    starts ++ ends_of text low marks
+    → marks ≡ [] → starts ++ ends_of text low marks
     ≡ old ++ ends_of text low (places (is_byte2 10 13) (take (high - low) (drop low text))) →
     starts ≡ old ++ filter (starts_line text) (numbers_from (suc low) (high - low))
 ends_of-all text low high starts old marks order within none found =

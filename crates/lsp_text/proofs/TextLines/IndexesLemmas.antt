@@ -1,18 +1,9 @@
 -- What it gives that lines are those of a text.
-use Rattle.std.proofs.Common.{◌≡◌, ℕ, suc, ◌+◌, ◌≤◌, List, [], ◌∷◌, ◌++◌, length, slice_index, cond, ◌<◌, ◌-◌, sym, ap, ◌∙◌, arith, subst}
-use Rattle.std.proofs.lemmas.List.{length-map, get_or-map}
-use Rattle.std.specs.Str.{chars, IsUtf8}
-use Rattle.lsp_text.specs.Text.{place_of}
-use Rattle.lsp_text.specs.TextLines.{line_ends, line_start, line_stop, splits_crlf}
-use Rattle.lsp_text.specs.LineStarts.{AreLinesOf, line_starts, starts_between}
-use Rattle.lsp_text.specs.Starts.{AreStarts}
+use Rattle.lsp_text.proofs.Prelude.{◌≡◌, ℕ, suc, ◌+◌, ◌≤◌, List, [], ◌∷◌, ◌++◌, length, slice_index, cond, ◌<◌, ◌-◌, sym, ap, ◌∙◌, arith, subst, length-map, get_or-map, chars, IsUtf8, place_of, line_ends, line_start, line_stop, splits_crlf, AreLinesOf, line_starts, starts_between, AreStarts, encodes-chars, encode_utf8_all, common_steps}
 use Rattle.lsp_text.proofs.TextLines.StartLemmas.{starts_of_text}
 use Rattle.lsp_text.proofs.TextLines.StartRowLemmas.{line_starts_are, length-line_starts, start_at, next_start, IsNextStart}
 use Rattle.lsp_text.proofs.Positions.PlaceLemmas.{place_end}
 use Rattle.lsp_text.proofs.TextLines.ContentLemmas.{last_stop, same_line_ends, same_start, same_stop, stop_is}
-use Rattle.std.proofs.lemmas.Str.{encodes-chars}
-use Rattle.std.specs.Prelude.{encode_utf8_all}
-use Rattle.std.proofs.lemmas.Grind.{common_steps}
 
 -- Lines made of the bytes of a text are those of the text.
 pub indexes_from : (bytes starts : List ℕ) → IsUtf8 bytes → length bytes ≤ 2147483648 → starts ≡ line_starts bytes
@@ -25,18 +16,15 @@ starts_from bytes starts looks_made = subst AreStarts (sym looks_made) (line_sta
 -- `starts` after the first start was put in, and then the line ends; `read` are the bytes as they were lent
 pub made_whole : (bytes read before first starts : List ℕ) → read ≡ bytes → before ≡ [] → first ≡ before ++ 0 ∷ []
     → starts ≡ first ++ starts_between read 0 (length read) → starts ≡ line_starts bytes
-made_whole bytes read before first starts same empty pushed found =
-    grind (arith, common_steps)
+made_whole bytes read before first starts same empty pushed found = grind (arith, common_steps)
 
 pub indexes_count : (bytes lines : List ℕ) → AreLinesOf lines bytes → length lines ≡ line_ends (chars bytes) + 1
-indexes_count bytes lines indexes =
-    grind (arith, common_steps, length-map, length-line_starts)
+indexes_count bytes lines indexes = grind (arith, common_steps, length-map, length-line_starts)
 
 -- The start with a line's number is the place of that line's start.
 pub indexes_start : (bytes lines : List ℕ) (line : ℕ) → AreLinesOf lines bytes → line ≤ line_ends (chars bytes)
     → slice_index lines line ≡ place_of (chars bytes) (line_start (chars bytes) line)
-indexes_start bytes lines line indexes there =
-    grind (arith, common_steps, get_or-map, length-line_starts, start_at)
+indexes_start bytes lines line indexes there = grind (arith, common_steps, get_or-map, length-line_starts, start_at)
 
 -- The line of an index below the number of starts is one of the text's.
 pub indexes_line : (bytes lines : List ℕ) (line : ℕ) → AreLinesOf lines bytes → line < length lines

@@ -1,16 +1,11 @@
 -- Lines: what an index's line is, where its content begins and ends, and which indexes split no CRLF.
-use Rattle.std.proofs.Common.{ℕ, zero, suc, ◌≡◌, ◌≤◌, true, false, not, List, length, ◌==◌, ⊎_elim, refl, arith, eqb-true, eq-eqb}
-use Rattle.std.proofs.lemmas.Bool.{cases_Bool, cases_eq, and_parts, and_from, and_right, or_cases, not-true, not_from_false}
-use Rattle.std.proofs.lemmas.List.{get_or_past}
-use Rattle.lsp_text.specs.TextLines.{starts_line, splits_crlf, line_at, line_ends, is_in_content, line_start, line_stop}
+use Rattle.lsp_text.proofs.Prelude.{ℕ, zero, suc, ◌≡◌, ◌≤◌, true, false, not, List, length, ◌==◌, ⊎_elim, refl, arith, eqb-true, eq-eqb, cases_Bool, cases_eq, and_parts, and_from, and_right, or_cases, not-true, not_from_false, get_or_past, starts_line, splits_crlf, line_at, line_ends, is_in_content, line_start, line_stop, common_steps}
 use Rattle.lsp_text.proofs.TextLines.RowLemmas.{IsFirst, IsLast, first_passes, last_passes}
-use Rattle.std.proofs.lemmas.Grind.{common_steps}
 
 -- One index on, the line is the same or the next.
 pub line_step : (text : List ℕ) (k : ℕ) → (line_at text k ≤ line_at text (suc k))
     × (line_at text (suc k) ≤ suc (line_at text k))
-line_step text k =
-    grind (arith, common_steps, cases_Bool)
+line_step text k = grind (arith, common_steps, cases_Bool)
 
 pub line_rises : (text : List ℕ) (j k : ℕ) → j ≤ k → line_at text j ≤ line_at text k
 line_rises text j zero order = let e : j ≡ 0 = omega arith in rw e (omega arith)
@@ -26,20 +21,17 @@ line_rises text j (suc k) order =
 -- No index behind the text splits, nor does the end of the text.
 pub splits_none_past : (text : List ℕ) (k : ℕ) → length text ≤ k → splits_crlf text k ≡ false
 splits_none_past text zero past = refl
-splits_none_past text (suc k) past =
-    grind (arith, common_steps, get_or_past, and_right)
+splits_none_past text (suc k) past = grind (arith, common_steps, get_or_past, and_right)
 
 -- An index that ends a line splits no CRLF.
 pub line_end_whole : (text : List ℕ) (k : ℕ) → starts_line text k ≡ true → splits_crlf text k ≡ false
 line_end_whole text zero ends = refl
-line_end_whole text (suc k) ends =
-    grind (arith, common_steps, eqb-true, and_right, not-true, and_parts, or_cases)
+line_end_whole text (suc k) ends = grind (arith, common_steps, eqb-true, and_right, not-true, and_parts, or_cases)
 
 -- An index that splits no CRLF is in the content of its line, and whatever is in a content is so.
 pub in_content : (text : List ℕ) (line k : ℕ) → line_at text k ≡ line → splits_crlf text k ≡ false
     → is_in_content text line k ≡ true
-in_content text line k here whole =
-    grind (arith, common_steps, and_from, eq-eqb, not_from_false)
+in_content text line k here whole = grind (arith, common_steps, and_from, eq-eqb, not_from_false)
 
 pub in_content_line : (text : List ℕ) (line k : ℕ) → is_in_content text line k ≡ true → line_at text k ≡ line
 in_content_line text line k h =
@@ -73,8 +65,7 @@ pub record IsReached (text : List ℕ) (line k : ℕ) : Type 0 where
   pub content : is_in_content text line index ≡ true
 
 pub reached : (text : List ℕ) (line k : ℕ) → line ≤ line_at text k → IsReached text line k
-reached text line zero up_to =
-    grind (arith, common_steps, in_content)
+reached text line zero up_to = grind (arith, common_steps, in_content)
 reached text line (suc k) up_to = at_next (reached text line k)
   where
     further : IsReached text line k → IsReached text line (suc k)

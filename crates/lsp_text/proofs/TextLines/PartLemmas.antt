@@ -1,17 +1,9 @@
 -- The lines of a text part it.
-use Rattle.std.proofs.Common.{◌≡◌, ◌≢◌, ℕ, zero, suc, ◌+◌, ◌-◌, ◌≤◌, ◌<◌, true, false, not, ◌&&◌, ◌==◌, cond, List, [], ◌∷◌, length, take, drop, get_or, slice_index, inl, inr, sym, ap, ◌∙◌, arith, ⊎_elim, eqb-true, eq-eqb}
-use Rattle.std.proofs.Math.Seq.{drop-cons}
-use Rattle.std.specs.List.{prefix_len}
-use Rattle.std.proofs.lemmas.List.{get_or-drop, length-take, length-drop}
-use Rattle.std.proofs.lemmas.List.Sums.{prefix_len_passes}
-use Rattle.std.proofs.lemmas.Bool.{cases_Bool, and_parts, or_cases, not-true}
-use Rattle.lsp_text.specs.TextLines.{line_feed, carriage_return, starts_line, splits_crlf, line_ends, line_start, line_stop}
-use Rattle.lsp_text.specs.laws.Lines.{IsLineEnd, line_end_of, LinesPart}
+use Rattle.lsp_text.proofs.Prelude.{◌≡◌, ◌≢◌, ℕ, zero, suc, ◌+◌, ◌-◌, ◌≤◌, ◌<◌, true, false, not, ◌&&◌, ◌==◌, cond, List, [], ◌∷◌, length, take, drop, get_or, slice_index, inl, inr, sym, ap, ◌∙◌, arith, ⊎_elim, eqb-true, eq-eqb, drop-cons, prefix_len, get_or-drop, length-take, length-drop, prefix_len_passes, cases_Bool, and_parts, or_cases, not-true, line_feed, carriage_return, starts_line, splits_crlf, line_ends, line_start, line_stop, IsLineEnd, line_end_of, LinesPart, common_steps}
 use Rattle.lsp_text.proofs.TextLines.LineLemmas.{line_rises}
 use Rattle.lsp_text.proofs.Positions.InLineLemmas.{is_inside_line, line_length}
 use Rattle.lsp_text.proofs.TextLines.StartRowLemmas.{first_starts, next_start}
 use Rattle.lsp_text.proofs.TextLines.ContentLemmas.{stop_is, stop_behind, last_stop}
-use Rattle.std.proofs.lemmas.Grind.{common_steps}
 
 -- the characters of a line's content
 inside : (text : List ℕ) (line k : ℕ) → line ≤ line_ends text → line_start text line ≤ k → k < line_stop text line
@@ -25,12 +17,10 @@ inside text line k there low high =
     (drop start text) (k - start) 0 less)
 
 not_feed : (x : ℕ) → is_inside_line x ≡ true → x ≢ line_feed
-not_feed x h e =
-    grind (arith, common_steps, not-true, and_parts, eq-eqb)
+not_feed x h e = grind (arith, common_steps, not-true, and_parts, eq-eqb)
 
 not_return : (x : ℕ) → is_inside_line x ≡ true → x ≢ carriage_return
-not_return x h e =
-    grind (arith, common_steps, not-true, and_parts, eq-eqb)
+not_return x h e = grind (arith, common_steps, not-true, and_parts, eq-eqb)
 
 -- one character, and two
 take_one : (text : List ℕ) (k : ℕ) → k < length text → take 1 (drop k text) ≡ get_or text k 0 ∷ []
@@ -42,19 +32,16 @@ take_two text k h =
     ap (take 2) (drop-cons text k 0 (omega arith) ∙ ap (λ xs. get_or text k 0 ∷ xs) (drop-cons text (suc k) 0 h))
 
 one_end : (text : List ℕ) (k : ℕ) → k < length text → starts_line text (suc k) ≡ true → IsLineEnd (take 1 (drop k text))
-one_end text k within ends =
-    grind (arith, common_steps, inl, take_one, eqb-true, inr, and_parts, or_cases)
+one_end text k within ends = grind (arith, common_steps, inl, take_one, eqb-true, inr, and_parts, or_cases)
 
 two_ends : (text : List ℕ) (k : ℕ) → suc k < length text → splits_crlf text (suc k) ≡ true
     → IsLineEnd (take 2 (drop k text))
-two_ends text k within split =
-    grind (arith, common_steps, and_parts, inr, take_two, eqb-true)
+two_ends text k within split = grind (arith, common_steps, and_parts, inr, take_two, eqb-true)
 
 -- the line end from where the content stops to where the next line starts
 end_from : (text : List ℕ) (line stop size : ℕ) → line_stop text line ≡ stop → line_start text (suc line) - stop ≡ size
     → IsLineEnd (take size (drop stop text)) → IsLineEnd (line_end_of text line)
-end_from text line stop size here long end =
-    rw (here, long) end
+end_from text line stop size here long end = rw (here, long) end
 
 line_end_is : (text : List ℕ) (line k : ℕ) → line < line_ends text → line_start text (suc line) ≡ suc k
     → IsLineEnd (line_end_of text line)
@@ -107,8 +94,7 @@ return_alone text line k there start alone feed =
 
 crlf_is_one : (text : List ℕ) (line : ℕ) → line < line_ends text → line_end_of text line ≡ carriage_return ∷ [] →
     slice_index text (line_start text (suc line)) ≢ line_feed
-crlf_is_one text line there alone feed =
-    grind (arith, common_steps, next_start, return_alone)
+crlf_is_one text line there alone feed = grind (arith, common_steps, next_start, return_alone)
 
 pub lines_part : (text : List ℕ) → LinesPart text
 lines_part text = record {

@@ -1,8 +1,5 @@
 -- Rows of numbers: the first number of a row that passes a test, the last, and the only one.
-use Rattle.std.proofs.Common.{ℕ, zero, suc, ◌≡◌, ◌+◌, ◌<◌, ◌≤◌, ◌⊎◌, ◌∷◌, Bool, true, false, Some, None, filter, find, ⊎_elim, inl, inr, refl, arith}
-use Rattle.std.proofs.lemmas.Bool.{cases_Bool, cases_eq, cases_lt}
-use Rattle.lsp_text.specs.TextLines.{numbers_from, first_or, last_or}
-use Rattle.std.proofs.lemmas.Grind.{common_steps}
+use Rattle.lsp_text.proofs.Prelude.{ℕ, zero, suc, ◌≡◌, ◌+◌, ◌<◌, ◌≤◌, ◌⊎◌, ◌∷◌, Bool, true, false, Some, None, filter, find, ⊎_elim, inl, inr, refl, arith, cases_Bool, cases_eq, cases_lt, numbers_from, first_or, last_or, common_steps}
 
 -- `found` is the least number of the row that passes
 pub record IsFirst (test : ℕ → Bool) (low count found : ℕ) : Type 0 where
@@ -66,8 +63,7 @@ last_or_default test default low (suc count) =
 pub last_passes : (test : ℕ → Bool) (default low count k : ℕ) → low ≤ k → k < low + count → test k ≡ true
     → IsLast test low count (last_or default (filter test (numbers_from low count)))
 unfolding LastOr
-last_passes test default low count k order within passes =
-    grind (arith, common_steps, last_or_default)
+last_passes test default low count k order within passes = grind (arith, common_steps, last_or_default)
 
 -- A row's numbers that pass one test, searched by another: the only number that passes both is found.
 pub find_only : (test wanted : ℕ → Bool) (low count k : ℕ) → low ≤ k → k < low + count → test k ≡ true → wanted k ≡ true
@@ -83,8 +79,7 @@ find_only test wanted low (suc count) k order within passes is_wanted only =
   where
     passed_over : (low ≡ k → ⊥) → find wanted (filter test (numbers_from (suc low) count)) ≡ Some k
         → find wanted (filter test (numbers_from low (suc count))) ≡ Some k
-    passed_over e rest =
-        grind (arith, common_steps, cases_Bool)
+    passed_over e rest = grind (arith, common_steps, cases_Bool)
 
 -- What is found is a number of the row that passes both tests.
 pub record IsFound (test wanted : ℕ → Bool) (low count found : ℕ) : Type 0 where
@@ -118,8 +113,7 @@ find_found test wanted low (suc count) found f =
     at_low : test low ≡ true → find wanted (low ∷ filter test (numbers_from (suc low) count)) ≡ Some found
         → (find wanted (filter test (numbers_from (suc low) count)) ≡ Some found → IsFound test wanted low (suc count)
         found) → IsFound test wanted low (suc count) found
-    at_low p g more =
-        grind (arith, common_steps, here, cases_Bool)
+    at_low p g more = grind (arith, common_steps, here, cases_Bool)
 
 -- Nothing is found where no number of the row passes both tests.
 pub find_none : (test wanted : ℕ → Bool) (low count : ℕ) → ((k : ℕ) → low ≤ k → k < low + count → test k ≡ true

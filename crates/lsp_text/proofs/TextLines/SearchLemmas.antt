@@ -1,6 +1,5 @@
 -- A binary search: how many looks it may still take.
-use Rattle.std.proofs.Common.{◌≡◌, ℕ, zero, suc, ◌+◌, ◌-◌, ◌/◌, ◌≤◌, ◌<◌, ◌^◌, List, length, slice_index, arith, ap, pow-suc}
-use Rattle.lsp_text.specs.Starts.{AreStarts}
+use Rattle.lsp_text.proofs.Prelude.{◌≡◌, ℕ, zero, suc, ◌+◌, ◌-◌, ◌/◌, ◌≤◌, ◌<◌, ◌^◌, List, length, slice_index, arith, ap, pow-suc, AreStarts}
 
 -- Where `looks_made` looks were made and `size` starts are left, so many looks more that there are at most `most` in
 -- all are enough.
@@ -24,7 +23,6 @@ pub looked_low : (now old : List ℕ) (middle place start : ℕ) → now ≡ old
 looked_low now old middle place start same look low = omega (arith, look, ap (λ starts. slice_index starts middle) same)
 
 pub looked_high : (now old : List ℕ) (middle place start : ℕ) → now ≡ old → start ≡ slice_index now middle
-    → place < start → AreStarts old →
-    (k : ℕ) → middle ≤ k → k < length old → place < slice_index old k
+    → place < start → AreStarts old → (k : ℕ) → middle ≤ k → k < length old → place < slice_index old k
 looked_high now old middle place start same look high are k rest_after within =
     omega (arith, look, ap (λ starts. slice_index starts middle) same, are.ascend middle k rest_after within)

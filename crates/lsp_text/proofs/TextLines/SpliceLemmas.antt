@@ -1,24 +1,15 @@
 -- The line starts of a text in which some bytes were replaced: those before stay, those behind move, and those between
 -- are found anew.
-use Rattle.std.proofs.Common.{◌≡◌, ℕ, zero, suc, ◌+◌, ◌-◌, ◌≤◌, ◌<◌, ◌^◌, Bool, true, false, not, ◌&&◌, ◌||◌, ◌==◌, List, [], ◌∷◌, ◌++◌, length, take, drop, map, get_or, slice_index, filter, refl, sym, ap, ◌∙◌, arith, ⊎_elim, subst}
-use Rattle.std.proofs.lemmas.List.{length-append, length-drop, length-take, get_or-take, get_or-drop, get_or-append_right, get_or_append_left, take_at, drop_at, append_assoc, map-id}
+use Rattle.lsp_text.proofs.Prelude.{◌≡◌, ℕ, zero, suc, ◌+◌, ◌-◌, ◌≤◌, ◌<◌, ◌^◌, Bool, true, false, not, ◌&&◌, ◌||◌, ◌==◌, List, [], ◌∷◌, ◌++◌, length, take, drop, map, get_or, slice_index, filter, refl, sym, ap, ◌∙◌, arith, ⊎_elim, subst, length-append, length-drop, length-take, get_or-take, get_or-drop, get_or-append_right, get_or_append_left, take_at, drop_at, append_assoc, map-id, cases_lt, cases_Bool, starts_line, numbers_from, AreLinesOf, starts_between, line_starts, IsLineOf, AreStarts, Result, Ok, Err, OnOk, OnErr, IsUtf8, common_steps}
 use Rattle.std.proofs.lemmas.List.Elements.{filter-append}
-use Rattle.std.proofs.lemmas.Bool.{cases_lt, cases_Bool}
-use Rattle.lsp_text.specs.TextLines.{starts_line, numbers_from}
-use Rattle.lsp_text.specs.LineStarts.{AreLinesOf, starts_between, line_starts}
-use Rattle.lsp_text.specs.Starts.{IsLineOf, AreStarts}
 use Rattle.lsp_text.specs.Splice.{IsReplaced}
 use Rattle.lsp_text.specs.inside.Splice.{Replaces}
-use Rattle.std.specs.Prelude.{Result, Ok, Err, OnOk, OnErr}
-use Rattle.std.specs.Str.{IsUtf8}
 use Rattle.lsp_text.proofs.TextLines.StartLemmas.{starts_of_text}
 use Rattle.lsp_text.proofs.TextLines.IndexesLemmas.{indexes_from}
 use Rattle.lsp_text.proofs.TextLines.StartRowLemmas.{filter_ascends, ascends_from, line_starts_are}
-use Rattle.std.proofs.lemmas.Grind.{common_steps}
 
 numbers_split : (first m n : ℕ) → numbers_from first (m + n) ≡ numbers_from first m ++ numbers_from (first + m) n
-numbers_split first zero n =
-    grind (arith, common_steps)
+numbers_split first zero n = grind (arith, common_steps)
 numbers_split first (suc m) n =
     let a : suc m + n ≡ suc (m + n) = omega arith in
     let b : suc first + m ≡ first + suc m = omega arith in
@@ -57,8 +48,7 @@ filter_moved move test other a b (suc n) same moves =
 pub filter_below : (test : ℕ → Bool) (low n k : ℕ) → k < length (filter test (numbers_from low n))
     → get_or (filter test (numbers_from low n)) k 0 < low + n
 filter_below test low zero k h = absurd (omega arith)
-filter_below test low (suc n) k h =
-    grind (arith, common_steps, low, (filter_below test (suc low) n))
+filter_below test low (suc n) k h = grind (arith, common_steps, low, (filter_below test (suc low) n))
 
 ends_upto : (text : List ℕ) (low high k : ℕ) → low ≤ high → k < length (starts_between text low high)
     → get_or (starts_between text low high) k 0 ≤ high
@@ -127,8 +117,7 @@ module _ (old bytes : List ℕ) (from to len : ℕ) (is : IsReplaced old bytes f
   same_length = omega (arith, length-drop (from + len) bytes, length-drop to old, ap length is.back)
 
   ends_front : (k : ℕ) → suc k < from → starts_line old (suc k) ≡ starts_line bytes (suc k)
-  ends_front k h =
-      grind (arith, common_steps, same_front)
+  ends_front k h = grind (arith, common_steps, same_front)
 
   ends_back : (i : ℕ) → starts_line old (suc (to + i)) ≡ starts_line bytes (suc (from + len + i))
   ends_back i =
@@ -242,8 +231,7 @@ module _ (old bytes starts found now : List ℕ) (from to len keep past : ℕ)
 
   pub placed_starts : take (keep + length found) now ++ map (λ start. start - to + (from + len))
       (drop (keep + length found) now) ≡ line_starts bytes
-  placed_starts =
-      grind (arith, common_steps, now_front, now_behind, behind_is, append_assoc, front_is, starts_spliced)
+  placed_starts = grind (arith, common_steps, now_front, now_behind, behind_is, append_assoc, front_is, starts_spliced)
 
 pub line_of_same : (starts shown : List ℕ) (place error line : ℕ) → shown ≡ starts → error ≡ place
     → IsLineOf shown error line → IsLineOf starts place line
@@ -285,8 +273,7 @@ module _ (old bytes starts found now shown : List ℕ) (from to len keep past co
   pub shown_starts : (new rest_after : List ℕ) (n : ℕ) → length new ≡ n → new ≡ take (keep + count) shown
       ++ map (λ start. start - to + (from + len)) (drop (keep + count) shown) →
       take n (new ++ drop (length new) rest_after) ≡ line_starts bytes
-  shown_starts new rest_after n size moved =
-      grind (arith, common_steps, take_at, placed_starts)
+  shown_starts new rest_after n size moved = grind (arith, common_steps, take_at, placed_starts)
 
 -- Lines of a text that was replaced, seen as line starts of its bytes, and back.
 pub replaces_from : (old lines starts bytes read : List ℕ) (from to len : ℕ) → starts ≡ lines → AreLinesOf lines old

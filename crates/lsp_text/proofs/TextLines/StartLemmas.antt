@@ -1,19 +1,7 @@
 -- The line starts of a text are where the line starts of its bytes are: the bytes, read as a text, have the same lines.
-use Rattle.std.proofs.Common.{◌≡◌, ℕ, zero, suc, ◌+◌, ◌-◌, ◌≤◌, ◌<◌, Bool, true, false, not, ◌&&◌, ◌||◌, ◌==◌, cond, ltb, List, [], ◌∷◌, ◌++◌, length, drop, map, get_or, slice_index, filter, refl, sym, ap, ◌∙◌, arith, ⊎_elim}
-use Rattle.std.specs.Prelude.{encode_utf8_all}
-use Rattle.std.specs.Char.{len_utf8}
-use Rattle.std.specs.Str.{chars, IsUtf8}
+use Rattle.lsp_text.proofs.Prelude.{◌≡◌, ℕ, zero, suc, ◌+◌, ◌-◌, ◌≤◌, ◌<◌, Bool, true, false, not, ◌&&◌, ◌||◌, ◌==◌, cond, ltb, List, [], ◌∷◌, ◌++◌, length, drop, map, get_or, slice_index, filter, refl, sym, ap, ◌∙◌, arith, ⊎_elim, encode_utf8_all, len_utf8, chars, IsUtf8, drop-cons, get_or-drop, map-id, drop_all, cases_lt, cond_both, nat_tests, encode_ascii, length-encode, len_utf8_ascii, len_utf8_bounds, encodes-chars, place_of, starts_line, numbers_from, line_starts, start_places, common_steps}
 use Rattle.std.proofs.Math.Utf8.{encode}
-use Rattle.std.proofs.Math.Seq.{drop-cons}
-use Rattle.std.proofs.lemmas.List.{get_or-drop, map-id, drop_all}
-use Rattle.std.proofs.lemmas.Bool.{cases_lt, cond_both}
-use Rattle.std.proofs.lemmas.Bool.Decides.{nat_tests}
-use Rattle.std.proofs.lemmas.Str.{encode_ascii, length-encode, len_utf8_ascii, len_utf8_bounds, encodes-chars}
-use Rattle.lsp_text.specs.Text.{place_of}
-use Rattle.lsp_text.specs.TextLines.{starts_line, numbers_from}
-use Rattle.lsp_text.specs.LineStarts.{line_starts, start_places}
 use Rattle.lsp_text.proofs.Positions.PlaceLemmas.{place_more}
-use Rattle.std.proofs.lemmas.Grind.{common_steps}
 
 -- the ends of a text, where `before` stands before it and a character c weighs `weight c`: what stands before each
 abbrev pub weighed_ends : (ℕ → ℕ) → ℕ → List ℕ → List ℕ
@@ -70,8 +58,7 @@ high_skipped (b ∷ bs) rest before all =
 
 pub encode_high : (c : ℕ) → 128 ≤ c → AllHigh (encode c)
 unfolding encode
-encode_high c h =
-    grind (arith, common_steps, cond_both, ltb)
+encode_high c h = grind (arith, common_steps, cond_both, ltb)
 
 high_first : (bs rest : List ℕ) → AllHigh bs → 0 < length bs → 128 ≤ get_or (bs ++ rest) 0 0
 high_first [] rest all some = absurd (omega arith)

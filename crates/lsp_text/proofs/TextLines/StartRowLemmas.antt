@@ -1,11 +1,6 @@
 -- The row of a text's line starts: how many there are, which each is, and that they ascend.
-use Rattle.std.proofs.Common.{◌≡◌, ℕ, zero, suc, ◌+◌, ◌-◌, ◌≤◌, ◌<◌, Bool, true, false, cond, List, [], ◌∷◌, length, get_or, filter, refl, sym, ap, ◌∙◌, arith, ⊎_elim, subst}
-use Rattle.std.proofs.lemmas.Bool.{cases_lt, cases_Bool}
-use Rattle.lsp_text.specs.TextLines.{starts_line, numbers_from, line_at, line_ends, line_start}
-use Rattle.lsp_text.specs.LineStarts.{line_starts}
-use Rattle.lsp_text.specs.Starts.{AreStarts}
+use Rattle.lsp_text.proofs.Prelude.{◌≡◌, ℕ, zero, suc, ◌+◌, ◌-◌, ◌≤◌, ◌<◌, Bool, true, false, cond, List, [], ◌∷◌, length, get_or, filter, refl, sym, ap, ◌∙◌, arith, ⊎_elim, subst, cases_lt, cases_Bool, starts_line, numbers_from, line_at, line_ends, line_start, line_starts, AreStarts, common_steps}
 use Rattle.lsp_text.proofs.TextLines.LineLemmas.{line_rises, in_content, in_content_line, line_end_whole, line_has_start}
-use Rattle.std.proofs.lemmas.Grind.{common_steps}
 
 -- Each number of a row is greater than the one before, and the first is `low` at least.
 abbrev pub Ascends : ℕ → List ℕ → Type 0
@@ -81,18 +76,14 @@ one_further : (text : List ℕ) (k n : ℕ) (b : Bool) → starts_line text (suc
     ((j : ℕ) → j < length later → IsEnd text (suc k) n (line_at text (suc k) + suc j) (get_or later j 0)) →
     (j : ℕ) → j < length (cond b (suc k ∷ later) later) → IsEnd text k (suc n) (line_at text k + suc j)
     (get_or (cond b (suc k ∷ later) later) j 0)
-one_further text k n true e later each zero h =
-    grind (arith, common_steps)
-one_further text k n true e later each (suc j) h =
-    grind (arith, common_steps)
-one_further text k n false e later each j h =
-    grind (arith, common_steps)
+one_further text k n true e later each zero h = grind (arith, common_steps)
+one_further text k n true e later each (suc j) h = grind (arith, common_steps)
+one_further text k n false e later each j h = grind (arith, common_steps)
 
 end_at : (text : List ℕ) (k n j : ℕ) → j < length (filter (starts_line text) (numbers_from (suc k) n)) →
     IsEnd text k n (line_at text k + suc j) (get_or (filter (starts_line text) (numbers_from (suc k) n)) j 0)
 end_at text k zero j h = absurd (omega arith)
-end_at text k (suc n) j h =
-    grind (arith, common_steps, one_further, (end_at text (suc k) n))
+end_at text k (suc n) j h = grind (arith, common_steps, one_further, (end_at text (suc k) n))
 
 -- An index that ends a line is the start of its line.
 end_starts : (text : List ℕ) (end : ℕ) → end ≤ length text → 0 < end → starts_line text end ≡ true
@@ -115,8 +106,7 @@ end_starts text (suc k) within some ends =
     (cases_lt (line_start text line) (suc k))
 
 pub first_starts : (text : List ℕ) → line_start text 0 ≡ 0
-first_starts text =
-    grind (arith, common_steps, line_has_start, in_content)
+first_starts text = grind (arith, common_steps, line_has_start, in_content)
 
 -- The start at an index of the row is that of the line with this number.
 pub start_at : (text : List ℕ) (line : ℕ) → line ≤ line_ends text → get_or (line_starts text) line 0

@@ -1,6 +1,5 @@
+use Rattle.laspidru.proofs.Prelude.{content_change, edits_of, len_of, refused_edit}
 use Rattle.std.proofs.Common.{◌≡◌, ◌++◌, ◌+◌, drop, map, sum_by, string_len, None}
-use Rattle.lsp_edit.specs.Edited.{content_change}
-use Rattle.laspidru.specs.Batches.{edits_of, len_of, refused_edit}
 use Rattle.laspidru.proofs.changes.changes_of.Given as goal
 
 -- the changes so far and those that are left are all edits, and none of those that are left is refused

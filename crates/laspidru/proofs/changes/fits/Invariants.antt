@@ -1,6 +1,5 @@
-use Rattle.std.proofs.Common.{◌≡◌, ◌+◌, take}
+use Rattle.laspidru.proofs.Prelude.{◌≡◌, ◌+◌, take, len_of}
 use Rattle.lsp_edit.specs.declared.change.TheConstants.{MAX_NEW_TEXT}
-use Rattle.laspidru.specs.Batches.{len_of}
 use Rattle.laspidru.proofs.changes.fits.Given as goal
 
 -- the room that is left, and what the edits so far take of it

@@ -1,5 +1,5 @@
+use Rattle.laspidru.proofs.Prelude.{refused_edit}
 use Rattle.std.proofs.Common.{◌≡◌, drop}
-use Rattle.laspidru.specs.Batches.{refused_edit}
 use Rattle.laspidru.proofs.changes.refusal_of.Given as goal
 
 -- the answer is that of the edits that are left

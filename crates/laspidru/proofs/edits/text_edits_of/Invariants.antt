@@ -1,5 +1,5 @@
+use Rattle.laspidru.proofs.Prelude.{refused_edit}
 use Rattle.std.proofs.Common.{◌≡◌, ◌++◌, drop, map, None}
-use Rattle.laspidru.specs.Batches.{refused_edit}
 use Rattle.laspidru.specs.Edits.{replacement_of, replacements_of}
 use Rattle.laspidru.proofs.edits.text_edits_of.Given as goal
 

@@ -1,6 +1,4 @@
-use Rattle.std.proofs.Common.{subst}
-use Rattle.laspidru.specs.Framers.{IsBodyAnswer}
-use Rattle.laspidru.specs.HeldEnds.{EndData}
+use Rattle.laspidru.proofs.Prelude.{subst, IsBodyAnswer, EndData}
 use Rattle.laspidru.proofs.ends.end_body.Goals as goal
 
 pub returns-clause-answer : goal.returns-clause-answer

@@ -1,5 +1,4 @@
-use Rattle.std.proofs.Common.{◌≡◌, ◌≢◌, ◌++◌, ◌∙◌, List, ℕ, subst}
-use Rattle.std.proofs.lemmas.Bool.{false≢true}
+use Rattle.lsp_buffer.proofs.Prelude.{◌≡◌, ◌≢◌, ◌++◌, ◌∙◌, List, ℕ, subst, false≢true}
 use Rattle.lsp_buffer.proofs.Queries.ReadLemmas.{text_more, text_none}
 use Rattle.lsp_buffer.proofs.block.are_text.Goals as goal
 

@@ -1,5 +1,4 @@
-use Rattle.std.proofs.Common.{◌≡◌, ◌++◌, take}
-use Rattle.std.specs.List.{concat}
+use Rattle.lsp_buffer.proofs.Prelude.{◌≡◌, ◌++◌, take, concat}
 use Rattle.lsp_buffer.proofs.block.are_text.Given as goal
 
 abbrev pub invariant-loop-block : goal.invariant-loop-block

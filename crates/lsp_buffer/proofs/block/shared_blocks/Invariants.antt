@@ -1,4 +1,4 @@
-use Rattle.std.proofs.Common.{◌≡◌, take}
+use Rattle.lsp_buffer.proofs.Prelude.{◌≡◌, take}
 use Rattle.lsp_buffer.proofs.block.shared_blocks.Given as goal
 
 abbrev pub invariant-loop-block : goal.invariant-loop-block

@@ -1,4 +1,4 @@
-use Rattle.std.proofs.Common.{arith, ap, ◌∙◌, ◌-◌, sym, subst, ℕ, List, take, drop, ◌≡◌}
+use Rattle.lsp_buffer.proofs.Prelude.{arith, ap, ◌∙◌, ◌-◌, sym, subst, ℕ, List, take, drop, ◌≡◌}
 use Rattle.lsp_buffer.proofs.Blocks.CutLemmas.{IsCutSoFar, cut_more, cut_all}
 use Rattle.lsp_buffer.proofs.cut.blocks_of.Goals as goal
 

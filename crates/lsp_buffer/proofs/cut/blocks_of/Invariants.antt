@@ -1,4 +1,4 @@
-use Rattle.std.proofs.Common.{length}
+use Rattle.lsp_buffer.proofs.Prelude.{length}
 use denote.Text.{Utf8}
 use denote.Shadow.{shadow}
 use Rattle.lsp_buffer.proofs.Blocks.CutLemmas.{IsCutSoFar}

@@ -1,6 +1,4 @@
-use Rattle.std.proofs.Common.{◌-◌, arith, subst, ℕ, List}
-use Rattle.std.proofs.lemmas.Str.{IsCharBoundary-after_ascii}
-use Rattle.lsp_buffer.specs.inside.Cuts.{IsFeed}
+use Rattle.lsp_buffer.proofs.Prelude.{◌-◌, arith, subst, ℕ, List, IsCharBoundary-after_ascii, IsFeed}
 use Rattle.lsp_buffer.proofs.cut.cut_of.Goals as goal
 
 pub returns-in-Some-clause-boundary : goal.returns-in-Some-clause-boundary

@@ -1,7 +1,6 @@
-use Rattle.std.proofs.Common.{arith}
+use Rattle.lsp_buffer.proofs.Prelude.{arith, common_steps}
 use Rattle.lsp_buffer.proofs.Queries.FoundLemmas.{block_found, block_next, block_room}
 use Rattle.lsp_buffer.proofs.find.find_from.Goals as goal
-use Rattle.std.proofs.lemmas.Grind.{common_steps}
 
 pub plus-next-requires : goal.plus-next-requires
 plus-next-requires c = block_room c.args.blocks.now c.requires.are c.requires.size c.args.target c.loop-index.index

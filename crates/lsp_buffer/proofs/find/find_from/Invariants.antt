@@ -1,4 +1,4 @@
-use Rattle.lsp_buffer.specs.inside.Parts.{BeginsBefore}
+use Rattle.lsp_buffer.proofs.Prelude.{BeginsBefore}
 use Rattle.lsp_buffer.proofs.find.find_from.Given as goal
 
 abbrev pub invariant-loop-index : goal.invariant-loop-index

@@ -1,4 +1,4 @@
-use Rattle.std.proofs.lemmas.List.{get_or_default}
+use Rattle.lsp_buffer.proofs.Prelude.{get_or_default}
 use Rattle.lsp_buffer.proofs.Queries.FoundLemmas.{begins_first, group_next, group_room}
 use Rattle.lsp_buffer.proofs.find.find_group.Goals as goal
 

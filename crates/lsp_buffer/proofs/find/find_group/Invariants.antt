@@ -1,5 +1,4 @@
-use Rattle.std.proofs.Common.{◌*◌}
-use Rattle.lsp_buffer.specs.inside.Parts.{BeginsBefore}
+use Rattle.lsp_buffer.proofs.Prelude.{◌*◌, BeginsBefore}
 use Rattle.lsp_buffer.proofs.find.find_group.Given as goal
 
 abbrev pub invariant-loop-number : goal.invariant-loop-number

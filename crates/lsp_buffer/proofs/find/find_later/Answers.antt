@@ -1,7 +1,6 @@
-use Rattle.std.proofs.Common.{arith}
+use Rattle.lsp_buffer.proofs.Prelude.{arith, common_steps}
 use Rattle.lsp_buffer.proofs.Queries.FoundLemmas.{same_found}
 use Rattle.lsp_buffer.proofs.find.find_later.Goals as goal
-use Rattle.std.proofs.lemmas.Grind.{common_steps}
 
 pub returns-then-inner-len : goal.returns-then-inner-len
 returns-then-inner-len c =

@@ -1,8 +1,6 @@
-use Rattle.std.proofs.Common.{arith}
-use Rattle.std.proofs.lemmas.List.{length-append}
+use Rattle.lsp_buffer.proofs.Prelude.{arith, length-append, common_steps}
 use Rattle.lsp_buffer.proofs.Blocks.GroupLemmas.{groups_more, slice_counts, slice_full, slice_small}
 use Rattle.lsp_buffer.proofs.groups.fill.Goals as goal
-use Rattle.std.proofs.lemmas.Grind.{common_steps}
 
 pub total-counts-requires-clause-full : goal.total-counts-requires-clause-full
 total-counts-requires-clause-full c =

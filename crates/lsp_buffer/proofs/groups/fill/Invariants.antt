@@ -1,9 +1,5 @@
-use Rattle.std.proofs.Common.{◌≡◌, length}
-use Rattle.lsp_buffer.specs.Blocks.{AreGroups}
+use Rattle.lsp_buffer.proofs.Prelude.{◌≡◌, length, AreGroups}
 use Rattle.lsp_buffer.proofs.groups.fill.Given as goal
 
 abbrev pub invariant-loop-group : goal.invariant-loop-group
-invariant-loop-group l = record {
-  are : AreGroups l.blocks l.groups.items;
-  count : length l.groups.items ≡ l.group;
-}
+invariant-loop-group l = record { are : AreGroups l.blocks l.groups.items; count : length l.groups.items ≡ l.group }

@@ -1,7 +1,6 @@
-use Rattle.std.proofs.Common.{arith}
+use Rattle.lsp_buffer.proofs.Prelude.{arith, common_steps}
 use Rattle.lsp_buffer.proofs.Blocks.GroupLemmas.{groups_same, groups_set, groups_within, slice_counts, slice_full, slice_small}
 use Rattle.lsp_buffer.proofs.groups.recount.Goals as goal
-use Rattle.std.proofs.lemmas.Grind.{common_steps}
 
 pub total-counts-requires-clause-full : goal.total-counts-requires-clause-full
 total-counts-requires-clause-full c =

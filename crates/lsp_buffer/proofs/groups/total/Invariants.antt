@@ -1,6 +1,4 @@
-use Rattle.std.proofs.Common.{◌≡◌, take}
-use Rattle.std.specs.List.{concat}
-use Rattle.lsp_buffer.specs.Blocks.{counts_of}
+use Rattle.lsp_buffer.proofs.Prelude.{◌≡◌, take, concat, counts_of}
 use Rattle.lsp_buffer.proofs.groups.total.Given as goal
 
 abbrev pub invariant-loop-block : goal.invariant-loop-block

@@ -1,8 +1,4 @@
-use Rattle.std.proofs.Common.{◌≡◌, ℕ, List, None, IfOk, IfErr, OnOk, rules, subst, w32, to_z, of_z, string_bytes}
-use Rattle.std.proofs.lemmas.Int.{to_z-of_z}
-use Rattle.lsp_frame.specs.Frame.{frame}
-use Rattle.lsp_store.specs.Faults.{IsRefusal}
-use Rattle.lsp_store.specs.Message.{body_refusal}
+use Rattle.lsp_client.proofs.Prelude.{◌≡◌, ℕ, List, None, IfOk, IfErr, OnOk, rules, subst, w32, to_z, of_z, string_bytes, to_z-of_z, frame, IsRefusal, body_refusal}
 use Rattle.lsp_client.proofs.WholeLemmas.{whole_body}
 use Rattle.lsp_client.proofs.whole.whole_text_frame.Goals as goal
 

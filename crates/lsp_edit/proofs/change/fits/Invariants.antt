@@ -1,4 +1,4 @@
-use Rattle.std.proofs.Common.{◌≡◌, ◌+◌, take, sum_by, string_len}
+use Rattle.lsp_edit.proofs.Prelude.{◌≡◌, ◌+◌, take, sum_by, string_len}
 use Rattle.lsp_edit.specs.declared.change.TheConstants.{MAX_NEW_TEXT}
 use Rattle.lsp_edit.proofs.change.fits.Given as goal
 

@@ -1,6 +1,4 @@
-use Rattle.std.proofs.Common.{◌+◌, ◌∷◌, drop, arith, sym, ap, ◌∙◌}
-use Rattle.std.proofs.lemmas.List.{drop_more}
-use Rattle.lsp_edit.specs.declared.change.Change.{Change}
+use Rattle.lsp_edit.proofs.Prelude.{◌+◌, ◌∷◌, drop, arith, sym, ap, ◌∙◌, drop_more, Change}
 use Rattle.lsp_edit.proofs.Composing.RoomLemmas.{applying_on}
 use Rattle.lsp_edit.proofs.composed.apply_all.Goals as goal
 

@@ -1,7 +1,4 @@
-use Rattle.std.proofs.Common.{drop, map}
-use Rattle.lsp_text.specs.Units.{units_in}
-use Rattle.lsp_edit.specs.Batch.{after_changes}
-use Rattle.lsp_edit.specs.Edited.{content_change}
+use Rattle.lsp_edit.proofs.Prelude.{drop, map, units_in, after_changes, content_change}
 use Rattle.lsp_edit.proofs.Composing.RoomLemmas.{Applying}
 use Rattle.lsp_edit.proofs.composed.apply_all.Given as goal
 

@@ -1,4 +1,4 @@
-use Rattle.std.proofs.Common.{arith}
+use Rattle.lsp_edit.proofs.Prelude.{arith}
 use Rattle.lsp_edit.proofs.Composing.EditedLemmas.{first_bytes}
 use Rattle.lsp_edit.proofs.composed.compose.Goals as goal
 

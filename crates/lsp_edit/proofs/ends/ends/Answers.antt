@@ -1,6 +1,4 @@
-use Rattle.std.proofs.Common.{◌∙◌}
-use Rattle.std.specs.Str.{chars}
-use Rattle.lsp_text.specs.Units.{units_in}
+use Rattle.lsp_edit.proofs.Prelude.{◌∙◌, chars, units_in}
 use Rattle.lsp_edit.proofs.Composing.EndLemmas.{places_same}
 use Rattle.lsp_edit.proofs.ends.ends.Goals as goal
 

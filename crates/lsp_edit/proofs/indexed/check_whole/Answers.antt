@@ -1,5 +1,4 @@
-use Rattle.std.proofs.Common.{map, refl}
-use Rattle.lsp_edit.specs.Edited.{content_change}
+use Rattle.lsp_edit.proofs.Prelude.{map, refl, content_change}
 use Rattle.lsp_edit.proofs.Deltas.WholeLemmas.{batch_too_long, batch_within}
 use Rattle.lsp_edit.proofs.indexed.check_whole.Goals as goal
 

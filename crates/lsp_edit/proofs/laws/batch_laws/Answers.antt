@@ -1,4 +1,4 @@
-use Rattle.std.proofs.Common.{refl}
+use Rattle.lsp_edit.proofs.Prelude.{refl}
 use Rattle.lsp_edit.proofs.Batches.LawLemmas.{canonical_law}
 use Rattle.lsp_edit.proofs.Batches.ComposeLemmas.{then_means, then_associative}
 use Rattle.lsp_edit.proofs.laws.batch_laws.Goals as goal

@@ -1,6 +1,4 @@
-use Rattle.std.proofs.Common.{◌≡◌, ◌++◌, drop}
-use Rattle.lsp_edit.specs.Compose.{then_items}
-use Rattle.lsp_edit.specs.Plain.{items_in_order}
+use Rattle.lsp_edit.proofs.Prelude.{◌≡◌, ◌++◌, drop, then_items, items_in_order}
 use Rattle.lsp_edit.proofs.plain.then_items.Given as goal
 
 abbrev pub invariant-loop-item : goal.invariant-loop-item

@@ -1,6 +1,4 @@
-use Rattle.std.proofs.Common.{drop}
-use Rattle.std.specs.Str.{chars}
-use Rattle.lsp_text.specs.Units.{units_in}
+use Rattle.lsp_edit.proofs.Prelude.{drop, chars, units_in}
 use Rattle.lsp_edit.proofs.Batches.RangeLemmas.{Ranging}
 use Rattle.lsp_edit.proofs.text_edits.check_ranges.Given as goal
 

@@ -1,9 +1,4 @@
-use Rattle.std.proofs.Common.{◌+◌, [], ◌∷◌, ◌++◌, take, drop, sym, ap, ◌∙◌, inr}
-use Rattle.std.proofs.lemmas.List.{drop_more, take_more}
-use Rattle.std.proofs.lemmas.Result.{err_from_is_err_and}
-use Rattle.std.specs.Str.{chars}
-use Rattle.lsp_text.specs.Units.{units_in}
-use Rattle.lsp_edit.specs.declared.text_edits.TextEdit.{TextEdit}
+use Rattle.lsp_edit.proofs.Prelude.{◌+◌, [], ◌∷◌, ◌++◌, take, drop, sym, ap, ◌∙◌, inr, drop_more, take_more, err_from_is_err_and, chars, units_in, TextEdit}
 use Rattle.lsp_edit.proofs.Batches.TextEditLemmas.{nowhere, placed_next}
 use Rattle.lsp_edit.proofs.text_edits.place_all.Goals as goal
 

@@ -1,5 +1,4 @@
-use Rattle.std.proofs.Common.{rules}
-use Rattle.std.proofs.lemmas.List.Sorted.{answers_always}
+use Rattle.lsp_edit.proofs.Prelude.{rules, answers_always}
 use Rattle.lsp_edit.proofs.text_edits.put_in_order.Goals as goal
 
 pub returns : goal.returns

@@ -1,6 +1,4 @@
-use Rattle.std.proofs.Common.{◌+◌, take, drop, refl, sym, inr, slice_index_or, take-append-drop}
-use Rattle.std.proofs.lemmas.List.{drop_more, take_more}
-use Rattle.lsp_edit.specs.Parts.{parts_of}
+use Rattle.lsp_edit.proofs.Prelude.{◌+◌, take, drop, refl, sym, inr, slice_index_or, take-append-drop, drop_more, take_more, parts_of}
 use Rattle.lsp_edit.proofs.Batches.TextEditLemmas.{no_edit, overlapping, spanning_on}
 use Rattle.lsp_edit.proofs.text_edits.spans_left.Goals as goal
 

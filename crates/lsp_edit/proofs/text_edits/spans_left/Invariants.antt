@@ -1,5 +1,4 @@
-use Rattle.std.proofs.Common.{drop, take}
-use Rattle.lsp_edit.specs.Parts.{parts_of}
+use Rattle.lsp_edit.proofs.Prelude.{drop, take, parts_of}
 use Rattle.lsp_edit.proofs.Batches.TextEditLemmas.{Spanning}
 use Rattle.lsp_edit.proofs.text_edits.spans_left.Given as goal
 

@@ -1,5 +1,4 @@
-use Rattle.std.proofs.Common.{◌≡◌, List, [], ℕ, map, Vec, Global, ap, sym, subst}
-use Rattle.lsp_frame.specs.inside.Stream.{HasTaken}
+use Rattle.lsp_frame.proofs.Prelude.{◌≡◌, List, [], ℕ, map, Vec, Global, ap, sym, subst, HasTaken}
 use Rattle.lsp_frame.proofs.StreamLemmas.{new_behind}
 use Rattle.lsp_frame.proofs.FramedLemmas.{same_read}
 use Rattle.lsp_frame.proofs.stream.read_frames.Goals as goal

@@ -1,6 +1,4 @@
-use Rattle.std.proofs.Common.{◌≡◌, List, [], ◌∷◌, ◌++◌, ℕ, ap, sym, subst, ◌∙◌, map, Vec, Global}
-use Rattle.lsp_frame.specs.Frame.{IsFrameOf}
-use Rattle.std.proofs.lemmas.List.{map_push}
+use Rattle.lsp_frame.proofs.Prelude.{◌≡◌, List, [], ◌∷◌, ◌++◌, ℕ, ap, sym, subst, ◌∙◌, map, Vec, Global, IsFrameOf, map_push}
 use Rattle.lsp_frame.proofs.StreamLemmas.{given_none, given_behind}
 use Rattle.lsp_frame.proofs.FaultLemmas.{frame_of}
 use Rattle.lsp_frame.proofs.stream.take_frame.Goals as goal

@@ -1,10 +1,7 @@
-use Rattle.std.proofs.Common.{◌≡◌, ◌-◌, ◌++◌, List, ℕ, length, take, drop, map, Vec, Global, subst, refl, arith}
-use Rattle.std.proofs.lemmas.List.{take_all, length-take, length-drop}
-use Rattle.lsp_frame.specs.inside.Stream.{HasTaken}
+use Rattle.lsp_frame.proofs.Prelude.{◌≡◌, ◌-◌, ◌++◌, List, ℕ, length, take, drop, map, Vec, Global, subst, refl, arith, take_all, length-take, length-drop, HasTaken, common_steps}
 use Rattle.lsp_frame.proofs.ProgressLemmas.{taken_more}
 use Rattle.lsp_frame.proofs.StreamLemmas.{fault_behind, fed_holding}
 use Rattle.lsp_frame.proofs.stream.take_frames.Goals as goal
-use Rattle.std.proofs.lemmas.Grind.{common_steps}
 
 pub loop-at-preserved : goal.loop-at-preserved
 loop-at-preserved c = record {

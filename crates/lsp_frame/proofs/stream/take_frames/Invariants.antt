@@ -1,6 +1,4 @@
-use Rattle.std.proofs.Common.{◌≡◌, ◌-◌, ◌≤◌, ◌++◌, ℕ, List, false, length, take, map, Vec, Global}
-use Rattle.lsp_frame.specs.Stream.{IsFrame}
-use Rattle.lsp_frame.specs.inside.Stream.{HasTaken}
+use Rattle.lsp_frame.proofs.Prelude.{◌≡◌, ◌-◌, ◌≤◌, ◌++◌, ℕ, List, false, length, take, map, Vec, Global, IsFrame, HasTaken}
 use Rattle.lsp_frame.proofs.stream.take_frames.Given as goal
 
 abbrev pub invariant-loop-at : goal.invariant-loop-at

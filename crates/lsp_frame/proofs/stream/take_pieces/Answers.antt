@@ -1,7 +1,4 @@
-use Rattle.std.proofs.Common.{◌≡◌, List, ℕ, None, take, map, Vec, Global, subst}
-use Rattle.std.proofs.lemmas.List.{take_all}
-use Rattle.std.specs.List.{flat_map}
-use Rattle.lsp_frame.specs.Stream.{IsRead}
+use Rattle.lsp_frame.proofs.Prelude.{◌≡◌, List, ℕ, None, take, map, Vec, Global, subst, take_all, flat_map, IsRead}
 use Rattle.lsp_frame.proofs.StreamLemmas.{piece_faulty, piece_behind, behind_read, piece_some, on_err}
 use Rattle.lsp_frame.proofs.stream.take_pieces.Goals as goal
 

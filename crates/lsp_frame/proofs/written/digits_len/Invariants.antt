@@ -1,6 +1,4 @@
-use Rattle.std.proofs.Common.{◌≡◌, true, take}
-use Rattle.std.specs.List.{list_all}
-use Rattle.lsp_frame.specs.Verdict.{is_digit}
+use Rattle.lsp_frame.proofs.Prelude.{◌≡◌, true, take, list_all, is_digit}
 use Rattle.lsp_frame.proofs.written.digits_len.Given as goal
 
 abbrev pub invariant-loop-i : goal.invariant-loop-i

@@ -1,15 +1,9 @@
-use Rattle.std.proofs.Common.{◌≡◌, ◌+◌, ◌++◌, ◌<◌, ◌≤◌, true, length, refl, sym, ◌∙◌, arith, codes, rules}
-use Rattle.std.specs.Prelude.{Option, Some, None, IfNone}
-use Rattle.std.specs.List.{list_all}
-use Rattle.std.proofs.lemmas.Bool.{eqb-false, eqb-true}
+use Rattle.lsp_frame.proofs.Prelude.{◌≡◌, ◌+◌, ◌++◌, ◌<◌, ◌≤◌, true, length, refl, sym, ◌∙◌, arith, codes, rules, Option, Some, None, IfNone, list_all, eqb-false, eqb-true, length-take, is_digit, common_steps}
 use Rattle.std.proofs.lemmas.Bool.Decides.{Decides-eqb}
 use Rattle.std.proofs.lemmas.Slice.Eq.{starts_is, strip_prefix_is}
-use Rattle.std.proofs.lemmas.List.{length-take}
-use Rattle.lsp_frame.specs.Verdict.{is_digit}
 use Rattle.lsp_frame.proofs.WrittenHeaderLemmas.{digits_front, begins_written, found_parts, within_told}
-use Rattle.lsp_frame.proofs.written.written_header.Goals as goal
 use Rattle.lsp_frame.proofs.written.written_header.Goals.{then-is_empty-via-then-is_empty, then-is_empty-via-else-is_empty+then-not-starts_with}
-use Rattle.std.proofs.lemmas.Grind.{common_steps}
+use Rattle.lsp_frame.proofs.written.written_header.Goals as goal
 
 pub number_within-requires-clause-digits : goal.number_within-requires-clause-digits
 number_within-requires-clause-digits c =

@@ -1,9 +1,6 @@
-use Rattle.std.proofs.Common.{ℕ, ◌≡◌, ◌≤◌, ◌-◌, true, false, length, sym, ◌∙◌, arith}
-use Rattle.std.proofs.lemmas.List.{length-take, length-drop}
-use Rattle.std.proofs.lemmas.Bool.{false_from_ne_true}
+use Rattle.lsp_log.proofs.Prelude.{ℕ, ◌≡◌, ◌≤◌, ◌-◌, true, false, length, sym, ◌∙◌, arith, length-take, length-drop, false_from_ne_true, common_steps}
 use Rattle.lsp_log.proofs.OpeningLemmas.{next_read, next_len, stays}
 use Rattle.lsp_log.proofs.opening.read_opening.Goals as goal
-use Rattle.std.proofs.lemmas.Grind.{common_steps}
 
 pub returns-then-not-is_undecided-clause-read : goal.returns-then-not-is_undecided-clause-read
 returns-then-not-is_undecided-clause-read g c =

@@ -1,7 +1,5 @@
-use Rattle.std.specs.Prelude.{◌≡◌, ◌<◌, ◌≤◌, ◌+◌, false, take}
-use Rattle.std.specs.Io.KnownBytes.{Consumes}
+use Rattle.lsp_log.proofs.Prelude.{◌≡◌, ◌<◌, ◌≤◌, ◌+◌, false, take, Consumes, IsLineFront}
 use Rattle.lsp_stream.specs.Turns.{Spends, StaysWell}
-use Rattle.lsp_log.specs.Opening.{IsLineFront}
 use Rattle.lsp_log.proofs.opening.read_opening.Given as goal
 
 abbrev pub invariant-opening : goal.invariant-opening

@@ -1,6 +1,5 @@
-use Rattle.std.proofs.Common.{drop}
+use Rattle.lsp_log.proofs.Prelude.{drop, version_line}
 use Rattle.lsp_log.proofs.OpeningLemmas.{starts_front}
-use Rattle.lsp_log.specs.Log.{version_line}
 use Rattle.lsp_log.proofs.opening.version_of.Goals as goal
 
 pub returns-then-starts_with : goal.returns-then-starts_with

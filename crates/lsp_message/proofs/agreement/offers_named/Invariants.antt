@@ -1,9 +1,4 @@
-use Rattle.std.proofs.Common.{◌≡◌, ◌||◌, drop, option_map}
-use Rattle.serde_json.specs.Find.{as_str}
-use Rattle.serde_json.specs.View.{items_view}
-use Rattle.lsp_message.specs.declared.agreement.Offers.{Offers}
-use Rattle.lsp_message.specs.Values.{each_of}
-use Rattle.lsp_message.specs.Agreement.{offers_named}
+use Rattle.lsp_message.proofs.Prelude.{◌≡◌, ◌||◌, drop, option_map, as_str, items_view, Offers, each_of, offers_named}
 use Rattle.lsp_message.proofs.agreement.offers_named.Given as goal
 
 -- the offers so far, and those of the rest

@@ -1,6 +1,4 @@
-use Rattle.std.proofs.Common.{option_map, ap, ◌∙◌}
-use Rattle.serde_json.specs.View.{view}
-use Rattle.serde_json.proofs.Views.{view_of_ref, view-lookup}
+use Rattle.lsp_message.proofs.Prelude.{option_map, ap, ◌∙◌, view, view_of_ref, view-lookup}
 use Rattle.lsp_message.proofs.members.find.Goals as goal
 
 pub returns : goal.returns

@@ -1,7 +1,5 @@
-use Rattle.std.proofs.Common.{None, option_map, sym, ap, ◌∙◌}
+use Rattle.lsp_message.proofs.Prelude.{None, option_map, sym, ap, ◌∙◌, view, view-lookup}
 use Rattle.std.proofs.lemmas.Map.Text.{btree_map_updates_text}
-use Rattle.serde_json.specs.View.{view}
-use Rattle.serde_json.proofs.Views.{view-lookup}
 use Rattle.lsp_message.proofs.members.take.Goals as goal
 
 pub returns-clause-value : goal.returns-clause-value

@@ -1,7 +1,4 @@
-use Rattle.std.proofs.Common.{◌≡◌, ap, ◌∙◌}
-use Rattle.serde_json.specs.Data.{object}
-use Rattle.serde_json.specs.View.{view, members_view}
-use Rattle.serde_json.proofs.Views.{view-Object}
+use Rattle.lsp_message.proofs.Prelude.{◌≡◌, ap, ◌∙◌, object, view, members_view, view-Object}
 use Rattle.lsp_message.proofs.MemberLemmas.{message_of_object}
 use Rattle.lsp_message.proofs.message.message_of.Goals as goal
 

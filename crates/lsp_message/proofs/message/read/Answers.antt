@@ -1,5 +1,4 @@
-use Rattle.std.proofs.Common.{refl}
-use Rattle.std.proofs.lemmas.Bool.{false≢true}
+use Rattle.lsp_message.proofs.Prelude.{refl, false≢true}
 use Rattle.lsp_message.proofs.Readings.{read_by, reading_of_none, marked_no_json}
 use Rattle.lsp_message.proofs.message.read.Goals as goal
 
@@ -16,8 +15,7 @@ returns-clause-error c =
     (λ e. false≢true (c.if-begins_with_mark.ensures.1 e)) c.message_from.ensures).1
 
 pub returns-in_default-clause-error : goal.returns-in_default-clause-error
-returns-in_default-clause-error c =
-    reading_of_none c.args.body.now (λ utf8. absurd (c.in_default.ensures.cases.0 utf8))
+returns-in_default-clause-error c = reading_of_none c.args.body.now (λ utf8. absurd (c.in_default.ensures.cases.0 utf8))
 
 pub returns-then-begins_with_mark-clause-error : goal.returns-then-begins_with_mark-clause-error
 returns-then-begins_with_mark-clause-error c = marked_no_json c.args.body.now (c.if-begins_with_mark.ensures.0 refl)

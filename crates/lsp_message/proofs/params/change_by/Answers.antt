@@ -1,10 +1,4 @@
-use Rattle.std.proofs.Common.{rules, ◌<◌, length, codes, arith}
-use Rattle.std.specs.Prelude.{IsSome}
-use Rattle.serde_json.specs.Find.{get_member}
-use Rattle.serde_json.specs.View.{members_view, items_view}
-use Rattle.lsp_message.specs.Values.{text_in}
-use Rattle.lsp_message.specs.Params.{version_in}
-use Rattle.lsp_message.specs.inside.Params.{content_changes_in}
+use Rattle.lsp_message.proofs.Prelude.{rules, ◌<◌, length, codes, arith, IsSome, get_member, members_view, items_view, text_in, version_in, content_changes_in}
 use Rattle.lsp_message.proofs.Memory.{has_edits, has_changes}
 use Rattle.lsp_message.proofs.params.change_by.Goals as goal
 

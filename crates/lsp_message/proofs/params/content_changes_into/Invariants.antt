@@ -1,8 +1,5 @@
-use Rattle.std.proofs.Common.{◌≡◌, ◌≤◌, ◌++◌, ◌+◌, length, map, option_map, vec_len, vec_capacity}
+use Rattle.lsp_message.proofs.Prelude.{◌≡◌, ◌≤◌, ◌++◌, ◌+◌, length, map, option_map, vec_len, vec_capacity, items_view, content_changes_in, content_change_view}
 use Rattle.std.specs.Vec.Iter.{into_iter_items}
-use Rattle.serde_json.specs.View.{items_view}
-use Rattle.lsp_message.specs.inside.Params.{content_changes_in}
-use Rattle.lsp_message.specs.Seen.{content_change_view}
 use Rattle.lsp_message.proofs.params.content_changes_into.Given as goal
 
 -- the changes that were read, and those of the rest

@@ -1,11 +1,4 @@
-use Rattle.std.proofs.Common.{◌≡◌, ◌++◌, sym, ap, ap₂, ◌∙◌, rules, w32, to_z, of_z}
-use Rattle.std.proofs.lemmas.Int.{to_z-of_z}
-use Rattle.std.proofs.lemmas.Result.{on_ok_weaker}
-use Rattle.json.specs.Print.{print}
-use Rattle.serde_json.proofs.Texts.{print-outline}
-use Rattle.lsp_message.specs.Written.{value_of}
-use Rattle.lsp_message.specs.Seen.{did_change_of}
-use Rattle.lsp_message.specs.inside.Tokens.{tokens_of}
+use Rattle.lsp_message.proofs.Prelude.{◌≡◌, ◌++◌, sym, ap, ap₂, ◌∙◌, rules, w32, to_z, of_z, to_z-of_z, on_ok_weaker, print, print-outline, value_of, did_change_of, tokens_of}
 use Rattle.lsp_message.proofs.BodyLemmas.{body_is}
 use Rattle.lsp_message.proofs.ReadBack.{reading-body_of, is_read_back, body_of-unique}
 use Rattle.lsp_message.proofs.writer.push_change.Goals as goal

@@ -1,9 +1,4 @@
-use Rattle.std.proofs.Common.{◌≡◌, [], ◌++◌, sym, ap, ap₂, ◌∙◌}
-use Rattle.json.specs.Print.{print}
-use Rattle.serde_json.proofs.Texts.{print-outline}
-use Rattle.lsp_message.specs.Written.{value_of}
-use Rattle.lsp_message.specs.Seen.{outgoing_view}
-use Rattle.lsp_message.specs.inside.Tokens.{tokens_of}
+use Rattle.lsp_message.proofs.Prelude.{◌≡◌, [], ◌++◌, sym, ap, ap₂, ◌∙◌, print, print-outline, value_of, outgoing_view, tokens_of}
 use Rattle.lsp_message.proofs.BodyLemmas.{body_is}
 use Rattle.lsp_message.proofs.ReadBack.{reading-body_of, is_read_back, body_of-unique}
 use Rattle.lsp_message.proofs.writer.write.Goals as goal

@@ -1,5 +1,4 @@
-use Rattle.std.proofs.Common.{◌≡◌, List, ◌++◌, take, ap, ◌∙◌, subst}
-use Rattle.lsp_frame.specs.Stream.{IsFrame, FramerData}
+use Rattle.lsp_pair.proofs.Prelude.{◌≡◌, List, ◌++◌, take, ap, ◌∙◌, subst, IsFrame, FramerData}
 use Rattle.lsp_pair.proofs.Steps.FramerLemmas.{whole_taken}
 use Rattle.lsp_pair.proofs.delivery.framer_of.Goals as goal
 

@@ -1,14 +1,4 @@
-use Rattle.std.proofs.Common.{◌≡◌, ◌++◌, List, ap, ◌∙◌}
-use Rattle.lsp_frame.specs.Stream.{IsFrame}
-use Rattle.lsp_frame.specs.Frame.{IsFrameOf}
-use Rattle.std.proofs.Common.{true}
-use Rattle.lsp_client.specs.Step.{is_listening}
-use Rattle.lsp_store.specs.Opened.{StoreData}
-use Rattle.lsp_frame.specs.Limits.{LimitsData}
-use Rattle.std.proofs.Common.{subst, sym, ℕ}
-use Rattle.lsp_pair.specs.Seen.{frames}
-use Rattle.lsp_pair.specs.inside.Ends.{frames_in_delivery}
-use Rattle.lsp_client.specs.Seen.{delivered_view}
+use Rattle.lsp_pair.proofs.Prelude.{◌≡◌, ◌++◌, List, ap, ◌∙◌, IsFrame, IsFrameOf, true, is_listening, StoreData, LimitsData, subst, sym, ℕ, frames, frames_in_delivery, delivered_view}
 use Rattle.lsp_pair.proofs.Steps.FramerLemmas.{first_out}
 use Rattle.lsp_pair.proofs.Steps.ServeLemmas.{first_there, hear_is}
 use Rattle.lsp_pair.proofs.delivery.hear_first.Goals as goal

@@ -1,12 +1,4 @@
-use Rattle.std.proofs.Common.{◌≡◌, ◌≢◌, ◌++◌, List, ap, ◌∙◌}
-use Rattle.lsp_frame.specs.Stream.{IsFrame}
-use Rattle.lsp_frame.specs.Frame.{IsFrameOf}
-use Rattle.lsp_server.specs.declared.phase.Phase.TheVariants.{Ended}
-use Rattle.lsp_store.specs.Opened.{StoreData}
-use Rattle.lsp_frame.specs.Limits.{LimitsData}
-use Rattle.std.proofs.Common.{subst, sym, ℕ}
-use Rattle.lsp_pair.specs.Seen.{frames}
-use Rattle.lsp_pair.specs.inside.Ends.{frames_in_answer}
+use Rattle.lsp_pair.proofs.Prelude.{◌≡◌, ◌≢◌, ◌++◌, List, ap, ◌∙◌, IsFrame, IsFrameOf, Ended, StoreData, LimitsData, subst, sym, ℕ, frames, frames_in_answer}
 use Rattle.lsp_server.specs.Seen.{answer_view}
 use Rattle.lsp_pair.proofs.Steps.FramerLemmas.{first_out}
 use Rattle.lsp_pair.proofs.Steps.ServeLemmas.{first_there, serve_is}

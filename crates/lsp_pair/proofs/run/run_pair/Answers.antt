@@ -1,9 +1,4 @@
-use Rattle.std.proofs.Common.{◌≡◌, ◌+◌, ◌++◌, ◌∷◌, [], map, take, refl, ap, sym, ◌∙◌, subst, arith}
-use Rattle.std.proofs.lemmas.List.{append_assoc}
-use Rattle.lsp_pair.specs.Pair.{IsRun}
-use Rattle.lsp_pair.specs.laws.At.{IsAt}
-use Rattle.lsp_pair.specs.Seen.{event_view}
-use Rattle.lsp_pair.specs.Documents.{history_after, IsLater}
+use Rattle.lsp_pair.proofs.Prelude.{◌≡◌, ◌+◌, ◌++◌, ◌∷◌, [], map, take, refl, ap, sym, ◌∙◌, subst, arith, append_assoc, IsRun, IsAt, event_view, history_after, IsLater}
 use Rattle.lsp_pair.proofs.Histories.HistoryLemmas.{later-last, later_documents}
 use Rattle.lsp_pair.proofs.Steps.RunLemmas.{run-last, take_mapped}
 use Rattle.lsp_pair.proofs.run.run_pair.Goals as goal

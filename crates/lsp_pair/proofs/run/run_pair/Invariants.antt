@@ -1,10 +1,4 @@
-use Rattle.std.proofs.Common.{◌≡◌, ◌++◌, List, map, take}
-use Rattle.lsp_pair.specs.Events.{Setting, EventData}
-use Rattle.lsp_pair.specs.Pair.{IsFitting, IsRun}
-use Rattle.lsp_pair.specs.laws.At.{IsAt}
-use Rattle.lsp_pair.specs.Seen.{event_view}
-use Rattle.lsp_pair.specs.Documents.{History, IsLater}
-use Rattle.lsp_pair.specs.inside.History.{IsHistory}
+use Rattle.lsp_pair.proofs.Prelude.{◌≡◌, ◌++◌, List, map, take, Setting, EventData, IsFitting, IsRun, IsAt, event_view, History, IsLater, IsHistory}
 use Rattle.lsp_pair.proofs.run.run_pair.Given as goal
 
 abbrev pub invariant-loop-event : goal.invariant-loop-event

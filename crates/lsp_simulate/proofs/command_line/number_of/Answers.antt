@@ -1,4 +1,4 @@
-use Rattle.std.specs.Str.Parse.{ParsesUnsigned, ExplainsUnsignedError, HasUnsignedDigitsIfOk}
+use Rattle.lsp_simulate.proofs.Prelude.{ParsesUnsigned, ExplainsUnsignedError, HasUnsignedDigitsIfOk}
 use Rattle.lsp_simulate.proofs.OptionLemmas.{number_given, number_read}
 use Rattle.lsp_simulate.proofs.command_line.number_of.Goals as goal
 

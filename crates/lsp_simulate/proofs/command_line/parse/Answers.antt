@@ -1,5 +1,4 @@
-use Rattle.clap.specs.Words.{app_of}
-use Rattle.lsp_simulate.specs.CommandLine.{IsProgram}
+use Rattle.lsp_simulate.proofs.Prelude.{app_of, IsProgram}
 use Rattle.lsp_simulate.proofs.ReadLemmas.{is_free_program, is_simple_program, read_err, read_ok}
 use Rattle.lsp_simulate.proofs.command_line.parse.Goals as goal
 

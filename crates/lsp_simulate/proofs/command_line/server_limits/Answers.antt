@@ -1,5 +1,4 @@
-use Rattle.std.proofs.Common.{◌≡◌, ◌∙◌, sym}
-use Rattle.std.specs.Prelude.{Some, None}
+use Rattle.lsp_simulate.proofs.Prelude.{◌≡◌, ◌∙◌, sym, Some, None}
 use Rattle.lsp_simulate.proofs.OptionLemmas.{no_some, server_given, server_within}
 use Rattle.lsp_simulate.proofs.command_line.server_limits.Goals as goal
 

@@ -1,6 +1,4 @@
-use Rattle.std.proofs.Common.{subst}
-use Rattle.lsp_simulate.specs.Run.{IsReported}
-use Rattle.lsp_simulate.specs.declared.run.RunFault.{RunFault}
+use Rattle.lsp_simulate.proofs.Prelude.{subst, IsReported, RunFault}
 use Rattle.lsp_simulate.proofs.run.end_output.Goals as goal
 
 pub returns-in-Err : goal.returns-in-Err

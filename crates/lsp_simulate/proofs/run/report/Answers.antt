@@ -1,6 +1,4 @@
-use Rattle.std.proofs.Common.{List, ℕ, ◌++◌, codes, ap, sym, ◌∙◌, subst}
-use Rattle.lsp_program.specs.Output.{IsPrinted}
-use Rattle.lsp_simulate.specs.Run.{run_fault_text}
+use Rattle.lsp_simulate.proofs.Prelude.{List, ℕ, ◌++◌, codes, ap, sym, ◌∙◌, subst, IsPrinted, run_fault_text}
 use Rattle.lsp_simulate.proofs.LineLemmas.{fault_pieces}
 use Rattle.lsp_simulate.proofs.run.report.Goals as goal
 

@@ -1,10 +1,4 @@
-use Rattle.std.proofs.Common.{◌≡◌, ℕ, List, Option, false, is_some, ap, subst, Vec, Global}
-use Rattle.std.proofs.lemmas.Result.{err_from_is_err_and}
-use Rattle.std.specs.Io.KnownBytes.{Appends}
-use Rattle.lsp_stream.specs.Turns.{AppendsFront, Spends}
-use Rattle.lsp_program.specs.Output.{allowed_turns}
-use Rattle.lsp_program.proofs.CallLemmas.{rose_after, spends_more}
-use Rattle.lsp_simulate.specs.inside.Lines.{Passed, lines_in, rest, unused}
+use Rattle.lsp_simulate.proofs.Prelude.{◌≡◌, ℕ, List, Option, false, is_some, ap, subst, Vec, Global, err_from_is_err_and, Appends, AppendsFront, Spends, allowed_turns, rose_after, spends_more, Passed, lines_in, rest, unused}
 use Rattle.lsp_simulate.proofs.InputLemmas.{none_spent, nothing_taken}
 use Rattle.lsp_simulate.proofs.SessionLemmas.{begun, ended, not_ended, stepped, stopped, unread, unwritten}
 use Rattle.lsp_simulate.proofs.session.simulate.Goals as goal
@@ -92,8 +86,7 @@ returns-in-Ok-None g c =
     let after = rest c.next.new.self (g.R.Source.seen c.next.new.input) in
     let none = subst (λ (line : Option (Vec ℕ Global)). Passed there (lines_in line) false after)
     c.in-Ok-None.field-0-is c.in-Ok-None.ensures.taken in
-    let end = c.in-Ok-None.ensures.end (ap (λ (line : Option (Vec ℕ Global)). is_some line) c.in-Ok-None.field-0-is)
-    in
+    let end = c.in-Ok-None.ensures.end (ap (λ (line : Option (Vec ℕ Global)). is_some line) c.in-Ok-None.field-0-is) in
     ended c.args.setting (g.R.Source.seen c.args.input.now) (g.R.Source.seen c.next.new.input)
     (g.W.Sink.seen c.args.output.now) (g.W.Sink.seen c.events.output) there c.events.turns.left c.events.number
     c.events.pair c.events.invariant.way after (g.W.Sink.seen c.write_end.new.output) end.0 none end.1

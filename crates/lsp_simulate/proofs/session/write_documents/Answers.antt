@@ -1,9 +1,5 @@
-use Rattle.std.proofs.Common.{ℕ, List, refl, inl, inr, subst}
-use Rattle.std.proofs.lemmas.Result.{err_from_is_err_and}
-use Rattle.std.specs.Io.KnownBytes.{Appends}
-use Rattle.lsp_stream.specs.Turns.{AppendsFront}
+use Rattle.lsp_simulate.proofs.Prelude.{ℕ, List, refl, inl, inr, subst, err_from_is_err_and, Appends, AppendsFront, spends_more}
 use Rattle.lsp_simulate.proofs.SessionLemmas.{cut_document, one_document, some_documents}
-use Rattle.lsp_program.proofs.CallLemmas.{spends_more}
 use Rattle.lsp_simulate.proofs.session.write_documents.Goals as goal
 
 pub returns-in_err-line-clause-wrote : goal.returns-in_err-line-clause-wrote

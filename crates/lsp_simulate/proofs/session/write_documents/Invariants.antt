@@ -1,5 +1,4 @@
-use Rattle.lsp_stream.specs.Turns.{Spends, StaysWell}
-use Rattle.lsp_simulate.specs.inside.Session.{AreUnderWay}
+use Rattle.lsp_simulate.proofs.Prelude.{Spends, StaysWell, AreUnderWay}
 use Rattle.lsp_simulate.proofs.session.write_documents.Given as goal
 
 abbrev pub invariant-loop-document : goal.invariant-loop-document

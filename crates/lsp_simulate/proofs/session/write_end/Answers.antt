@@ -1,13 +1,8 @@
-use Rattle.std.proofs.Common.{◌≡◌, ℕ, List, Err, refl, inl, inr, ap, ◌∙◌, subst}
-use Rattle.std.proofs.lemmas.Result.{err_from_is_err_and}
-use Rattle.std.specs.Io.KnownBytes.{Appends}
-use Rattle.lsp_stream.specs.Turns.{AppendsFront}
+use Rattle.lsp_simulate.proofs.Prelude.{◌≡◌, ℕ, List, Err, refl, inl, inr, ap, ◌∙◌, subst, err_from_is_err_and, Appends, AppendsFront, end_lines, waiting_line, spends_more}
 use Rattle.lsp_store.specs.Opened.{StoreData}
 use Rattle.lsp_client.specs.Step.{ClientData}
 use Rattle.lsp_server.specs.Step.{ServerData}
-use Rattle.lsp_simulate.specs.Session.{end_lines, waiting_line}
 use Rattle.lsp_simulate.proofs.SessionLemmas.{end_after, end_between, end_cut, waits}
-use Rattle.lsp_program.proofs.CallLemmas.{spends_more}
 use Rattle.lsp_simulate.proofs.LineLemmas.{no_lines, within_after}
 use Rattle.lsp_simulate.proofs.session.write_end.Goals as goal
 

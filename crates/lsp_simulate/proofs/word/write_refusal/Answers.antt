@@ -1,5 +1,4 @@
-use Rattle.std.proofs.Common.{List, ℕ, ◌++◌, codes, OnOk, subst}
-use Rattle.std.specs.Io.KnownBytes.{Appends}
+use Rattle.lsp_simulate.proofs.Prelude.{List, ℕ, ◌++◌, codes, OnOk, subst, Appends}
 use Rattle.lsp_simulate.proofs.word.write_refusal.Goals as goal
 
 pub returns-in-InvalidParams : goal.returns-in-InvalidParams

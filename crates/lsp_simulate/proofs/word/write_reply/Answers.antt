@@ -1,7 +1,5 @@
-use Rattle.std.proofs.Common.{rules, ℤ, ◌≡◌, ◌++◌, ◌∙◌, codes, OnOk, subst, w32, to_z, of_z}
+use Rattle.lsp_simulate.proofs.Prelude.{rules, ℤ, ◌≡◌, ◌++◌, ◌∙◌, codes, OnOk, subst, w32, to_z, of_z, signed_decimal, Appends}
 use Rattle.std.proofs.lemmas.Int.{to_z-of_z}
-use Rattle.std.specs.Fmt.{signed_decimal}
-use Rattle.std.specs.Io.KnownBytes.{Appends}
 use Rattle.lsp_simulate.proofs.word.write_reply.Goals as goal
 
 pub returns-in-Some : goal.returns-in-Some

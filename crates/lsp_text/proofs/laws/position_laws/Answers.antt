@@ -1,4 +1,4 @@
-use Rattle.std.proofs.Common.{refl}
+use Rattle.lsp_text.proofs.Prelude.{refl}
 use Rattle.lsp_text.proofs.Positions.PositionLemmas.{exact_denotes, exact_same, denoted_whole, denoted_exact}
 use Rattle.lsp_text.proofs.Positions.NearLemmas.{exact_near}
 use Rattle.lsp_text.proofs.Positions.PastLemmas.{past_line, past_text}

@@ -1,10 +1,7 @@
-use Rattle.std.proofs.Common.{◌≡◌, suc, true, false, sym, ◌∙◌, length, find, arith}
-use Rattle.lsp_text.specs.TextLines.{is_in_content}
-use Rattle.lsp_text.specs.Units.{units_in}
+use Rattle.lsp_text.proofs.Prelude.{◌≡◌, suc, true, false, sym, ◌∙◌, length, find, arith, is_in_content, units_in, common_steps}
 use Rattle.lsp_text.proofs.PlainLemmas.{row_on, find_here, find_on, has_units, has_them, has_others, denoted_found}
-use Rattle.lsp_text.proofs.plain.denoted.Goals as goal
 use Rattle.lsp_text.proofs.plain.denoted.Goals.{else-is_in_content-via-then-is_in_content+else-units_between-character-2, else-is_in_content-via-else-is_in_content}
-use Rattle.std.proofs.lemmas.Grind.{common_steps}
+use Rattle.lsp_text.proofs.plain.denoted.Goals as goal
 
 pub returns-then-units_between-character-2 : goal.returns-then-units_between-character-2
 returns-then-units_between-character-2 c =

@@ -1,6 +1,4 @@
-use Rattle.std.proofs.Common.{◌≡◌, suc, ◌-◌, length, filter, find}
-use Rattle.lsp_text.specs.TextLines.{line_content, is_in_content, numbers_from}
-use Rattle.lsp_text.specs.Units.{units_in}
+use Rattle.lsp_text.proofs.Prelude.{◌≡◌, suc, ◌-◌, length, filter, find, line_content, is_in_content, numbers_from, units_in}
 use Rattle.lsp_text.proofs.PlainLemmas.{has_units}
 use Rattle.lsp_text.proofs.plain.denoted.Given as goal
 

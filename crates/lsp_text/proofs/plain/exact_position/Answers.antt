@@ -1,5 +1,4 @@
-use Rattle.std.proofs.Common.{arith}
-use Rattle.std.proofs.lemmas.Str.{length-le-encodes}
+use Rattle.lsp_text.proofs.Prelude.{arith, length-le-encodes}
 use Rattle.lsp_text.proofs.plain.exact_position.Goals as goal
 
 pub overflow_cast-result : goal.overflow_cast-result

@@ -1,5 +1,4 @@
-use Rattle.std.proofs.Common.{◌≡◌, ◌≤◌}
-use Rattle.lsp_text.specs.TextLines.{line_at}
+use Rattle.lsp_text.proofs.Prelude.{◌≡◌, ◌≤◌, line_at}
 use Rattle.lsp_text.proofs.plain.line_at.Given as goal
 
 abbrev pub invariant-loop-before : goal.invariant-loop-before

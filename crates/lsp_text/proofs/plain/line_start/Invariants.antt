@@ -1,5 +1,4 @@
-use Rattle.std.proofs.Common.{◌≡◌, suc, ◌-◌, length, filter}
-use Rattle.lsp_text.specs.TextLines.{line_start, first_or, is_in_content, numbers_from}
+use Rattle.lsp_text.proofs.Prelude.{◌≡◌, suc, ◌-◌, length, filter, line_start, first_or, is_in_content, numbers_from}
 use Rattle.lsp_text.proofs.plain.line_start.Given as goal
 
 abbrev pub invariant-loop-index : goal.invariant-loop-index

@@ -1,9 +1,7 @@
-use Rattle.std.proofs.Common.{suc, length, arith}
-use Rattle.lsp_text.specs.TextLines.{is_in_content}
+use Rattle.lsp_text.proofs.Prelude.{suc, length, arith, is_in_content, common_steps}
 use Rattle.lsp_text.proofs.PlainLemmas.{row_on, last_on}
-use Rattle.lsp_text.proofs.plain.line_stop.Goals as goal
 use Rattle.lsp_text.proofs.plain.line_stop.Goals.{then-is_in_content, else-is_in_content}
-use Rattle.std.proofs.lemmas.Grind.{common_steps}
+use Rattle.lsp_text.proofs.plain.line_stop.Goals as goal
 
 pub loop-index-preserved : goal.loop-index-preserved
 loop-index-preserved c =

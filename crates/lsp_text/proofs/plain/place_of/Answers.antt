@@ -1,4 +1,4 @@
-use Rattle.std.proofs.Common.{◌∙◌}
+use Rattle.lsp_text.proofs.Prelude.{◌∙◌}
 use Rattle.lsp_text.proofs.PlainLemmas.{place_counted}
 use Rattle.lsp_text.proofs.plain.place_of.Goals as goal
 

@@ -1,5 +1,4 @@
-use Rattle.std.proofs.Common.{sym, ◌∙◌}
-use Rattle.lsp_text.specs.Units.{units_in}
+use Rattle.lsp_text.proofs.Prelude.{sym, ◌∙◌, units_in}
 use Rattle.lsp_text.proofs.Positions.PositionLemmas.{denoted_whole}
 use Rattle.lsp_text.proofs.plain.resolved.Goals as goal
 

@@ -1,5 +1,4 @@
-use Rattle.std.proofs.Common.{ap, ◌∙◌, arith}
-use Rattle.lsp_text.specs.Units.{units_in}
+use Rattle.lsp_text.proofs.Prelude.{ap, ◌∙◌, arith, units_in}
 use Rattle.lsp_text.proofs.PlainLemmas.{units_on, units_next, units_total}
 use Rattle.lsp_text.proofs.plain.units_between.Goals as goal
 

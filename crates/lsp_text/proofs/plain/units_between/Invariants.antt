@@ -1,5 +1,4 @@
-use Rattle.std.proofs.Common.{◌≡◌, ◌+◌}
-use Rattle.lsp_text.specs.Units.{units_in, units_between}
+use Rattle.lsp_text.proofs.Prelude.{◌≡◌, ◌+◌, units_in, units_between}
 use Rattle.lsp_text.proofs.plain.units_between.Given as goal
 
 abbrev pub invariant-loop-index : goal.invariant-loop-index

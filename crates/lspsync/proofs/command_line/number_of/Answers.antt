@@ -1,4 +1,4 @@
-use Rattle.std.specs.Str.Parse.{ParsesUnsigned, ExplainsUnsignedError, HasUnsignedDigitsIfOk}
+use Rattle.lspsync.proofs.Prelude.{ParsesUnsigned, ExplainsUnsignedError, HasUnsignedDigitsIfOk}
 use Rattle.lspsync.proofs.OptionLemmas.{number_given, number_read}
 use Rattle.lspsync.proofs.command_line.number_of.Goals as goal
 

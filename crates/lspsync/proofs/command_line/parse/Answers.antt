@@ -1,5 +1,4 @@
-use Rattle.clap.specs.Words.{app_of}
-use Rattle.lspsync.specs.CommandLine.{IsProgram}
+use Rattle.lspsync.proofs.Prelude.{app_of, IsProgram}
 use Rattle.lspsync.proofs.ReadLemmas.{is_free_program, is_simple_program, read_err, read_ok}
 use Rattle.lspsync.proofs.command_line.parse.Goals as goal
 

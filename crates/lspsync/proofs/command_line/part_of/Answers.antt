@@ -1,6 +1,6 @@
-use Rattle.std.proofs.Common.{◌≡◌, ◌∙◌, Some, ap, sym, option_map, string_bytes, false, true}
-use Rattle.lspsync.proofs.command_line.part_of.Goals as goal
+use Rattle.lspsync.proofs.Prelude.{◌≡◌, ◌∙◌, Some, ap, sym, option_map, string_bytes, false, true}
 use Rattle.lspsync.proofs.command_line.part_of.Goals.{in-Some, in-None, in-Some-get_str+in_ok-from_str-in-Some-get_str, in-None-get_str}
+use Rattle.lspsync.proofs.command_line.part_of.Goals as goal
 
 pub returns : goal.returns
 returns c = record {

@@ -1,20 +1,12 @@
-use Rattle.std.proofs.Common.{Option, subst}
+use Rattle.lspsync.proofs.Prelude.{Option, subst, IfSome, IsCallNamed, IsTaskNamed, Call, Task}
 use Rattle.std.proofs.lemmas.List.Elements.{All-push}
-use Rattle.std.specs.Prelude.{IfSome}
-use Rattle.lspsync.specs.Call.{IsCallNamed, IsTaskNamed}
-use Rattle.lspsync.specs.declared.command_line.Call.{Call}
-use Rattle.lspsync.specs.declared.command_line.Task.{Task}
 use Rattle.lspsync.proofs.TaskLemmas.{one_more}
 use Rattle.lspsync.proofs.command_line.tasks_of.Goals as goal
 
 pub loop-file-preserved : goal.loop-file-preserved
 loop-file-preserved c =
     let named = IsCallNamed c.in-Some.name.now c.in-Some.options.now in
-    let task : Task = record {
-      call = c.in-Some-2.call;
-      saved = c.in_ok-saved.saved;
-      file = c.in_ok-file.file;
-    } in
+    let task : Task = record { call = c.in-Some-2.call; saved = c.in_ok-saved.saved; file = c.in_ok-file.file } in
     record {
       calls = rw c.in_ok-push.ensures.items
           (All-push (IsTaskNamed c.in-Some.name.now c.in-Some.options.now) c.loop-file.tasks.items task

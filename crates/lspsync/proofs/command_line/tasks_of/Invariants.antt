@@ -1,6 +1,5 @@
-use Rattle.std.proofs.Common.{◌≡◌, map, take}
+use Rattle.lspsync.proofs.Prelude.{◌≡◌, map, take, IsTaskNamed, file_named, file_of}
 use Rattle.std.specs.List.{All}
-use Rattle.lspsync.specs.Call.{IsTaskNamed, file_named, file_of}
 use Rattle.lspsync.proofs.command_line.tasks_of.Given as goal
 
 -- Each file that was passed has its task.

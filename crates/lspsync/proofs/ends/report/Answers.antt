@@ -1,6 +1,4 @@
-use Rattle.std.proofs.Common.{List, ℕ, ◌++◌, codes, ap, sym, ◌∙◌, subst}
-use Rattle.lsp_program.specs.Output.{IsPrinted}
-use Rattle.lspsync.specs.FaultText.{fault_text}
+use Rattle.lspsync.proofs.Prelude.{List, ℕ, ◌++◌, codes, ap, sym, ◌∙◌, subst, IsPrinted, fault_text}
 use Rattle.lspsync.proofs.EndLemmas.{fault_pieces}
 use Rattle.lspsync.proofs.ends.report.Goals as goal
 

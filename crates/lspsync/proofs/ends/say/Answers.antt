@@ -1,9 +1,4 @@
-use Rattle.std.proofs.Common.{Result, ap, subst, sym}
-use Rattle.lsp_stream.specs.declared.fault.EngineFault.{EngineFault}
-use Rattle.lsp_program.specs.Output.{IsPrinted}
-use Rattle.lspsync.specs.Run.{error_line}
-use Rattle.std.specs.Prelude.{Some}
-use Rattle.lspsync.specs.declared.ends.Ending.{Ending}
+use Rattle.lspsync.proofs.Prelude.{Result, ap, subst, sym, EngineFault, IsPrinted, error_line, Some, Ending}
 use Rattle.lspsync.proofs.ends.say.Goals as goal
 
 pub returns-in-Some : goal.returns-in-Some

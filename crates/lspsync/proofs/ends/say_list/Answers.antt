@@ -1,9 +1,4 @@
-use Rattle.std.proofs.Common.{List, ℕ, ◌++◌, Result, ap, codes, subst, sym}
-use Rattle.std.specs.Prelude.{Some}
-use Rattle.lsp_stream.specs.declared.fault.EngineFault.{EngineFault}
-use Rattle.lsp_program.specs.Output.{IsPrinted}
-use Rattle.lspsync.specs.Run.{error_line}
-use Rattle.lspsync.specs.declared.ends.Ending.{Ending}
+use Rattle.lspsync.proofs.Prelude.{List, ℕ, ◌++◌, Result, ap, codes, subst, sym, Some, EngineFault, IsPrinted, error_line, Ending}
 use Rattle.lspsync.proofs.EndLemmas.{list_pieces}
 use Rattle.lspsync.proofs.ends.say_list.Goals as goal
 

@@ -1,9 +1,4 @@
-use Rattle.std.proofs.Common.{Bor, List, ℕ, ◌≡◌, ◌++◌, ◌∙◌, Result, ap, option_map, subst, sym}
-use Rattle.lsp_stream.specs.declared.fault.EngineFault.{EngineFault}
-use Rattle.lsp_program.specs.Output.{IsPrinted}
-use Rattle.lspsync.specs.FaultText.{fault_text}
-use Rattle.lspsync.specs.Run.{blame_lines}
-use Rattle.lspsync.specs.declared.ends.Ending.{Ending}
+use Rattle.lspsync.proofs.Prelude.{Bor, List, ℕ, ◌≡◌, ◌++◌, ◌∙◌, Result, ap, option_map, subst, sym, EngineFault, IsPrinted, fault_text, blame_lines, Ending}
 use Rattle.lspsync.proofs.files.blame.Goals as goal
 
 pub returns : goal.returns

@@ -1,5 +1,4 @@
-use Rattle.std.proofs.Common.{Bor, List, ℕ, Option, ◌∙◌, ap, option_map, subst, sym}
-use Rattle.lspsync.specs.Run.{IsBlamed}
+use Rattle.lspsync.proofs.Prelude.{Bor, List, ℕ, Option, ◌∙◌, ap, option_map, subst, sym, IsBlamed}
 use Rattle.lspsync.proofs.EndLemmas.{file_ending}
 use Rattle.lspsync.proofs.files.end_fault.Goals as goal
 

@@ -1,5 +1,4 @@
-use Rattle.std.proofs.Common.{List, ℕ, ◌++◌, codes, refl, subst}
-use Rattle.lsp_program.specs.Output.{IsPrinted}
+use Rattle.lspsync.proofs.Prelude.{List, ℕ, ◌++◌, codes, refl, subst, IsPrinted}
 use Rattle.lspsync.proofs.EndLemmas.{blame_pieces, hint_pieces}
 use Rattle.lspsync.proofs.files.print_blame.Goals as goal
 

@@ -1,11 +1,4 @@
-use Rattle.std.proofs.Common.{◌≡◌, ℕ, List, [], arith, length, rules, subst}
-use Rattle.std.specs.Prelude.{nat_lt}
-use Rattle.std.specs.Vec.Iter.{into_iter_items}
-use Rattle.std.proofs.lemmas.List.{nil_from_length}
-use Rattle.lsp_program.specs.Output.{Streams, streams}
-use Rattle.lspsync.specs.Run.{AreDone, nothing_yet}
-use Rattle.lspsync.specs.declared.command_line.Task.{Task}
-use Rattle.lspsync.specs.declared.ends.Ending.{Ending}
+use Rattle.lspsync.proofs.Prelude.{◌≡◌, ℕ, List, [], arith, length, rules, subst, nat_lt, into_iter_items, nil_from_length, Streams, streams, AreDone, nothing_yet, Task, Ending}
 use Rattle.lspsync.proofs.DoneLemmas.{none_left, one_more, stopped}
 use Rattle.lspsync.proofs.run.do_all.Goals as goal
 

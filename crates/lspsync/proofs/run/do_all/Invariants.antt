@@ -1,7 +1,4 @@
-use Rattle.std.specs.Vec.Iter.{into_iter_items}
-use Rattle.lsp_program.specs.Output.{Streams, streams}
-use Rattle.lspsync.specs.Run.{AreDone, nothing_yet}
-use Rattle.lspsync.specs.declared.ends.Ending.{Ending}
+use Rattle.lspsync.proofs.Prelude.{into_iter_items, Streams, streams, AreDone, nothing_yet, Ending}
 use Rattle.lspsync.proofs.run.do_all.Given as goal
 
 -- Who does the tasks that are left has done all.

@@ -1,20 +1,13 @@
 -- A handle is `Send`: it owns an object, which is, and the right to free its block. Assumes `Logic`.
-use Rattle.std.proofs.Common.{Bool, true, false}
+use Rattle.laspidru.proofs.Prelude.{Bool, true, false, lone, Ptr, exits_of, shape, fields, to, Option, Some, None, Global, object_if}
 use mir.Raw.{raw}
 use base.Shift.{Keyless}
-use denote.Memory.{lone}
 use denote.Param.Send.{IsSend, AllSend, owning_send, struct_send, sendable}
-use denote.RawPtr.{Ptr}
-use denote.Struct.Struct.{exits_of}
-use denote.Struct.Owning.{shape, fields, to}
-use Rattle.std.specs.Prelude.{Option, Some, None}
-use Rattle.std.specs.declared.alloc.Global.{Global}
 use Rattle.std.proofs.Crossing.{frees}
-use Rattle.std.proofs.alloc.Global.TheSendSync as global
 use Rattle.std_alloc.proofs.SendSync.{lies, quiet, crosses}
+use Rattle.std.proofs.alloc.Global.TheSendSync as global
 use Rattle.laspidru.specs.contracts.object.Object as object
 use Rattle.laspidru.proofs.object.Object.TheSendSync as inner
-use Rattle.laspidru.specs.inside.Stored.{object_if}
 use Rattle.laspidru.specs.contracts.handle.Handle as handle
 
 what_it_owns : (full : Bool) (a : Global) (p : Ptr) (value : Option ((object.the_row).Denot))

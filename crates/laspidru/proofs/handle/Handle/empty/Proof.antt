@@ -1,23 +1,5 @@
 -- `empty` makes a handle that owns nothing. Assumes `Logic`.
-use Rattle.std.proofs.Common.{◌≡◌, false, List, [], ◌∷◌, ◌++◌, refl, sym, subst}
-use mir.Val.{Val}
-use base.Logic.{SProp, ent, id⊢, emp}
-use prog.Wp.{WpFn}
-use types.Kit.{‵, raw, ◌⊛◌, ◌$◌, ◌∵◌, !, qed, by, move, keep, split, fsplit, fjoin, suffices, use0}
-use types.Part.{agg}
-use types.Run.{no_more, and_then, returns, enter, lit, false_lit}
-use types.ByLocal.{alloc_all, pass_all, free_all, look_at, get, sets}
-use contract.Monad.{fact, fact_i}
-use contract.Running.{tables}
-use denote.RattleType.{owns}
-use denote.RawPtr.{null_ptr}
-use denote.Signature.{types_at, plain}
-use denote.Steps.{nothing}
-use denote.Triple.Entry.{alive}
-use denote.Triple.Walked.{Stays, stay_dropped, walk_of}
-use Rattle.core.proofs.alloc.Calls.{Goes-blank, handle_tells}
-use Rattle.std.proofs.raw_atomic.Walks.{proved_at, leaves}
-use Rattle.std.specs.Prelude.{Option, None}
+use Rattle.laspidru.proofs.Prelude.{◌≡◌, false, List, [], ◌∷◌, ◌++◌, refl, sym, subst, Val, SProp, ent, id⊢, emp, WpFn, ‵, raw, ◌⊛◌, ◌$◌, ◌∵◌, !, qed, by, move, keep, split, fsplit, fjoin, suffices, use0, agg, no_more, and_then, returns, enter, lit, false_lit, alloc_all, pass_all, free_all, look_at, get, sets, fact, fact_i, tables, owns, null_ptr, types_at, plain, nothing, alive, Stays, stay_dropped, walk_of, Goes-blank, handle_tells, proved_at, leaves, Option, None}
 use Rattle.laspidru.proofs.Values.{A, Object, allocator, triple, triple_fits, closes_handle}
 use Rattle.laspidru.specs.contracts.handle.Handle.empty.{ended, clauses}
 use Rattle.laspidru.specs.contracts.handle.Handle.empty.Key.{name}

@@ -1,32 +1,13 @@
 -- `of_raw` hands an object over to a handle. Assumes `Logic`.
-use Rattle.std.proofs.Common.{◌≡◌, true, List, [], ◌∷◌, ◌++◌, refl, sym, subst}
-use mir.Val.{Val}
-use base.Logic.{SProp, ent, id⊢, emp}
-use prog.Wp.{WpFn}
-use types.Kit.{‵, raw, ◌⊛◌, ◌$◌, ◌∵◌, !, qed, by, move, keep, split, fsplit, fjoin, suffices, use0}
-use types.Part.{whole, sub, agg}
-use types.Run.{stop, fld, of_opd, no_more, and_then, returns, enter, true_lit}
-use types.ByLocal.{alloc_all, pass_all, free_all, look_at, get, get_in, sets}
-use contract.Monad.{fact, fact_i}
-use contract.Running.{tables}
-use denote.RattleType.{owns}
-use denote.RawPtr.{block_ptr}
-use denote.Signature.{types_at, plain}
-use denote.Steps.{nothing}
-use denote.Triple.Entry.{alive}
-use denote.Triple.Walked.{Stays, stay_dropped, walk_of}
-use Rattle.core.proofs.alloc.Calls.{Goes-blank}
-use Rattle.std.proofs.raw_atomic.Walks.{proved_at, leaves}
-use Rattle.laspidru.specs.contracts.raw_box.RawBox as raw_box
+use Rattle.laspidru.proofs.Prelude.{◌≡◌, true, List, [], ◌∷◌, ◌++◌, refl, sym, subst, Val, SProp, ent, id⊢, emp, WpFn, ‵, raw, ◌⊛◌, ◌$◌, ◌∵◌, !, qed, by, move, keep, split, fsplit, fjoin, suffices, use0, whole, sub, agg, stop, fld, of_opd, no_more, and_then, returns, enter, true_lit, alloc_all, pass_all, free_all, look_at, get, get_in, sets, fact, fact_i, tables, owns, block_ptr, types_at, plain, nothing, alive, Stays, stay_dropped, walk_of, Goes-blank, proved_at, leaves, ghosts, Some}
 use Rattle.laspidru.proofs.RawBoxes.{pair, pair_fits, opens_raw}
-use Rattle.std.proofs.alloc.Global.TheLaws as global-laws
-use Rattle.std.specs.contracts.impls.GlobalAllocator.TheImpl.{ghosts}
-use Rattle.std.specs.Prelude.{Some}
-use Rattle.laspidru.specs.contracts.object.Object as object
 use Rattle.laspidru.proofs.Values.{A, triple, triple_fits, closes_handle}
 use Rattle.laspidru.specs.contracts.handle.Handle.of_raw.{ended, clauses}
 use Rattle.laspidru.specs.contracts.handle.Handle.of_raw.Key.{name}
 use Rattle.laspidru.proofs.handle.Handle.of_raw.Statement.{statement}
+use Rattle.laspidru.specs.contracts.raw_box.RawBox as raw_box
+use Rattle.std.proofs.alloc.Global.TheLaws as global-laws
+use Rattle.laspidru.specs.contracts.object.Object as object
 use Rattle.laspidru.proofs.handle.Handle.of_raw.Code as code
 
 pub of_raw_spec : {M : Type 1} → statement M

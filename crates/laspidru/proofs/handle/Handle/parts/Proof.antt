@@ -1,29 +1,10 @@
 -- `parts` says whether a handle is full, and hands it back. Assumes `Logic`.
-use Rattle.std.proofs.Common.{◌≡◌, List, [], ◌∷◌, ◌++◌, refl, sym, subst}
-use mir.Val.{Val, vbool}
-use base.Logic.{SProp, ent, id⊢, emp}
-use prog.Wp.{WpFn}
-use types.Kit.{‵, raw, ◌⊛◌, ◌$◌, ◌∵◌, !, qed, by, move, keep, split, fsplit, fjoin, join, suffices, use0, feq_i}
-use types.Part.{whole, sub, agg}
-use types.Run.{stop, fld, of_opd, no_more, and_then, returns, enter}
-use types.ByLocal.{alloc_all, pass_all, free_all, look_at, get, get_in, sets}
-use contract.Monad.{fact, fact_i}
-use contract.Running.{tables}
-use denote.RattleType.{owns}
-use denote.Builtin.{bool}
-use denote.Signature.{types_at, plain}
-use denote.Steps.{nothing}
-use denote.Triple.Entry.{alive}
-use denote.Triple.Walked.{Stays, stay_dropped, walk_of}
-use Rattle.core.proofs.alloc.Calls.{Goes-blank}
-use Rattle.std.proofs.raw_atomic.Walks.{proved_at, leaves}
-use Rattle.std_alloc.proofs.ResultValues.{and_tt}
-use Rattle.std.specs.Option.{is_some}
-use Rattle.laspidru.specs.contracts.handle.Handle as handle
+use Rattle.laspidru.proofs.Prelude.{◌≡◌, List, [], ◌∷◌, ◌++◌, refl, sym, subst, Val, vbool, SProp, ent, id⊢, emp, WpFn, ‵, raw, ◌⊛◌, ◌$◌, ◌∵◌, !, qed, by, move, keep, split, fsplit, fjoin, join, suffices, use0, feq_i, whole, sub, agg, stop, fld, of_opd, no_more, and_then, returns, enter, alloc_all, pass_all, free_all, look_at, get, get_in, sets, fact, fact_i, tables, owns, bool, types_at, plain, nothing, alive, Stays, stay_dropped, walk_of, Goes-blank, proved_at, leaves, and_tt, is_some}
 use Rattle.laspidru.proofs.Values.{two, triple, triple_fits, pointer_fits, opens_handle, closes_handle, tuple_of, says_full}
 use Rattle.laspidru.specs.contracts.handle.Handle.parts.{ended, clauses}
 use Rattle.laspidru.specs.contracts.handle.Handle.parts.Key.{name}
 use Rattle.laspidru.proofs.handle.Handle.parts.Statement.{statement}
+use Rattle.laspidru.specs.contracts.handle.Handle as handle
 use Rattle.laspidru.proofs.handle.Handle.parts.Code as code
 
 pub parts_spec : {M : Type 1} → statement M

@@ -1,6 +1,4 @@
-use Rattle.std.proofs.Common.{MatchOption, subst}
-use Rattle.laspidru.specs.Framers.{HasNoBody, IsBodyOf}
-use Rattle.laspidru.specs.Streams.{StreamData}
+use Rattle.laspidru.proofs.Prelude.{MatchOption, subst, HasNoBody, IsBodyOf, StreamData}
 use Rattle.laspidru.proofs.stream.Stream.body.Goals as goal
 
 pub returns : goal.returns

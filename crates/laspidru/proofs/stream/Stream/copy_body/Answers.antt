@@ -1,6 +1,4 @@
-use Rattle.std.proofs.Common.{subst}
-use Rattle.laspidru.specs.Framers.{IsBodyAnswer}
-use Rattle.laspidru.specs.Streams.{StreamData}
+use Rattle.laspidru.proofs.Prelude.{subst, IsBodyAnswer, StreamData}
 use Rattle.laspidru.proofs.stream.Stream.copy_body.Goals as goal
 
 pub returns-clause-answer : goal.returns-clause-answer

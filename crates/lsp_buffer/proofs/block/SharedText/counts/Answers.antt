@@ -1,8 +1,6 @@
-use Rattle.std.proofs.Common.{◌≡◌, ◌-◌, length, arith, ap}
-use Rattle.lsp_buffer.specs.Blocks.{block_ends}
+use Rattle.lsp_buffer.proofs.Prelude.{◌≡◌, ◌-◌, length, arith, ap, block_ends, common_steps}
 use Rattle.lsp_buffer.proofs.Blocks.CountLemmas.{ends_low}
 use Rattle.lsp_buffer.proofs.block.SharedText.counts.Goals as goal
-use Rattle.std.proofs.lemmas.Grind.{common_steps}
 
 pub overflow_cast-result-2 : goal.overflow_cast-result-2
 overflow_cast-result-2 c = grind (

@@ -1,9 +1,6 @@
-use Rattle.std.proofs.Common.{ℕ, length, sym, ap, arith, subst}
-use Rattle.std.specs.Str.{chars}
-use Rattle.lsp_text.specs.LineStarts.{IsPlace}
+use Rattle.lsp_buffer.proofs.Prelude.{ℕ, length, sym, ap, arith, subst, chars, IsPlace, common_steps}
 use Rattle.lsp_buffer.proofs.Blocks.FeedLemmas.{feed_head, end_place, end_at}
 use Rattle.lsp_buffer.proofs.block.SharedText.head.Goals as goal
-use Rattle.std.proofs.lemmas.Grind.{common_steps}
 
 pub returns-then-bytes-end-eq10 : goal.returns-then-bytes-end-eq10
 returns-then-bytes-end-eq10 c =

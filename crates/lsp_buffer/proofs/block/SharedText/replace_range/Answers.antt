@@ -1,7 +1,4 @@
-use Rattle.std.proofs.Common.{◌≡◌, ◌+◌, ◌≤◌, ℕ, List, length, string_bytes, string_len, string_capacity, sym, ap, ◌∙◌, subst, arith}
-use Rattle.std.proofs.lemmas.Str.{IsUtf8-string_bytes}
-use Rattle.std.specs.List.{replace_range, slice_range}
-use Rattle.std.specs.Str.{IsCharBoundary}
+use Rattle.lsp_buffer.proofs.Prelude.{◌≡◌, ◌+◌, ◌≤◌, ℕ, List, length, string_bytes, string_len, string_capacity, sym, ap, ◌∙◌, subst, arith, IsUtf8-string_bytes, replace_range, slice_range, IsCharBoundary}
 use Rattle.lsp_buffer.proofs.Changes.InPlaceLemmas.{start_again, undone, put_back, replaced_len, removed_len, at_err}
 use Rattle.lsp_buffer.proofs.block.SharedText.replace_range.Goals as goal
 

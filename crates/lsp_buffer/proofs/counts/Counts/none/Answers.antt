@@ -1,4 +1,4 @@
-use Rattle.std.proofs.Common.{sym}
+use Rattle.lsp_buffer.proofs.Prelude.{sym}
 use Rattle.lsp_buffer.proofs.Blocks.CountLemmas.{none_count}
 use Rattle.lsp_buffer.proofs.counts.Counts.none.Goals as goal
 

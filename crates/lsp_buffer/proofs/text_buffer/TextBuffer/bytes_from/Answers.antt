@@ -1,4 +1,4 @@
-use Rattle.std.proofs.Common.{◌∙◌}
+use Rattle.lsp_buffer.proofs.Prelude.{◌∙◌}
 use Rattle.lsp_buffer.proofs.Queries.FoundLemmas.{chunk_is, place_part}
 use Rattle.lsp_buffer.proofs.text_buffer.TextBuffer.bytes_from.Goals as goal
 

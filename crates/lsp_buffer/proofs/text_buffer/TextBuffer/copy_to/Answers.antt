@@ -1,4 +1,4 @@
-use Rattle.std.proofs.Common.{arith}
+use Rattle.lsp_buffer.proofs.Prelude.{arith}
 use Rattle.lsp_buffer.proofs.Queries.CopyLemmas.{IsEnd, copied_more}
 use Rattle.lsp_buffer.proofs.text_buffer.TextBuffer.copy_to.Goals as goal
 

@@ -1,4 +1,4 @@
-use Rattle.std.proofs.Common.{◌-◌}
+use Rattle.lsp_buffer.proofs.Prelude.{◌-◌}
 use Rattle.lsp_buffer.proofs.Queries.CopyLemmas.{IsCopied}
 use Rattle.lsp_buffer.proofs.text_buffer.TextBuffer.copy_to.Given as goal
 

@@ -1,5 +1,4 @@
-use Rattle.std.proofs.Common.{subst}
-use Rattle.std.specs.Str.{IsUtf8}
+use Rattle.lsp_buffer.proofs.Prelude.{subst, IsUtf8}
 use Rattle.lsp_buffer.proofs.Blocks.BlockLemmas.{blocks_utf8}
 use Rattle.lsp_buffer.proofs.text_buffer.TextBuffer.len.Goals as goal
 

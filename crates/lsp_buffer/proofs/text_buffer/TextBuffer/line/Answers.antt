@@ -1,6 +1,4 @@
-use Rattle.std.proofs.Common.{◌≤◌, arith}
-use Rattle.std.specs.Str.{chars}
-use Rattle.lsp_text.specs.TextLines.{line_ends}
+use Rattle.lsp_buffer.proofs.Prelude.{◌≤◌, arith, chars, line_ends}
 use Rattle.lsp_buffer.proofs.Queries.ContentsLemmas.{content_is}
 use Rattle.lsp_buffer.proofs.text_buffer.TextBuffer.line.Goals as goal
 

@@ -1,5 +1,4 @@
-use Rattle.std.proofs.Common.{◌+◌, arith, ap}
-use Rattle.lsp_buffer.specs.declared.counts.Counts.{Counts}
+use Rattle.lsp_buffer.proofs.Prelude.{◌+◌, arith, ap, Counts}
 use Rattle.lsp_buffer.proofs.Blocks.CountLemmas.{ends_low}
 use Rattle.lsp_buffer.proofs.Queries.FoundLemmas.{last_room, last_sum}
 use Rattle.lsp_buffer.proofs.text_buffer.TextBuffer.line_count.Goals as goal

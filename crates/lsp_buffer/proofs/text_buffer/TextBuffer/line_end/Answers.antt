@@ -1,6 +1,4 @@
-use Rattle.std.proofs.Common.{ap, ◌∙◌, option_map}
-use Rattle.std.specs.Str.{chars}
-use Rattle.lsp_text.specs.Text.{place_of}
+use Rattle.lsp_buffer.proofs.Prelude.{ap, ◌∙◌, option_map, chars, place_of}
 use Rattle.lsp_buffer.proofs.Queries.ContentsLemmas.{last_denotes, value_of}
 use Rattle.lsp_buffer.proofs.text_buffer.TextBuffer.line_end.Goals as goal
 

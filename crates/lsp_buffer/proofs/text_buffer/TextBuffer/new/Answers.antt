@@ -1,5 +1,4 @@
-use Rattle.std.proofs.Common.{string_bytes}
-use Rattle.std.proofs.lemmas.Str.{IsUtf8-string_bytes}
+use Rattle.lsp_buffer.proofs.Prelude.{string_bytes, IsUtf8-string_bytes}
 use Rattle.lsp_buffer.proofs.Blocks.CutLemmas.{one_are}
 use Rattle.lsp_buffer.proofs.text_buffer.TextBuffer.new.Goals as goal
 

@@ -1,5 +1,4 @@
-use Rattle.std.proofs.Common.{ℕ, List, subst}
-use Rattle.lsp_buffer.specs.inside.Parts.{IsFound}
+use Rattle.lsp_buffer.proofs.Prelude.{ℕ, List, subst, IsFound}
 use Rattle.lsp_buffer.proofs.Queries.FoundLemmas.{part_of}
 use Rattle.lsp_buffer.proofs.text_buffer.TextBuffer.part_at.Goals as goal
 

@@ -1,6 +1,4 @@
-use Rattle.std.proofs.Common.{◌∙◌, arith}
-use Rattle.std.specs.Str.{chars}
-use Rattle.lsp_text.specs.Units.{units_in}
+use Rattle.lsp_buffer.proofs.Prelude.{◌∙◌, arith, chars, units_in}
 use Rattle.lsp_text.proofs.Positions.ExactLemmas.{exact_resolves}
 use Rattle.lsp_buffer.proofs.Queries.FoundLemmas.{exact_few, exact_part, inner_part, units_some}
 use Rattle.lsp_buffer.proofs.text_buffer.TextBuffer.position.Goals as goal

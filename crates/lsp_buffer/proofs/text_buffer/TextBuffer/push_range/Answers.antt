@@ -1,7 +1,4 @@
-use Rattle.std.proofs.Common.{ℕ, ◌≡◌, ◌+◌, ◌-◌, ◌≤◌, ◌++◌, ◌∙◌, List, take, drop, length, string_bytes, append_assoc, arith, ap, sym}
-use Rattle.std.specs.List.{slice_range}
-use Rattle.std.proofs.lemmas.List.{drop-drop}
-use Rattle.std.proofs.Math.Seq.{take-add}
+use Rattle.lsp_buffer.proofs.Prelude.{ℕ, ◌≡◌, ◌+◌, ◌-◌, ◌≤◌, ◌++◌, ◌∙◌, List, take, drop, length, string_bytes, append_assoc, arith, ap, sym, slice_range, drop-drop, take-add}
 use Rattle.lsp_buffer.proofs.text_buffer.TextBuffer.push_range.Goals as goal
 
 -- A range that is followed by some bytes is a longer range.

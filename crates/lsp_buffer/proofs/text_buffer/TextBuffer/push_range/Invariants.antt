@@ -1,6 +1,4 @@
-use Rattle.std.proofs.Common.{◌≡◌, ◌≤◌, ◌-◌, ◌++◌, string_bytes}
-use Rattle.std.specs.List.{slice_range}
-use Rattle.std.specs.Str.{IsCharBoundary}
+use Rattle.lsp_buffer.proofs.Prelude.{◌≡◌, ◌≤◌, ◌-◌, ◌++◌, string_bytes, slice_range, IsCharBoundary}
 use Rattle.lsp_buffer.proofs.text_buffer.TextBuffer.push_range.Given as goal
 
 abbrev pub invariant-loop-offset : goal.invariant-loop-offset

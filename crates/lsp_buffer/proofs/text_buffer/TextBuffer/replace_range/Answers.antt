@@ -1,12 +1,4 @@
-use Rattle.std.proofs.Common.{◌≡◌, ◌≤◌, ◌+◌, ◌-◌, ℕ, List, length, set, ap, refl, sym, ◌∙◌, subst, arith}
-use Rattle.std.proofs.lemmas.Grind.{common_steps}
-use Rattle.std.proofs.lemmas.List.{with_items_is}
-use Rattle.std.specs.List.{concat, replace_range}
-use Rattle.std.specs.Str.{IsCharBoundary}
-use Rattle.lsp_buffer.specs.declared.counts.Counts.{Counts}
-use Rattle.lsp_buffer.specs.declared.text_buffer.change.BlockRange.{BlockRange}
-use Rattle.lsp_buffer.specs.Blocks.{AreGroups, IsTextBuffer}
-use Rattle.lsp_buffer.specs.inside.Changes.{IsChange, IsRangeOf, StaysInside, text_after}
+use Rattle.lsp_buffer.proofs.Prelude.{◌≡◌, ◌≤◌, ◌+◌, ◌-◌, ℕ, List, length, set, ap, refl, sym, ◌∙◌, subst, arith, common_steps, with_items_is, concat, replace_range, IsCharBoundary, Counts, BlockRange, AreGroups, IsTextBuffer, IsChange, IsRangeOf, StaysInside, text_after}
 use Rattle.lsp_buffer.proofs.Changes.ChangeLemmas.{put_are, put_back, put_size, put_text, replaced_length}
 use Rattle.lsp_buffer.proofs.text_buffer.TextBuffer.replace_range.Goals.{then-stays_inside+in_ok-replace_range, else-stays_inside+in_ok-replace_across}
 use Rattle.lsp_buffer.proofs.text_buffer.TextBuffer.replace_range.Goals as goal
@@ -17,7 +9,8 @@ is_change : (blocks read : List (List ℕ)) (text : List ℕ) (start stop : ℕ)
     → length (replace_range text start stop new) ≤ 2147483648 → IsChange blocks range new
 is_change blocks read text start stop range new same view is room =
     subst (λ bs. IsChange bs range new) same
-    (is.change new (subst (λ t. length (replace_range t start stop new) ≤ 2147483648) (sym (ap concat same ∙ view)) room))
+    (is.change new
+    (subst (λ t. length (replace_range t start stop new) ≤ 2147483648) (sym (ap concat same ∙ view)) room))
 
 -- What is left is the changed text.
 is_text : (blocks read : List (List ℕ)) (text : List ℕ) (start stop : ℕ) (range : BlockRange) (new : List ℕ)
@@ -69,7 +62,8 @@ recount-requires-clause-other c =
     is_change blocks c.deref.result.now c.args.self.now c.args.start c.args.end range new c.deref.ensures.value
     c.self.view_is c.range_of-range.ensures c.requires.room in
     let inside : StaysInside blocks range new =
-    subst (λ bs. StaysInside bs range new) c.deref-3.ensures.value (c.stays_inside.ensures.0 c.if-stays_inside.true) in (
+    subst (λ bs. StaysInside bs range new) c.deref-3.ensures.value
+    (c.stays_inside.ensures.0 c.if-stays_inside.true) in (
       c.index_mut.result.now,
       subst (λ (bs : List (List ℕ)). AreGroups bs c.deref_mut.result.now)
           (sym (put_back blocks range new change inside c.index_mut.result.now c.index_mut.ensures.value

@@ -1,7 +1,5 @@
-use Rattle.std.proofs.Common.{◌+◌, ◌≤◌, Some, None, length, arith}
-use Rattle.std.specs.Str.{chars}
+use Rattle.lsp_buffer.proofs.Prelude.{◌+◌, ◌≤◌, Some, None, length, arith, chars, units_in}
 use Rattle.std.proofs.lemmas.Result.{err_from_is_err_and}
-use Rattle.lsp_text.specs.Units.{units_in}
 use Rattle.lsp_text.proofs.Positions.ResolveLemmas.{denoted_place, denoted_boundary}
 use Rattle.lsp_buffer.proofs.Queries.FoundLemmas.{resolved_part}
 use Rattle.lsp_buffer.proofs.text_buffer.TextBuffer.resolve.Goals as goal

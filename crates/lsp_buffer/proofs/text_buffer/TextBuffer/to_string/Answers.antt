@@ -1,4 +1,4 @@
-use Rattle.std.proofs.Common.{◌∙◌, ◌++◌, ap, sym, string_bytes}
+use Rattle.lsp_buffer.proofs.Prelude.{◌∙◌, ◌++◌, ap, sym, string_bytes}
 use Rattle.lsp_buffer.proofs.Blocks.CutLemmas.{concat_more}
 use Rattle.lsp_buffer.proofs.text_buffer.TextBuffer.to_string.Goals as goal
 

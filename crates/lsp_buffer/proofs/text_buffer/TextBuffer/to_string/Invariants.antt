@@ -1,5 +1,4 @@
-use Rattle.std.proofs.Common.{◌≡◌, take, string_bytes}
-use Rattle.std.specs.List.{concat}
+use Rattle.lsp_buffer.proofs.Prelude.{◌≡◌, take, string_bytes, concat}
 use Rattle.lsp_buffer.proofs.text_buffer.TextBuffer.to_string.Given as goal
 
 abbrev pub invariant-loop-block : goal.invariant-loop-block

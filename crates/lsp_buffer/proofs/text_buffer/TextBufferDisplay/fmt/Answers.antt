@@ -1,6 +1,4 @@
-use Rattle.std.proofs.Common.{take, ◌++◌, ◌∙◌, ap, sym, subst, rules, List, ℕ}
-use Rattle.std.specs.Fmt.{HasWritten}
-use Rattle.std.specs.List.{concat}
+use Rattle.lsp_buffer.proofs.Prelude.{take, ◌++◌, ◌∙◌, ap, sym, subst, rules, List, ℕ, HasWritten, concat}
 use Rattle.std.proofs.Output.{has_written_append}
 use Rattle.lsp_buffer.proofs.Blocks.CutLemmas.{concat_more}
 use Rattle.lsp_buffer.proofs.text_buffer.TextBufferDisplay.fmt.Goals as goal

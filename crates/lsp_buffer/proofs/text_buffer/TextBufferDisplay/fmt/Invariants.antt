@@ -1,6 +1,4 @@
-use Rattle.std.proofs.Common.{take}
-use Rattle.std.specs.List.{concat}
-use Rattle.std.specs.Fmt.{HasWritten, IsPlainFormatter}
+use Rattle.lsp_buffer.proofs.Prelude.{take, concat, HasWritten, IsPlainFormatter}
 use Rattle.lsp_buffer.proofs.text_buffer.TextBufferDisplay.fmt.Given as goal
 
 abbrev pub invariant-loop-block : goal.invariant-loop-block

@@ -1,9 +1,4 @@
-use Rattle.std.proofs.Common.{◌∙◌, ℕ, List, ap, subst}
-use Rattle.std.specs.List.{concat}
-use Rattle.std.specs.Prelude.{string_bytes}
-use Rattle.lsp_buffer.specs.Blocks.{IsFull}
-use Rattle.lsp_buffer.specs.inside.Changes.{IsTaken}
-use Rattle.lsp_buffer.specs.inside.Cuts.{AreFull}
+use Rattle.lsp_buffer.proofs.Prelude.{◌∙◌, ℕ, List, ap, subst, concat, string_bytes, IsFull, IsTaken, AreFull}
 use Rattle.lsp_buffer.proofs.Changes.ChangeLemmas.{cut_is, cut_text}
 use Rattle.lsp_buffer.proofs.text_buffer.change.replace_across.Goals as goal
 

@@ -1,4 +1,4 @@
-use Rattle.std.proofs.Common.{ap, ◌∙◌, ◌++◌, take, drop}
+use Rattle.lsp_buffer.proofs.Prelude.{ap, ◌∙◌, ◌++◌, take, drop}
 use Rattle.lsp_buffer.proofs.Blocks.DrainLemmas.{drained_blocks}
 use Rattle.lsp_buffer.proofs.text_buffer.change.replace_blocks.Goals as goal
 

@@ -1,8 +1,6 @@
-use Rattle.std.proofs.Common.{◌+◌, refl, arith}
-use Rattle.std.specs.Prelude.{string_bytes}
+use Rattle.lsp_buffer.proofs.Prelude.{◌+◌, refl, arith, string_bytes, common_steps}
 use Rattle.lsp_buffer.proofs.Changes.ChangeLemmas.{left_text, taken_alone, taken_next}
 use Rattle.lsp_buffer.proofs.text_buffer.change.text_taken.Goals as goal
-use Rattle.std.proofs.lemmas.Grind.{common_steps}
 
 pub returns-then-not-joins : goal.returns-then-not-joins
 returns-then-not-joins c =

@@ -1,6 +1,5 @@
-use Rattle.std.proofs.Common.{Result, Ok, Err}
-use Rattle.std.specs.Prelude.{OnErr}
-use Rattle.lsp_message.specs.Seen.{message_view}
+use Rattle.lsp_client.proofs.Prelude.{Result, Ok, Err, message_view}
+use Rattle.std.proofs.Common.{OnErr}
 use Rattle.lsp_message.proofs.Readings.{message_utf8}
 use Rattle.lsp_client.proofs.client.Client.deliver_body.Goals as goal
 

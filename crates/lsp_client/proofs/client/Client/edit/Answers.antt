@@ -1,8 +1,4 @@
-use Rattle.std.proofs.Common.{◌≡◌, ◌∙◌, ap, sym, rules, w32, to_z, of_z}
-use Rattle.std.proofs.lemmas.Int.{to_z-of_z}
-use Rattle.std.proofs.lemmas.Result.{err_from_is_err_and}
-use Rattle.lsp_client.specs.Step.{ClientData}
-use Rattle.lsp_client.specs.Seen.{edit_order}
+use Rattle.lsp_client.proofs.Prelude.{◌≡◌, ◌∙◌, ap, sym, rules, w32, to_z, of_z, to_z-of_z, err_from_is_err_and, ClientData, edit_order}
 use Rattle.lsp_client.proofs.SentLemmas.{order_fault}
 use Rattle.lsp_client.proofs.client.Client.edit.Goals as goal
 

@@ -1,11 +1,7 @@
-use Rattle.std.proofs.Common.{◌≡◌, ap, map, rules, w32, to_z, of_z}
-use Rattle.std.proofs.lemmas.Int.{to_z-of_z}
-use Rattle.std.proofs.lemmas.Result.{err_from_is_err_and}
-use Rattle.lsp_edit.specs.Edited.{content_change}
-use Rattle.lsp_store.specs.Table as documents
-use Rattle.lsp_client.specs.Step.{ClientData, agreement}
+use Rattle.lsp_client.proofs.Prelude.{◌≡◌, ap, map, rules, w32, to_z, of_z, to_z-of_z, err_from_is_err_and, content_change, ClientData, agreement}
 use Rattle.lsp_client.proofs.OrderLemmas.{refused_first}
 use Rattle.lsp_client.proofs.SentLemmas.{order_sent, change_refused, change_within, change_framed}
+use Rattle.lsp_store.specs.Table as documents
 use Rattle.lsp_client.proofs.client.Client.send_change.Goals as goal
 
 pub returns-in_err-plan-clause-error : goal.returns-in_err-plan-clause-error

@@ -1,10 +1,6 @@
-use Rattle.std.proofs.Common.{◌≡◌, ◌∙◌, ap, sym, None}
-use Rattle.std.proofs.lemmas.Result.{err_from_is_err_and}
-use Rattle.lsp_frame.specs.Frame.{frame}
-use Rattle.lsp_store.specs.Table as documents
-use Rattle.lsp_store.specs.Table.{entry_at, command_refusal}
-use Rattle.lsp_client.specs.Step.{ClientData, agreement}
+use Rattle.lsp_client.proofs.Prelude.{◌≡◌, ◌∙◌, ap, sym, None, err_from_is_err_and, frame, entry_at, command_refusal, ClientData, agreement}
 use Rattle.lsp_client.proofs.SentLemmas.{order_sent, close_sent, long_refused, body_within, may_close}
+use Rattle.lsp_store.specs.Table as documents
 use Rattle.lsp_client.proofs.client.Client.send_close.Goals as goal
 
 pub returns-in_err-frame-clause-error : goal.returns-in_err-frame-clause-error

@@ -1,15 +1,8 @@
-use Rattle.std.proofs.Common.{◌≡◌, ◌∙◌, ap, sym, None, string_bytes, rules, w32, to_z, of_z, inr, refl}
-use Rattle.std.proofs.lemmas.Int.{to_z-of_z}
-use Rattle.std.proofs.lemmas.Result.{err_from_is_err_and}
-use Rattle.lsp_frame.specs.Frame.{frame}
-use Rattle.lsp_message.specs.Params.{DocumentItem}
+use Rattle.lsp_client.proofs.Prelude.{◌≡◌, ◌∙◌, ap, sym, None, string_bytes, rules, w32, to_z, of_z, inr, refl, to_z-of_z, err_from_is_err_and, frame, DocumentItem, Takes, Command, command_refusal, ClientData, agreement}
 use Rattle.lsp_message.specs.declared.params.OpenParams.{OpenParams}
-use Rattle.lsp_store.specs.Opened.{Takes}
-use Rattle.lsp_store.specs.Table as documents
-use Rattle.lsp_store.specs.Table.{Command, command_refusal}
-use Rattle.lsp_client.specs.Step.{ClientData, agreement}
 use Rattle.lsp_client.proofs.OrderLemmas.{refused_first, some_same}
 use Rattle.lsp_client.proofs.SentLemmas.{order_sent, open_sent, long_refused, body_within}
+use Rattle.lsp_store.specs.Table as documents
 use Rattle.lsp_client.proofs.client.Client.send_open.Goals as goal
 
 pub returns-in_err-check_open-clause-error : goal.returns-in_err-check_open-clause-error

@@ -1,15 +1,8 @@
-use Rattle.std.proofs.Common.{◌≡◌, ◌∙◌, ap, map, rules, w32, to_z, of_z, string_bytes, None}
-use Rattle.std.proofs.lemmas.Int.{to_z-of_z}
-use Rattle.std.proofs.lemmas.Result.{err_from_is_err_and}
-use Rattle.lsp_frame.specs.Frame.{frame}
-use Rattle.lsp_edit.specs.Edited.{content_change}
-use Rattle.lsp_store.specs.Table as documents
-use Rattle.lsp_store.specs.Table.{Command, command_refusal}
-use Rattle.lsp_client.specs.Step.{ClientData, agreement}
-use Rattle.lsp_client.specs.inside.Orders.{whole_change}
+use Rattle.lsp_client.proofs.Prelude.{◌≡◌, ◌∙◌, ap, map, rules, w32, to_z, of_z, string_bytes, None, to_z-of_z, err_from_is_err_and, frame, content_change, Command, command_refusal, ClientData, agreement, whole_change}
 use Rattle.lsp_client.proofs.OrderLemmas.{refused_first}
 use Rattle.lsp_client.proofs.WholeLemmas.{planned_whole}
 use Rattle.lsp_client.proofs.SentLemmas.{order_sent, long_refused, body_within, whole_sent}
+use Rattle.lsp_store.specs.Table as documents
 use Rattle.lsp_client.proofs.client.Client.send_whole.Goals as goal
 
 pub returns-in_err-plan-clause-error : goal.returns-in_err-plan-clause-error

@@ -1,5 +1,4 @@
-use Rattle.std.proofs.Common.{refl}
-use Rattle.std.proofs.lemmas.Result.{IfOk-weaker}
+use Rattle.lsp_edit.proofs.Prelude.{refl, IfOk-weaker}
 use Rattle.lsp_edit.proofs.Deltas.OwnedLemmas.{delta_is}
 use Rattle.lsp_edit.proofs.delta.Delta.layer.Goals as goal
 

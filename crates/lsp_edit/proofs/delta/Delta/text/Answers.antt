@@ -1,7 +1,4 @@
-use Rattle.std.proofs.Common.{◌∙◌, subst}
-use Rattle.std.proofs.lemmas.Result.{IfOk-weaker}
-use Rattle.lsp_text.specs.Units.{units_in}
-use Rattle.lsp_edit.specs.Delta.{IsOn, IsPut}
+use Rattle.lsp_edit.proofs.Prelude.{◌∙◌, subst, IfOk-weaker, units_in, IsOn, IsPut}
 use Rattle.lsp_edit.proofs.Deltas.DeltaLemmas.{left_bytes, put_bytes}
 use Rattle.lsp_edit.proofs.delta.Delta.text.Goals as goal
 

@@ -1,6 +1,4 @@
-use Rattle.std.proofs.Common.{◌≡◌, ℕ, ◌+◌, ◌<◌, List, ◌∷◌, length, drop, get_or, arith, refl, sym, ap, ◌∙◌}
-use Rattle.std.proofs.lemmas.List.{drop_more}
-use Rattle.lsp_text.specs.Units.{units_in}
+use Rattle.lsp_edit.proofs.Prelude.{◌≡◌, ℕ, ◌+◌, ◌<◌, List, ◌∷◌, length, drop, slice_index_or as get_or, arith, refl, sym, ap, ◌∙◌, drop_more, units_in}
 use Rattle.lsp_edit.proofs.Deltas.DeltaLemmas.{putting_begins, putting_bounds, putting_ends, putting_on}
 use Rattle.lsp_edit.proofs.delta.Left.pieces.Goals as goal
 

@@ -1,8 +1,4 @@
-use Rattle.std.proofs.Common.{drop, map}
-use Rattle.std.specs.Str.{chars}
-use Rattle.lsp_text.specs.Units.{units_in}
-use Rattle.lsp_edit.specs.Batch.{meaning}
-use Rattle.lsp_edit.specs.Edited.{content_change}
+use Rattle.lsp_edit.proofs.Prelude.{drop, map, chars, units_in, meaning, content_change}
 use Rattle.lsp_edit.proofs.Deltas.DeltaLemmas.{IsPutting}
 use Rattle.lsp_edit.proofs.delta.Left.pieces.Given as goal
 

@@ -1,4 +1,4 @@
-use Rattle.std.proofs.Common.{arith}
+use Rattle.lsp_edit.proofs.Prelude.{arith}
 use Rattle.lsp_edit.proofs.Deltas.DeltaLemmas.{put_len, put_order, put_stop}
 use Rattle.lsp_edit.proofs.delta.Put.len_on.Goals as goal
 

@@ -1,9 +1,5 @@
-use Rattle.std.proofs.Common.{Some, subst}
+use Rattle.lsp_edit.proofs.Prelude.{Some, subst, chars, units_in, ContentChange, AreEndsIn}
 use Rattle.std.specs.Result.{IfOk}
-use Rattle.std.specs.Str.{chars}
-use Rattle.lsp_text.specs.Units.{units_in}
-use Rattle.lsp_edit.specs.Batch.{ContentChange}
-use Rattle.lsp_edit.specs.Delta.{AreEndsIn}
 use Rattle.lsp_edit.proofs.Composing.AppliedLemmas.{edit_is}
 use Rattle.lsp_edit.proofs.indexed.IndexedText.after.Goals as goal
 

@@ -1,7 +1,4 @@
-use Rattle.std.proofs.Common.{◌≡◌, ℕ, ◌+◌, ◌<◌, List, ◌∷◌, length, drop, get_or, sym, ap, ◌∙◌}
-use Rattle.std.proofs.lemmas.List.{drop_all, drop_more}
-use Rattle.std.proofs.lemmas.Result.{err_from_is_err_and}
-use Rattle.lsp_edit.specs.declared.change.Change.{Change}
+use Rattle.lsp_edit.proofs.Prelude.{◌≡◌, ℕ, ◌+◌, ◌<◌, List, ◌∷◌, length, drop, slice_index_or as get_or, sym, ap, ◌∙◌, drop_all, drop_more, err_from_is_err_and, Change}
 use Rattle.lsp_edit.proofs.Batches.TextBatchLemmas.{draft_faulted, drafted_ends, drafting_on}
 use Rattle.lsp_edit.proofs.indexed.IndexedText.after_all.Goals as goal
 

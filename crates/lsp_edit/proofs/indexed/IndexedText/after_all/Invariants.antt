@@ -1,8 +1,4 @@
-use Rattle.std.proofs.Common.{drop, map}
-use Rattle.std.specs.Str.{chars}
-use Rattle.lsp_text.specs.Units.{units_in}
-use Rattle.lsp_edit.specs.Edited.{content_change}
-use Rattle.lsp_edit.specs.inside.TextBatch.{AreTextEnds, text_after_changes}
+use Rattle.lsp_edit.proofs.Prelude.{drop, map, chars, units_in, content_change, AreTextEnds, text_after_changes}
 use Rattle.lsp_edit.proofs.Batches.TextBatchLemmas.{Drafting}
 use Rattle.lsp_edit.proofs.indexed.IndexedText.after_all.Given as goal
 

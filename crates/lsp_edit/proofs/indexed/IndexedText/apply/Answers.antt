@@ -1,11 +1,9 @@
-use Rattle.std.proofs.Common.{arith}
+use Rattle.lsp_edit.proofs.Prelude.{arith, common_steps}
 use Rattle.lsp_edit.proofs.Deltas.DeltaLemmas.{put_len, put_order, put_start, put_stop}
 use Rattle.lsp_edit.proofs.indexed.IndexedText.apply.Goals as goal
-use Rattle.std.proofs.lemmas.Grind.{common_steps}
 
 pub replace_range-requires-clause-order : goal.replace_range-requires-clause-order
-replace_range-requires-clause-order c =
-    grind (arith, common_steps, put_order, c.in-Put.is, c.requires.on)
+replace_range-requires-clause-order c = grind (arith, common_steps, put_order, c.in-Put.is, c.requires.on)
 
 pub replace_range-requires-clause-at_start : goal.replace_range-requires-clause-at_start
 replace_range-requires-clause-at_start c =

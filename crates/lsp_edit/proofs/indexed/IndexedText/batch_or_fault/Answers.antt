@@ -1,6 +1,4 @@
-use Rattle.std.proofs.lemmas.Result.{err_from_is_err_and}
-use Rattle.lsp_text.specs.Units.{units_in}
-use Rattle.lsp_edit.specs.Parts.{parts_of}
+use Rattle.lsp_edit.proofs.Prelude.{err_from_is_err_and, units_in, parts_of}
 use Rattle.lsp_edit.proofs.Canonical.GapLemmas.{ends_exact}
 use Rattle.lsp_edit.proofs.Batches.LawLemmas.{units_some}
 use Rattle.lsp_edit.proofs.Batches.LocatedLemmas.{batch_by_indexes, fault_by_indexes}

@@ -1,5 +1,4 @@
-use Rattle.std.proofs.Common.{map}
-use Rattle.lsp_edit.specs.Edited.{content_change}
+use Rattle.lsp_edit.proofs.Prelude.{map, content_change}
 use Rattle.lsp_edit.proofs.Deltas.DeltaLemmas.{canonical_is}
 use Rattle.lsp_edit.proofs.indexed.IndexedText.canonical.Goals as goal
 

@@ -1,9 +1,4 @@
-use Rattle.std.proofs.Common.{inr, map}
-use Rattle.std.proofs.lemmas.Result.{err_from_is_err_and}
-use Rattle.lsp_text.specs.Units.{units_in}
-use Rattle.std.specs.Str.{chars}
-use Rattle.lsp_edit.specs.Edited.{content_change}
-use Rattle.lsp_edit.specs.Items.{plain}
+use Rattle.lsp_edit.proofs.Prelude.{inr, map, err_from_is_err_and, units_in, chars, content_change, plain}
 use Rattle.lsp_edit.proofs.Batches.TextBatchLemmas.{ends_items, left_fault, left_too_long, left_within}
 use Rattle.lsp_edit.proofs.Composing.EditedLemmas.{plain_text}
 use Rattle.lsp_edit.proofs.indexed.IndexedText.draft.Goals as goal

@@ -1,14 +1,8 @@
+use Rattle.lsp_edit.proofs.Prelude.{err_from_is_err_and, chars, units_in, replaced_length, places_at, ends_of, common_steps}
 use Rattle.std.proofs.Common.{◌≡◌, refl, IsUtf8, inr, subst, arith, Ok}
-use Rattle.std.proofs.lemmas.Result.{err_from_is_err_and}
-use Rattle.std.specs.Str.{chars}
-use Rattle.lsp_text.specs.Units.{units_in}
-use Rattle.lsp_buffer.proofs.Changes.ChangeLemmas.{replaced_length}
-use Rattle.lsp_edit.specs.Faults.{places_at}
-use Rattle.lsp_edit.specs.Batch.{ends_of}
 use Rattle.lsp_edit.proofs.Composing.AppliedLemmas.{places_seen}
 use Rattle.lsp_edit.proofs.Deltas.InPlaceLemmas.{range_fault, range_means, range_order, range_stop, range_too_long, range_within}
 use Rattle.lsp_edit.proofs.indexed.IndexedText.put_delta.Goals as goal
-use Rattle.std.proofs.lemmas.Grind.{common_steps}
 
 pub returns-in_err-start-clause-error : goal.returns-in_err-start-clause-error
 returns-in_err-start-clause-error c =

@@ -1,8 +1,5 @@
-use Rattle.std.proofs.Common.{◌≡◌, ℕ, List, length, sym, ap, ◌∙◌, subst, arith, Ok}
-use Rattle.std.proofs.lemmas.Result.{err_from_is_err_and}
-use Rattle.std.specs.List.{replace_range}
+use Rattle.lsp_edit.proofs.Prelude.{◌≡◌, ℕ, List, length, sym, ap, ◌∙◌, subst, arith, Ok, err_from_is_err_and, replace_range, units_in}
 use Rattle.std.specs.Str.{IsCharBoundary, chars}
-use Rattle.lsp_text.specs.Units.{units_in}
 use Rattle.lsp_edit.proofs.Batches.TextBatchLemmas.{is_ranged, range_faulted}
 use Rattle.lsp_edit.proofs.Composing.AppliedLemmas.{places_seen}
 use Rattle.lsp_edit.proofs.indexed.IndexedText.with_range.Goals as goal

@@ -1,6 +1,4 @@
-use Rattle.std.proofs.Common.{ap, ◌∙◌}
-use Rattle.lsp_edit.specs.Joined.{JoinedData}
-use Rattle.lsp_edit.specs.Parts.{parts_of}
+use Rattle.lsp_edit.proofs.Prelude.{ap, ◌∙◌, JoinedData, parts_of}
 use Rattle.lsp_edit.proofs.Deltas.LayerLemmas.{folded_next, folded_order, folded_start, folded_through, rows_rest}
 use Rattle.lsp_edit.proofs.Canonical.GapLemmas.{ends_exact}
 use Rattle.lsp_edit.proofs.joined.Joined.canonical.Goals as goal

@@ -1,6 +1,4 @@
-use Rattle.std.proofs.Common.{drop, map}
-use Rattle.lsp_edit.specs.Layers.{layer_parts}
-use Rattle.lsp_edit.specs.Parts.{parts_of}
+use Rattle.lsp_edit.proofs.Prelude.{drop, map, layer_parts, parts_of}
 use Rattle.lsp_edit.proofs.Deltas.LayerLemmas.{IsFolded}
 use Rattle.lsp_edit.proofs.joined.Joined.canonical.Given as goal
 

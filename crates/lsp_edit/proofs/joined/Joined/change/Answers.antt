@@ -1,6 +1,4 @@
-use Rattle.std.proofs.Common.{sym, subst, ◌∙◌}
-use Rattle.lsp_edit.specs.Layers.{layer_parts}
-use Rattle.lsp_edit.specs.inside.Layers.{IsLayer}
+use Rattle.lsp_edit.proofs.Prelude.{sym, subst, ◌∙◌, layer_parts, IsLayer}
 use Rattle.lsp_edit.proofs.Deltas.LayerLemmas.{joined_seen, left_reached, more_all, more_is, more_joined}
 use Rattle.lsp_edit.proofs.Deltas.DeltaLemmas.{has_batch}
 use Rattle.lsp_edit.proofs.joined.Joined.change.Goals as goal

@@ -1,4 +1,4 @@
-use Rattle.std.proofs.Common.{◌≡◌}
+use Rattle.lsp_edit.proofs.Prelude.{◌≡◌}
 use Rattle.lsp_edit.proofs.joined.Joined.join.Given as goal
 
 abbrev pub invariant-loop : goal.invariant-loop

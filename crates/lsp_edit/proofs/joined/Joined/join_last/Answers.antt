@@ -1,8 +1,5 @@
-use Rattle.std.proofs.Common.{◌∙◌, arith}
-use Rattle.std.specs.Str.{chars}
-use Rattle.lsp_edit.specs.Items.{plain}
-use Rattle.lsp_edit.proofs.Deltas.OwnedLemmas.{last_all, last_same}
-use Rattle.lsp_edit.proofs.Deltas.OwnedLemmas.{last_through, last_order, two_last}
+use Rattle.lsp_edit.proofs.Prelude.{◌∙◌, arith, chars, plain}
+use Rattle.lsp_edit.proofs.Deltas.OwnedLemmas.{last_all, last_same, last_through, last_order, two_last}
 use Rattle.lsp_edit.proofs.joined.Joined.join_last.Goals as goal
 
 pub then-requires-clause-through : goal.then-requires-clause-through

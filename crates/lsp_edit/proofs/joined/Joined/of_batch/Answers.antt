@@ -1,13 +1,4 @@
-use Rattle.std.proofs.Common.{◌≡◌, ◌+◌, ℕ, List, Ok, map, sum_by, string_len, sym, ap, ◌∙◌, arith}
-use Rattle.std.specs.Slice.Iter.{chunks_rest}
-use Rattle.std.specs.Str.{chars}
-use Rattle.std.proofs.lemmas.List.{map-append}
-use Rattle.std.proofs.lemmas.List.Sums.{sum_by-append}
-use Rattle.lsp_text.specs.Units.{units_in}
-use Rattle.lsp_edit.specs.declared.change.Change.{Change}
-use Rattle.lsp_edit.specs.Batch.{ContentChange, meaning}
-use Rattle.lsp_edit.specs.Edited.{content_change}
-use Rattle.lsp_edit.specs.Indexed.{text_within}
+use Rattle.lsp_edit.proofs.Prelude.{◌≡◌, ◌+◌, ℕ, List, Ok, map, sum_by, string_len, sym, ap, ◌∙◌, arith, chunks_rest, chars, map-append, sum_by-append, units_in, Change, ContentChange, meaning, content_change, text_within}
 use Rattle.lsp_edit.proofs.Deltas.SeriesLemmas.{series_next}
 use Rattle.lsp_edit.proofs.joined.Joined.of_batch.Goals as goal
 

@@ -1,8 +1,4 @@
-use Rattle.std.proofs.Common.{◌≤◌, ◌<◌, map, sum_by, string_len}
-use Rattle.std.specs.Slice.Iter.{chunks_rest, chunks_size}
-use Rattle.lsp_text.specs.Units.{units_in}
-use Rattle.lsp_edit.specs.declared.change.Change.{Change}
-use Rattle.lsp_edit.specs.Edited.{content_change}
+use Rattle.lsp_edit.proofs.Prelude.{◌≤◌, ◌<◌, map, sum_by, string_len, chunks_rest, chunks_size, units_in, Change, content_change}
 use Rattle.lsp_edit.proofs.Deltas.SeriesLemmas.{IsSeries}
 use Rattle.lsp_edit.proofs.joined.Joined.of_batch.Given as goal
 

@@ -1,6 +1,4 @@
-use Rattle.std.proofs.Common.{ℕ, List, ap, ◌∙◌}
-use Rattle.std.specs.Str.{chars}
-use Rattle.lsp_edit.specs.Items.{plain}
+use Rattle.lsp_edit.proofs.Prelude.{ℕ, List, ap, ◌∙◌, chars, plain}
 use Rattle.lsp_edit.proofs.Deltas.LayerLemmas.{first_reached}
 use Rattle.lsp_edit.proofs.joined.Joined.over.Goals as goal
 

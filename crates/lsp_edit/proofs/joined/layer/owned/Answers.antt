@@ -1,12 +1,8 @@
-use Rattle.std.proofs.Common.{◌++◌, List, ap, subst, string_bytes}
-use Rattle.std.proofs.lemmas.Str.{IsUtf8-string_bytes}
-use Rattle.lsp_edit.specs.Layers.{owned_parts}
-use Rattle.lsp_edit.specs.inside.Layers.{AreSameItems}
-use Rattle.lsp_edit.specs.Parts.{Part, OldPart, NewPart, new_parts, part_of, parts_of}
+use Rattle.lsp_edit.proofs.Prelude.{◌++◌, List, ap, subst, string_bytes, IsUtf8-string_bytes, owned_parts, AreSameItems, Part, OldPart, NewPart, new_parts, part_of, parts_of}
 use Rattle.lsp_edit.proofs.Deltas.OwnedLemmas.{same_ends, same_new, same_old_on}
 use Rattle.lsp_edit.proofs.Canonical.WalkLemmas.{rest_is, rest_none}
-use Rattle.lsp_edit.proofs.joined.layer.owned.Goals as goal
 use Rattle.lsp_edit.proofs.joined.layer.owned.Goals.{in-Old+in_ok-push_new-in-Old+in_ok-push-in-Old, in-New+in_ok-push_str-in-New}
+use Rattle.lsp_edit.proofs.joined.layer.owned.Goals as goal
 
 pub loop-span-preserved : goal.loop-span-preserved
 loop-span-preserved c =

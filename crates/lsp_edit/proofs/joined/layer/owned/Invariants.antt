@@ -1,7 +1,4 @@
-use Rattle.std.proofs.Common.{◌++◌, drop, string_bytes}
-use Rattle.lsp_edit.specs.Layers.{owned_parts}
-use Rattle.lsp_edit.specs.inside.Layers.{AreSameItems}
-use Rattle.lsp_edit.specs.Parts.{new_parts, parts_of}
+use Rattle.lsp_edit.proofs.Prelude.{◌++◌, drop, string_bytes, owned_parts, AreSameItems, new_parts, parts_of}
 use Rattle.lsp_edit.proofs.joined.layer.owned.Given as goal
 
 abbrev pub invariant-loop-span : goal.invariant-loop-span

@@ -1,7 +1,4 @@
-use Rattle.std.proofs.Common.{subst, None}
-use Rattle.lsp_text.specs.Units.{units_in}
-use Rattle.lsp_edit.specs.Batch.{ContentChange}
-use Rattle.lsp_edit.specs.Edited.{Applied}
+use Rattle.lsp_edit.proofs.Prelude.{subst, None, units_in, ContentChange, Applied}
 use Rattle.lsp_edit.proofs.Composing.AppliedLemmas.{edit_is}
 use Rattle.lsp_edit.proofs.pieces.Pieces.apply.Goals as goal
 

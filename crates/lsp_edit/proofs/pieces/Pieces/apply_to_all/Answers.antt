@@ -1,8 +1,4 @@
-use Rattle.std.proofs.Common.{length, arith, None}
-use Rattle.std.specs.Str.{chars}
-use Rattle.lsp_edit.specs.Parts.{parts_of, new_parts}
-use Rattle.lsp_edit.specs.Spans.{spans_in}
-use Rattle.lsp_edit.specs.inside.Before.{text_before}
+use Rattle.lsp_edit.proofs.Prelude.{length, arith, None, chars, parts_of, new_parts, spans_in, text_before}
 use Rattle.lsp_edit.proofs.Parts.PutLemmas.{new_few}
 use Rattle.lsp_edit.proofs.Composing.AppliedLemmas.{IsNext, all_next, room_told, next_told, next_holds}
 use Rattle.lsp_edit.proofs.Composing.SpannedLemmas.{same_edited}

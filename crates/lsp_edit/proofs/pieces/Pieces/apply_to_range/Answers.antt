@@ -1,11 +1,4 @@
-use Rattle.std.proofs.Common.{◌≡◌, ℕ, Some, Result, Ok, subst, sym}
-use Rattle.std.specs.Str.{chars}
-use Rattle.lsp_text.specs.Units.{units_in}
-use Rattle.lsp_edit.specs.declared.fault.EditFault.{EditFault}
-use Rattle.lsp_edit.specs.Batch.{ends_of}
-use Rattle.lsp_edit.specs.Edited.{Applied, PiecesData, edited_text}
-use Rattle.lsp_edit.specs.Faults.{places_at}
-use Rattle.lsp_edit.specs.inside.Faults.{HasRange}
+use Rattle.lsp_edit.proofs.Prelude.{◌≡◌, ℕ, Some, Result, Ok, subst, sym, chars, units_in, EditFault, ends_of, Applied, PiecesData, edited_text, places_at, HasRange}
 use Rattle.lsp_edit.proofs.Composing.AppliedLemmas.{places_found}
 use Rattle.lsp_edit.proofs.pieces.Pieces.apply_to_range.Goals as goal
 

@@ -1,4 +1,4 @@
-use Rattle.std.proofs.Common.{refl}
+use Rattle.lsp_edit.proofs.Prelude.{refl}
 use Rattle.lsp_edit.proofs.Composing.EditedLemmas.{whole_is, begun}
 use Rattle.lsp_edit.proofs.pieces.Pieces.begin.Goals as goal
 

@@ -1,4 +1,4 @@
-use Rattle.lsp_text.specs.Units.{units_in}
+use Rattle.lsp_edit.proofs.Prelude.{units_in}
 use Rattle.lsp_edit.proofs.Composing.AppliedLemmas.{keeps_seen}
 use Rattle.lsp_edit.proofs.Canonical.GapLemmas.{ends_exact}
 use Rattle.lsp_edit.proofs.Batches.LawLemmas.{canonical_law, units_some}

@@ -1,9 +1,4 @@
-use Rattle.std.proofs.Common.{◌≡◌, length, arith, sym, ap, ◌∙◌, leb-true, le-leb, encode_utf8_all}
-use Rattle.std.specs.Str.{chars}
-use Rattle.lsp_edit.specs.Items.{text_of}
-use Rattle.lsp_edit.specs.Parts.{parts_of, items_of}
-use Rattle.lsp_edit.specs.Spans.{spans_in}
-use Rattle.lsp_edit.specs.inside.Before.{text_before}
+use Rattle.lsp_edit.proofs.Prelude.{◌≡◌, length, arith, sym, ap, ◌∙◌, leb-true, le-leb, encode_utf8_all, chars, text_of, parts_of, items_of, spans_in, text_before}
 use Rattle.lsp_edit.proofs.Composing.EditedLemmas.{now_bytes}
 use Rattle.lsp_edit.proofs.Composing.SpannedLemmas.{same_edited}
 use Rattle.lsp_edit.proofs.pieces.Pieces.has_room.Goals as goal

@@ -1,10 +1,4 @@
-use Rattle.std.proofs.Common.{ℕ, List, sym, ap, ap₂, ◌∙◌}
-use Rattle.std.specs.Str.{chars}
-use Rattle.lsp_text.specs.Units.{units_in}
-use Rattle.lsp_edit.specs.Edited.{PlainData, edited_text}
-use Rattle.lsp_edit.specs.declared.pieces.span.Span.{Span}
-use Rattle.lsp_edit.specs.Parts.{bytes_of, parts_of}
-use Rattle.lsp_edit.specs.inside.Before.{text_before}
+use Rattle.lsp_edit.proofs.Prelude.{ℕ, List, sym, ap, ap₂, ◌∙◌, chars, units_in, PlainData, edited_text, Span, bytes_of, parts_of, text_before}
 use Rattle.lsp_edit.proofs.Composing.AppliedLemmas.{places_seen}
 use Rattle.lsp_edit.proofs.Composing.EditedLemmas.{now_chars, fresh_chars, places_told}
 use Rattle.lsp_edit.proofs.Composing.SpannedLemmas.{same_edited}

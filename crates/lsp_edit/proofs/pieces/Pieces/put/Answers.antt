@@ -1,16 +1,9 @@
-use Rattle.std.proofs.Common.{◌≡◌, ◌<◌, ℕ, List, length, arith, sym, ap, ◌∙◌}
-use Rattle.std.specs.List.{replace_range}
-use Rattle.std.proofs.lemmas.List.{length-map}
-use Rattle.lsp_edit.specs.Parts.{Part, part_of, parts_of, bytes_of}
-use Rattle.lsp_edit.specs.inside.Parts.{replaced_parts}
-use Rattle.lsp_edit.specs.Spans.{spans_in}
-use Rattle.lsp_edit.specs.Edited.{IsCurrent}
-use Rattle.lsp_edit.specs.inside.Before.{text_before}
+use Rattle.lsp_edit.proofs.Prelude.{◌≡◌, ◌<◌, ℕ, List, length, arith, sym, ap, ◌∙◌, replace_range, length-map, Part, part_of, parts_of, bytes_of, replaced_parts, spans_in, IsCurrent, text_before}
 use Rattle.lsp_edit.proofs.Composing.CurrentLemmas.{current_is, current_utf8}
 use Rattle.lsp_edit.proofs.Composing.AppliedLemmas.{IsRanged, ranged, next_told, next_holds}
 use Rattle.lsp_edit.proofs.Composing.SpannedLemmas.{same_edited}
-use Rattle.lsp_edit.proofs.pieces.Pieces.put.Goals as goal
 use Rattle.lsp_edit.proofs.pieces.Pieces.put.Goals.{in-None, in-Some+in_ok-replaced-in-Some}
+use Rattle.lsp_edit.proofs.pieces.Pieces.put.Goals as goal
 
 pub replace-requires-clause-at_start : goal.replace-requires-clause-at_start
 replace-requires-clause-at_start c =

@@ -1,6 +1,4 @@
-use Rattle.std.proofs.Common.{None, Some, subst}
-use Rattle.lsp_edit.specs.Batch.{ContentChange}
-use Rattle.lsp_edit.specs.Edited.{Applied}
+use Rattle.lsp_edit.proofs.Prelude.{None, Some, subst, ContentChange, Applied}
 use Rattle.lsp_edit.proofs.Composing.AppliedLemmas.{edit_is}
 use Rattle.lsp_edit.proofs.pieces.Pieces.put_change.Goals as goal
 

@@ -1,9 +1,4 @@
-use Rattle.std.proofs.Common.{List, ℕ, ap, sym, ◌∙◌, subst}
-use Rattle.std.proofs.lemmas.Str.{IsUtf8-from_is_utf8, encodes-chars}
-use Rattle.lsp_edit.specs.Edited.{before_bytes}
-use Rattle.lsp_edit.specs.Parts.{AreParts, parts_of}
-use Rattle.lsp_edit.specs.Spans.{spans_in}
-use Rattle.lsp_edit.specs.inside.Before.{text_before}
+use Rattle.lsp_edit.proofs.Prelude.{List, ℕ, ap, sym, ◌∙◌, subst, IsUtf8-from_is_utf8, encodes-chars, before_bytes, AreParts, parts_of, spans_in, text_before}
 use Rattle.lsp_edit.proofs.Batches.LawLemmas.{none_empty}
 use Rattle.lsp_edit.proofs.Composing.ThenLemmas.{pieces_ascend}
 use Rattle.lsp_edit.proofs.Composing.SpannedLemmas.{same_edited}

@@ -1,5 +1,4 @@
-use Rattle.std.proofs.Common.{length, sym, ap, ◌∙◌}
-use Rattle.lsp_edit.specs.Edited.{PlainData, edited_bytes}
+use Rattle.lsp_edit.proofs.Prelude.{length, sym, ap, ◌∙◌, PlainData, edited_bytes}
 use Rattle.lsp_edit.proofs.Composing.EditedLemmas.{now_bytes}
 use Rattle.lsp_edit.proofs.Composing.SpannedLemmas.{same_edited}
 use Rattle.lsp_edit.proofs.pieces.Pieces.text_len.Goals as goal

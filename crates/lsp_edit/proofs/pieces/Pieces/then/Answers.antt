@@ -1,10 +1,4 @@
-use Rattle.std.proofs.Common.{ℕ, ◌≡◌, List, length, Ok, ap, ◌∙◌, subst, arith}
-use Rattle.std.proofs.lemmas.List.{length-map}
-use Rattle.lsp_edit.specs.Batch.{meaning}
-use Rattle.lsp_edit.specs.Parts.{part_of, parts_of}
-use Rattle.lsp_edit.specs.inside.Parts.{through_parts}
-use Rattle.lsp_edit.specs.Spans.{spans_in}
-use Rattle.lsp_edit.specs.inside.Before.{text_before}
+use Rattle.lsp_edit.proofs.Prelude.{ℕ, ◌≡◌, List, length, Ok, ap, ◌∙◌, subst, arith, length-map, meaning, part_of, parts_of, through_parts, spans_in, text_before}
 use Rattle.lsp_edit.proofs.Batches.ComposeLemmas.{then_means, then_associative}
 use Rattle.lsp_edit.proofs.Composing.ThenLemmas.{AreOver, over_seen, over_through, over_order, then_holds, then_told}
 use Rattle.lsp_edit.proofs.Composing.SpannedLemmas.{same_edited}

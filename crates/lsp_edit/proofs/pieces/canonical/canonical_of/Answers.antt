@@ -1,12 +1,7 @@
-use Rattle.std.proofs.Common.{ℕ, ◌++◌, map, reverse, string_bytes, ap, ◌∙◌}
-use Rattle.std.proofs.lemmas.Str.{IsUtf8-string_bytes}
-use Rattle.lsp_text.specs.Units.{units_in}
-use Rattle.lsp_edit.specs.Edited.{content_change}
-use Rattle.lsp_edit.specs.inside.Gaps.{gap_change}
-use Rattle.lsp_edit.specs.Parts.{OldPart, NewPart, part_of, parts_of}
+use Rattle.lsp_edit.proofs.Prelude.{ℕ, ◌++◌, map, reverse, string_bytes, ap, ◌∙◌, IsUtf8-string_bytes, units_in, content_change, gap_change, OldPart, NewPart, part_of, parts_of}
 use Rattle.lsp_edit.proofs.Canonical.WalkLemmas.{walk_begins, walk_new, walk_old, walk_old_ends, walk_end, walk_end_ends, walk_turned, rest_is, rest_none}
-use Rattle.lsp_edit.proofs.pieces.canonical.canonical_of.Goals as goal
 use Rattle.lsp_edit.proofs.pieces.canonical.canonical_of.Goals.{in-Old+in_ok-put_gap-in-Old, in-New+in_ok-push_str-in-New}
+use Rattle.lsp_edit.proofs.pieces.canonical.canonical_of.Goals as goal
 
 pub loop-span-init : goal.loop-span-init
 loop-span-init c = rw (

@@ -1,9 +1,4 @@
-use Rattle.std.proofs.Common.{drop, map, string_bytes}
-use Rattle.std.specs.Str.{chars}
-use Rattle.lsp_text.specs.Units.{units_in}
-use Rattle.lsp_edit.specs.Canonical.{gaps}
-use Rattle.lsp_edit.specs.Edited.{content_change}
-use Rattle.lsp_edit.specs.Parts.{items_of, parts_of}
+use Rattle.lsp_edit.proofs.Prelude.{drop, map, string_bytes, chars, units_in, gaps, content_change, items_of, parts_of}
 use Rattle.lsp_edit.proofs.Canonical.WalkLemmas.{Walks, changes_of}
 use Rattle.lsp_edit.proofs.pieces.canonical.canonical_of.Given as goal
 

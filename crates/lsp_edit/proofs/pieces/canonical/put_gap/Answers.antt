@@ -1,8 +1,7 @@
-use Rattle.std.proofs.Common.{◌<◌, ◌⊎◌, length, inl, inr, string_bytes, refl}
-use Rattle.lsp_text.specs.Units.{units_in}
+use Rattle.lsp_edit.proofs.Prelude.{◌<◌, ◌⊎◌, length, inl, inr, string_bytes, refl, units_in}
 use Rattle.lsp_edit.proofs.Canonical.WalkLemmas.{gap_put, gap_skipped, text_some, text_none}
-use Rattle.lsp_edit.proofs.pieces.canonical.put_gap.Goals as goal
 use Rattle.lsp_edit.proofs.pieces.canonical.put_gap.Goals.{then-low-high-via-then-low-high, then-low-high-via-else-low-high+then-not-is_empty}
+use Rattle.lsp_edit.proofs.pieces.canonical.put_gap.Goals as goal
 
 pub position-stop-requires : goal.position-stop-requires
 position-stop-requires c =

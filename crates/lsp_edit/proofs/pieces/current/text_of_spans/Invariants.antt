@@ -1,5 +1,4 @@
-use Rattle.std.proofs.Common.{◌≡◌, ◌++◌, drop, string_bytes}
-use Rattle.lsp_edit.specs.Parts.{AreParts, bytes_of, parts_of}
+use Rattle.lsp_edit.proofs.Prelude.{◌≡◌, ◌++◌, drop, string_bytes, AreParts, bytes_of, parts_of}
 use Rattle.lsp_edit.proofs.pieces.current.text_of_spans.Given as goal
 
 abbrev pub invariant-loop-span : goal.invariant-loop-span

@@ -1,7 +1,6 @@
-use Rattle.std.proofs.Common.{◌-◌, arith}
+use Rattle.lsp_edit.proofs.Prelude.{◌-◌, arith, common_steps}
 use Rattle.lsp_edit.proofs.Parts.MarkLemmas.{span_ordered}
 use Rattle.lsp_edit.proofs.pieces.replace.back_to.Goals as goal
-use Rattle.std.proofs.lemmas.Grind.{common_steps}
 
 pub len-passed-requires : goal.len-passed-requires
 len-passed-requires c =

@@ -1,4 +1,4 @@
-use Rattle.lsp_edit.specs.inside.Parts.{IsMark}
+use Rattle.lsp_edit.proofs.Prelude.{IsMark}
 use Rattle.lsp_edit.proofs.pieces.replace.back_to.Given as goal
 
 abbrev pub invariant-loop-index : goal.invariant-loop-index

@@ -1,7 +1,6 @@
-use Rattle.std.proofs.Common.{arith}
+use Rattle.lsp_edit.proofs.Prelude.{arith, common_steps}
 use Rattle.lsp_edit.proofs.Parts.PassingLemmas.{ended_behind}
 use Rattle.lsp_edit.proofs.pieces.replace.ended_by.Goals as goal
-use Rattle.std.proofs.lemmas.Grind.{common_steps}
 
 pub returns-clause-front : goal.returns-clause-front
 returns-clause-front c =

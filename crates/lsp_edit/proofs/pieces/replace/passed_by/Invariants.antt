@@ -1,6 +1,4 @@
-use Rattle.std.proofs.Common.{take, drop}
-use Rattle.lsp_edit.specs.Parts.{parts_of}
-use Rattle.lsp_edit.specs.inside.Parts.{IsMark}
+use Rattle.lsp_edit.proofs.Prelude.{take, drop, parts_of, IsMark}
 use Rattle.lsp_edit.proofs.Parts.PassingLemmas.{Passing}
 use Rattle.lsp_edit.proofs.pieces.replace.passed_by.Given as goal
 

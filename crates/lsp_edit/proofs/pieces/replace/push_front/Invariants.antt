@@ -1,5 +1,4 @@
-use Rattle.std.proofs.Common.{drop}
-use Rattle.lsp_edit.specs.Parts.{parts_of}
+use Rattle.lsp_edit.proofs.Prelude.{drop, parts_of}
 use Rattle.lsp_edit.proofs.Parts.PartLemmas.{Fronts}
 use Rattle.lsp_edit.proofs.pieces.replace.push_front.Given as goal
 

@@ -1,8 +1,7 @@
-use Rattle.std.proofs.Common.{ℕ, ◌++◌, ◌-◌, ◌+◌, take, drop, ap, ◌∙◌, arith}
+use Rattle.lsp_edit.proofs.Prelude.{ℕ, ◌++◌, ◌-◌, ◌+◌, take, drop, ap, ◌∙◌, arith, common_steps}
 use Rattle.lsp_edit.proofs.Parts.PassingLemmas.{rest_all, drop_ordered}
 use Rattle.lsp_edit.proofs.Parts.SpansLemmas.{drained_is, replaced_spans}
 use Rattle.lsp_edit.proofs.pieces.replace.replace.Goals as goal
-use Rattle.std.proofs.lemmas.Grind.{common_steps}
 
 pub passed_by-last-requires-clause-ordered : goal.passed_by-last-requires-clause-ordered
 passed_by-last-requires-clause-ordered c =

@@ -1,4 +1,4 @@
-use Rattle.std.proofs.Common.{arith}
+use Rattle.lsp_edit.proofs.Prelude.{arith}
 use Rattle.lsp_edit.proofs.Parts.PassingLemmas.{span_passed}
 use Rattle.lsp_edit.proofs.pieces.through.push_between.Goals as goal
 

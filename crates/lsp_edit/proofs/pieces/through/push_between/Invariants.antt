@@ -1,6 +1,4 @@
-use Rattle.std.proofs.Common.{◌≡◌, drop}
-use Rattle.lsp_edit.specs.Parts.{parts_of}
-use Rattle.lsp_edit.specs.inside.Parts.{ArePassed}
+use Rattle.lsp_edit.proofs.Prelude.{◌≡◌, drop, parts_of, ArePassed}
 use Rattle.lsp_edit.proofs.pieces.through.push_between.Given as goal
 
 abbrev pub invariant-loop-index : goal.invariant-loop-index

@@ -1,11 +1,9 @@
-use Rattle.std.proofs.Common.{◌≡◌, ◌-◌, length, take, drop, ap, arith, drop-drop}
-use Rattle.std.proofs.lemmas.List.{length-drop}
-use Rattle.lsp_edit.specs.Parts.{OldPart, NewPart, parts_of, part_of}
+use Rattle.lsp_edit.proofs.Prelude.{◌≡◌, ◌-◌, length, take, drop, ap, arith, drop-drop, length-drop, OldPart, NewPart, parts_of, part_of}
 use Rattle.lsp_edit.proofs.Parts.PassedLemmas.{walk_new, walk_old}
 use Rattle.lsp_edit.proofs.Parts.PassingLemmas.{rest_all}
 use Rattle.lsp_edit.proofs.Canonical.WalkLemmas.{rest_is}
-use Rattle.lsp_edit.proofs.pieces.through.spans_through.Goals as goal
 use Rattle.lsp_edit.proofs.pieces.through.spans_through.Goals.{in-Old+in_ok-count-in-Old, in-New+in_ok-put-in-New}
+use Rattle.lsp_edit.proofs.pieces.through.spans_through.Goals as goal
 
 pub loop-span-preserved : goal.loop-span-preserved
 loop-span-preserved c =

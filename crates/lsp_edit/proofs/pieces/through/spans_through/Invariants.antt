@@ -1,5 +1,4 @@
-use Rattle.std.proofs.Common.{◌≤◌, drop, length}
-use Rattle.lsp_edit.specs.Parts.{parts_of}
+use Rattle.lsp_edit.proofs.Prelude.{◌≤◌, drop, length, parts_of}
 use Rattle.lsp_edit.proofs.Parts.PassedLemmas.{Walks}
 use Rattle.lsp_edit.proofs.pieces.through.spans_through.Given as goal
 

@@ -1,14 +1,7 @@
-use Rattle.std.proofs.Common.{ℕ, List, ◌≡◌, length, map, Some, Ok, ap, ◌∙◌, sym, string_bytes, string_len}
-use Rattle.std.specs.Str.{chars}
-use Rattle.std.proofs.lemmas.Str.{encodes-chars, IsUtf8-string_bytes}
-use Rattle.lsp_text.specs.Units.{units_in}
-use Rattle.lsp_edit.specs.Batch.{items_after, changed_in}
-use Rattle.lsp_edit.specs.Edited.{content_change}
-use Rattle.lsp_edit.specs.Items.{Item, New}
-use Rattle.lsp_edit.specs.Plain.{items_in_order}
+use Rattle.lsp_edit.proofs.Prelude.{ℕ, List, ◌≡◌, length, map, Some, Ok, ap, ◌∙◌, sym, string_bytes, string_len, chars, encodes-chars, IsUtf8-string_bytes, units_in, items_after, changed_in, content_change, Item, New, items_in_order}
 use Rattle.lsp_edit.proofs.Batches.PlainLemmas.{plain_next}
-use Rattle.lsp_edit.proofs.plain.Plain.apply.Goals as goal
 use Rattle.lsp_edit.proofs.plain.Plain.apply.Goals.{in-None+in_ok-items-in-None, in-Some+in_ok-items-in-Some}
+use Rattle.lsp_edit.proofs.plain.Plain.apply.Goals as goal
 
 pub invariant_of-self : goal.invariant_of-self
 invariant_of-self c =

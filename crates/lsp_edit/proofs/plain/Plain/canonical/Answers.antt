@@ -1,4 +1,4 @@
-use Rattle.lsp_text.specs.Units.{units_in}
+use Rattle.lsp_edit.proofs.Prelude.{units_in}
 use Rattle.lsp_edit.proofs.Batches.LawLemmas.{canonical_law, units_some}
 use Rattle.lsp_edit.proofs.Canonical.PairLemmas.{pairs_kept}
 use Rattle.lsp_edit.proofs.Batches.PlainLemmas.{plain_seen}

@@ -1,10 +1,4 @@
-use Rattle.std.proofs.Common.{◌≡◌, length, sym, ap, ◌∙◌, arith}
-use Rattle.std.specs.Str.{chars}
-use Rattle.std.proofs.lemmas.List.{length-map}
-use Rattle.std.proofs.lemmas.Result.{err_from_is_err_and}
-use Rattle.lsp_text.specs.Units.{units_in}
-use Rattle.lsp_edit.specs.Edited.{PlainData}
-use Rattle.lsp_edit.specs.Plain.{item_of, items_in_order}
+use Rattle.lsp_edit.proofs.Prelude.{◌≡◌, length, sym, ap, ◌∙◌, arith, chars, length-map, err_from_is_err_and, units_in, PlainData, item_of, items_in_order}
 use Rattle.lsp_edit.proofs.Composing.AppliedLemmas.{fault_told}
 use Rattle.lsp_edit.proofs.Composing.EditedLemmas.{edited_chars, places_told}
 use Rattle.lsp_edit.proofs.Batches.PlainLemmas.{AreFound, found, range_put}
@@ -40,10 +34,8 @@ put_between-requires-clause-order c =
     = found (units_in c.args.encoding) c.args.self.now c.args.range c.self.inside.changes c.in_ok-start.start
     c.in_ok-start.stop c.as_str-current.result.now c.as_str-current.utf8
     (c.as_str-current.ensures.value ∙ c.in_ok-now.ensures) c.in_ok-start.ensures in
-    let low : c.in_ok-low.low ≡ r.ends.low =
-    c.in_ok-low.ensures ∙ r.low in
-    let high : c.in_ok-high.high ≡ r.ends.high =
-    c.in_ok-high.ensures ∙ r.high in
+    let low : c.in_ok-low.low ≡ r.ends.low = c.in_ok-low.ensures ∙ r.low in
+    let high : c.in_ok-high.high ≡ r.ends.high = c.in_ok-high.ensures ∙ r.high in
     omega (arith, r.ends.order)
 
 pub put_between-requires-clause-within : goal.put_between-requires-clause-within
@@ -53,8 +45,7 @@ put_between-requires-clause-within c =
     = found (units_in c.args.encoding) c.args.self.now c.args.range c.self.inside.changes c.in_ok-start.start
     c.in_ok-start.stop c.as_str-current.result.now c.as_str-current.utf8
     (c.as_str-current.ensures.value ∙ c.in_ok-now.ensures) c.in_ok-start.ensures in
-    let high : c.in_ok-high.high ≡ r.ends.high =
-    c.in_ok-high.ensures ∙ r.high in
+    let high : c.in_ok-high.high ≡ r.ends.high = c.in_ok-high.ensures ∙ r.high in
     omega (
       arith,
       r.within,

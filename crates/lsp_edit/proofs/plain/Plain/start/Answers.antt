@@ -1,4 +1,4 @@
-use Rattle.std.proofs.Common.{◌∙◌}
+use Rattle.lsp_edit.proofs.Prelude.{◌∙◌}
 use Rattle.lsp_edit.proofs.Batches.PlainLemmas.{plain_begins}
 use Rattle.lsp_edit.proofs.plain.Plain.start.Goals as goal
 

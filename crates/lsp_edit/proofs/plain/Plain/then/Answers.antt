@@ -1,8 +1,4 @@
-use Rattle.std.proofs.Common.{ℕ, ◌≡◌, Ok, ap, ap₂, sym, subst, ◌∙◌, List}
-use Rattle.lsp_edit.specs.Items.{Item}
-use Rattle.lsp_edit.specs.Batch.{meaning}
-use Rattle.lsp_edit.specs.Compose.{then_items}
-use Rattle.lsp_edit.specs.Plain.{ArePlain, items_in_order}
+use Rattle.lsp_edit.proofs.Prelude.{ℕ, ◌≡◌, Ok, ap, ap₂, sym, subst, ◌∙◌, List, Item, meaning, then_items, ArePlain, items_in_order}
 use Rattle.lsp_edit.proofs.Batches.ComposeLemmas.{then_means, then_associative}
 use Rattle.lsp_edit.proofs.Batches.PlainLemmas.{over_plain, then_plain}
 use Rattle.lsp_edit.proofs.plain.Plain.then.Goals as goal

@@ -1,5 +1,4 @@
-use Rattle.std.proofs.Common.{rules}
-use Rattle.std.proofs.lemmas.Str.{chars_from_encodes}
+use Rattle.lsp_edit.proofs.Prelude.{rules, chars_from_encodes}
 use Rattle.lsp_edit.proofs.plain.items.characters.Goals as goal
 
 pub returns : goal.returns

@@ -1,4 +1,4 @@
-use Rattle.std.proofs.Common.{◌≡◌, ◌++◌, drop, string_bytes, encode_utf8_all}
+use Rattle.lsp_edit.proofs.Prelude.{◌≡◌, ◌++◌, drop, string_bytes, encode_utf8_all}
 use Rattle.lsp_edit.proofs.plain.items.encoded.Given as goal
 
 abbrev pub invariant-loop-character : goal.invariant-loop-character

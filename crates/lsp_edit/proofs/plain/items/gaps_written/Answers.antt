@@ -1,14 +1,8 @@
-use Rattle.std.proofs.Common.{ℕ, List, ◌+◌, ◌++◌, length, map, ap, ap₂, ◌∙◌, arith, reverse}
-use Rattle.std.specs.Str.{chars}
-use Rattle.lsp_text.specs.Units.{units_in}
-use Rattle.lsp_edit.specs.Items.{Old, New}
-use Rattle.lsp_edit.specs.Plain.{item_of, items_in_order}
-use Rattle.lsp_edit.specs.inside.Plain.{gap_at, change_at}
-use Rattle.lsp_edit.specs.Edited.{content_change}
+use Rattle.lsp_edit.proofs.Prelude.{ℕ, List, ◌+◌, ◌++◌, length, map, ap, ap₂, ◌∙◌, arith, reverse, chars, units_in, Old, New, item_of, items_in_order, gap_at, change_at, content_change}
 use Rattle.lsp_edit.proofs.Batches.PlainLemmas.{write_begins, write_new, write_old, write_end, item_rest, item_none}
 use Rattle.lsp_edit.proofs.Canonical.WalkLemmas.{walk_turned}
-use Rattle.lsp_edit.proofs.plain.items.gaps_written.Goals as goal
 use Rattle.lsp_edit.proofs.plain.items.gaps_written.Goals.{in-Old+in_ok-put_gap-in-Old, in-New+in_ok-push-in-New}
+use Rattle.lsp_edit.proofs.plain.items.gaps_written.Goals as goal
 
 pub loop-item-init : goal.loop-item-init
 loop-item-init c = rw (

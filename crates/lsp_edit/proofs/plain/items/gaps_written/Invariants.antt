@@ -1,9 +1,4 @@
-use Rattle.std.proofs.Common.{drop, map}
-use Rattle.std.specs.Str.{chars}
-use Rattle.lsp_text.specs.Units.{units_in}
-use Rattle.lsp_edit.specs.Canonical.{gaps}
-use Rattle.lsp_edit.specs.Edited.{content_change}
-use Rattle.lsp_edit.specs.Plain.{items_in_order}
+use Rattle.lsp_edit.proofs.Prelude.{drop, map, chars, units_in, gaps, content_change, items_in_order}
 use Rattle.lsp_edit.proofs.Canonical.WalkLemmas.{changes_of}
 use Rattle.lsp_edit.proofs.Batches.PlainLemmas.{Writes}
 use Rattle.lsp_edit.proofs.plain.items.gaps_written.Given as goal

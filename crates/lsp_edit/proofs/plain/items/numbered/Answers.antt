@@ -1,4 +1,4 @@
-use Rattle.std.proofs.Common.{refl}
+use Rattle.lsp_edit.proofs.Prelude.{refl}
 use Rattle.lsp_edit.proofs.Batches.PlainLemmas.{numbered_on}
 use Rattle.lsp_edit.proofs.plain.items.numbered.Goals as goal
 

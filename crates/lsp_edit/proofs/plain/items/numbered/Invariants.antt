@@ -1,7 +1,4 @@
-use Rattle.std.proofs.Common.{◌≡◌, map}
-use Rattle.lsp_text.specs.TextLines.{numbers_from}
-use Rattle.lsp_edit.specs.Items.{Old}
-use Rattle.lsp_edit.specs.Plain.{items_in_order}
+use Rattle.lsp_edit.proofs.Prelude.{◌≡◌, map, numbers_from, Old, items_in_order}
 use Rattle.lsp_edit.proofs.plain.items.numbered.Given as goal
 
 abbrev pub invariant-loop-index : goal.invariant-loop-index

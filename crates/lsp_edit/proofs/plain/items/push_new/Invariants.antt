@@ -1,6 +1,4 @@
-use Rattle.std.proofs.Common.{◌≡◌, ◌++◌, drop, map}
-use Rattle.lsp_edit.specs.Items.{New}
-use Rattle.lsp_edit.specs.Plain.{items_in_order}
+use Rattle.lsp_edit.proofs.Prelude.{◌≡◌, ◌++◌, drop, map, New, items_in_order}
 use Rattle.lsp_edit.proofs.plain.items.push_new.Given as goal
 
 abbrev pub invariant-loop-character : goal.invariant-loop-character

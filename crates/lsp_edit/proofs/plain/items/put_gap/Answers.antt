@@ -1,13 +1,7 @@
-use Rattle.std.proofs.Common.{ℕ, List, ◌≡◌, ◌<◌, ◌≤◌, ◌⊎◌, ◌==◌, false, length, take, inl, inr, sym, ap, ◌∙◌, refl, arith, encode_utf8_all, ⊎_elim}
-use Rattle.std.specs.Str.{chars}
-use Rattle.std.proofs.lemmas.Bool.{cases_lt, eqb-false}
-use Rattle.lsp_text.specs.Units.{units_in}
-use Rattle.lsp_edit.specs.laws.Batches.{HasExactEnds}
-use Rattle.lsp_edit.specs.inside.Plain.{gap_at}
+use Rattle.lsp_edit.proofs.Prelude.{ℕ, List, ◌≡◌, ◌<◌, ◌≤◌, ◌⊎◌, ◌==◌, false, length, take, inl, inr, sym, ap, ◌∙◌, refl, arith, encode_utf8_all, ⊎_elim, chars, cases_lt, eqb-false, units_in, HasExactEnds, gap_at, common_steps}
 use Rattle.lsp_edit.proofs.Batches.PlainLemmas.{gap_some, gap_one, end_place}
-use Rattle.lsp_edit.proofs.plain.items.put_gap.Goals as goal
 use Rattle.lsp_edit.proofs.plain.items.put_gap.Goals.{then-low-high-via-then-low-high, then-low-high-via-else-low-high+then-not-is_empty}
-use Rattle.std.proofs.lemmas.Grind.{common_steps}
+use Rattle.lsp_edit.proofs.plain.items.put_gap.Goals as goal
 
 some_left : (text : List ℕ) → false ≡ (length text == 0) → 0 < length text
 some_left text e =

@@ -1,6 +1,4 @@
-use Rattle.std.proofs.Common.{◌≡◌, ◌++◌, drop}
-use Rattle.lsp_edit.specs.Items.{text_of}
-use Rattle.lsp_edit.specs.Plain.{items_in_order}
+use Rattle.lsp_edit.proofs.Prelude.{◌≡◌, ◌++◌, drop, text_of, items_in_order}
 use Rattle.lsp_edit.proofs.plain.items.text_of.Given as goal
 
 abbrev pub invariant-loop-item : goal.invariant-loop-item

@@ -1,8 +1,4 @@
-use Rattle.std.proofs.Common.{◌≡◌, ◌++◌, ℕ, false, take, ap, sym, ◌∙◌, subst}
-use Rattle.std.proofs.lemmas.Bool.{false≢true}
-use Rattle.lsp_frame.specs.declared.fault.FrameFault.TheVariants.{Failed}
-use Rattle.lsp_frame.specs.Stream.{FramerData, IsPart, HoldsOne}
-use Rattle.lsp_frame.specs.Stream.{has_failed}
+use Rattle.lsp_frame.proofs.Prelude.{◌≡◌, ◌++◌, ℕ, false, take, ap, sym, ◌∙◌, subst, false≢true, Failed, FramerData, IsPart, HoldsOne, has_failed}
 use Rattle.lsp_frame.proofs.FaultLemmas.{stage_part, part_one, not_failed, same_framing, feed_stop}
 use Rattle.lsp_frame.proofs.framer.Framer.feed.Goals as goal
 

@@ -1,7 +1,7 @@
-use Rattle.std.proofs.Common.{arith}
+use Rattle.lsp_frame.proofs.Prelude.{arith}
 use Rattle.lsp_frame.proofs.FaultLemmas.{unfinished, no_body}
-use Rattle.lsp_frame.proofs.framer.Framer.spelling.Goals as goal
 use Rattle.lsp_frame.proofs.framer.Framer.spelling.Goals.{in_default-via-in-Body+else-len-end, in_default-via-in_default}
+use Rattle.lsp_frame.proofs.framer.Framer.spelling.Goals as goal
 
 pub returns-in_default : goal.returns-in_default
 returns-in_default c = elim c.in_default.branch [

@@ -1,5 +1,4 @@
-use Rattle.std.proofs.Common.{ℕ, Option, ap, ◌∙◌}
-use Rattle.std.specs.Prelude.{unwrap_or}
+use Rattle.lsp_frame.proofs.Prelude.{ℕ, Option, ap, ◌∙◌, unwrap_or}
 use Rattle.lsp_frame.proofs.LineLemmas.{split_is}
 use Rattle.lsp_frame.proofs.framer.header.split_line.Goals as goal
 

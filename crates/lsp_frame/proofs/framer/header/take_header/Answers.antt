@@ -1,10 +1,8 @@
-use Rattle.std.proofs.Common.{◌≡◌, ◌+◌, ◌-◌, ◌≤◌, ◌++◌, length, take, arith, refl}
-use Rattle.std.proofs.lemmas.Bool.{false≢true}
+use Rattle.lsp_frame.proofs.Prelude.{◌≡◌, ◌+◌, ◌-◌, ◌≤◌, ◌++◌, length, take, arith, refl, false≢true, common_steps}
 use Rattle.std.proofs.lemmas.Result.{err_from_is_err_and}
 use Rattle.lsp_frame.proofs.ProgressLemmas.{header_stop, held_more, take_short, window_len, too_long, open_shape}
-use Rattle.lsp_frame.proofs.framer.header.take_header.Goals as goal
 use Rattle.lsp_frame.proofs.framer.header.take_header.Goals.{else-len-eq-LONGEST_HEADER-via-then-len-eq-LONGEST_HEADER+else-not-is_end-2, else-len-eq-LONGEST_HEADER-via-else-len-eq-LONGEST_HEADER}
-use Rattle.std.proofs.lemmas.Grind.{common_steps}
+use Rattle.lsp_frame.proofs.framer.header.take_header.Goals as goal
 
 pub returns-in_err-at-clause-error : goal.returns-in_err-at-clause-error
 returns-in_err-at-clause-error c =

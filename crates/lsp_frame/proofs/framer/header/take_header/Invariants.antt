@@ -1,5 +1,4 @@
-use Rattle.std.proofs.Common.{◌≡◌, ◌≢◌, ◌-◌, ◌<◌, ◌≤◌, ◌++◌, length, take, vec_capacity}
-use Rattle.lsp_frame.specs.inside.Stage.{IsSoFar}
+use Rattle.lsp_frame.proofs.Prelude.{◌≡◌, ◌≢◌, ◌-◌, ◌<◌, ◌≤◌, ◌++◌, length, take, vec_capacity, IsSoFar}
 use Rattle.lsp_frame.specs.declared.framer.shape.Shape.TheVariants as shape
 use Rattle.lsp_frame.proofs.framer.header.take_header.Given as goal
 

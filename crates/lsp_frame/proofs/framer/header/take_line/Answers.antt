@@ -1,4 +1,4 @@
-use Rattle.std.proofs.Common.{◌+◌, refl, arith}
+use Rattle.lsp_frame.proofs.Prelude.{◌+◌, refl, arith}
 use Rattle.lsp_frame.proofs.ProgressLemmas.{bad_byte}
 use Rattle.lsp_frame.proofs.framer.header.take_line.Goals as goal
 

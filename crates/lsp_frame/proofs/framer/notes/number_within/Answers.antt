@@ -1,6 +1,4 @@
-use Rattle.std.proofs.Common.{refl}
-use Rattle.std.proofs.lemmas.Bool.{lt-ltb}
-use Rattle.lsp_frame.specs.Verdict.{number}
+use Rattle.lsp_frame.proofs.Prelude.{refl, lt-ltb, number}
 use Rattle.lsp_frame.proofs.WordLemmas.{number_above}
 use Rattle.lsp_frame.proofs.framer.notes.number_within.Goals as goal
 

@@ -1,6 +1,4 @@
-use Rattle.std.proofs.Common.{◌≡◌, ◌≤◌, ℕ, ◌+◌, ◌*◌, ◌-◌, drop}
-use Rattle.std.specs.Prelude.{fold}
-use Rattle.lsp_frame.specs.Verdict.{number}
+use Rattle.lsp_frame.proofs.Prelude.{◌≡◌, ◌≤◌, ℕ, ◌+◌, ◌*◌, ◌-◌, drop, fold, number}
 use Rattle.lsp_frame.proofs.framer.notes.number_within.Given as goal
 
 abbrev pub invariant-loop-b : goal.invariant-loop-b

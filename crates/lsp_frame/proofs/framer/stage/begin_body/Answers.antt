@@ -1,8 +1,6 @@
-use Rattle.std.proofs.Common.{◌≡◌, ◌≤◌, ◌+◌, ◌++◌, length, ap, arith, refl}
-use Rattle.std.proofs.lemmas.List.{length-append, length-take}
+use Rattle.lsp_frame.proofs.Prelude.{◌≡◌, ◌≤◌, ◌+◌, ◌++◌, length, ap, arith, refl, length-append, length-take, common_steps}
 use Rattle.lsp_frame.proofs.FrameLemmas.{whole_fault, whole_body, whole_wanted, body_frame}
 use Rattle.lsp_frame.proofs.framer.stage.begin_body.Goals as goal
-use Rattle.std.proofs.lemmas.Grind.{common_steps}
 
 pub returns-in-Err-clause-error : goal.returns-in-Err-clause-error
 returns-in-Err-clause-error c =

@@ -1,5 +1,4 @@
-use Rattle.std.proofs.Common.{ℕ, List, subst}
-use Rattle.lsp_frame.specs.inside.Progress.{IsHeaderStop}
+use Rattle.lsp_frame.proofs.Prelude.{ℕ, List, subst, IsHeaderStop}
 use Rattle.lsp_frame.proofs.ProgressLemmas.{taken_more, all_of}
 use Rattle.lsp_frame.proofs.framer.stage.take_from_header.Goals as goal
 

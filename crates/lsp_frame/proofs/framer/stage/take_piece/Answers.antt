@@ -1,6 +1,4 @@
-use Rattle.std.proofs.Common.{refl, subst}
-use Rattle.lsp_frame.specs.inside.Stage.{IsInHeader, IsInBody, IsAtStage}
-use Rattle.lsp_frame.specs.declared.framer.stage.Stage.{Stage}
+use Rattle.lsp_frame.proofs.Prelude.{refl, subst, IsInHeader, IsInBody, IsAtStage, Stage}
 use Rattle.lsp_frame.proofs.ProgressLemmas.{so_far_begins}
 use Rattle.lsp_frame.proofs.FaultLemmas.{no_frame_at_header, frame_len}
 use Rattle.lsp_frame.proofs.framer.stage.take_piece.Goals as goal

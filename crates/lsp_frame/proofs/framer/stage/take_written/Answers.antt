@@ -1,9 +1,7 @@
-use Rattle.std.proofs.Common.{◌≡◌, ◌+◌, take, length, arith}
-use Rattle.std.proofs.lemmas.List.{length-take}
+use Rattle.lsp_frame.proofs.Prelude.{◌≡◌, ◌+◌, take, length, arith, length-take, common_steps}
 use Rattle.lsp_frame.proofs.FrameLemmas.{body_frame}
 use Rattle.lsp_frame.proofs.WrittenHeaderLemmas.{written_in_body}
 use Rattle.lsp_frame.proofs.framer.stage.take_written.Goals as goal
-use Rattle.std.proofs.lemmas.Grind.{common_steps}
 
 pub returns-clause-stage : goal.returns-clause-stage
 returns-clause-stage c =

@@ -1,6 +1,4 @@
-use Rattle.std.proofs.Common.{◌≡◌, ◌≤◌, length}
-use Rattle.std.specs.List.{list_all, slice_split}
-use Rattle.lsp_frame.specs.Charset.{is_good_parameter, is_semicolon}
+use Rattle.lsp_frame.proofs.Prelude.{◌≡◌, ◌≤◌, length, list_all, slice_split, is_good_parameter, is_semicolon}
 use Rattle.lsp_frame.proofs.framer.words.are_good_parameters.Given as goal
 
 abbrev pub invariant-loop-at : goal.invariant-loop-at

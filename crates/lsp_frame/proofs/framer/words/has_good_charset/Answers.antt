@@ -1,4 +1,4 @@
-use Rattle.std.proofs.Common.{sym, ◌∙◌}
+use Rattle.lsp_frame.proofs.Prelude.{sym, ◌∙◌}
 use Rattle.lsp_frame.proofs.WordLemmas.{first_part, only_part}
 use Rattle.lsp_frame.proofs.framer.words.has_good_charset.Goals as goal
 

@@ -1,5 +1,4 @@
-use Rattle.std.proofs.Common.{◌≡◌, length}
-use Rattle.lsp_frame.specs.Charset.{trimmed_start}
+use Rattle.lsp_frame.proofs.Prelude.{◌≡◌, length, trimmed_start}
 use Rattle.lsp_frame.proofs.framer.words.trim_start.Given as goal
 
 abbrev pub invariant-loop-bytes : goal.invariant-loop-bytes

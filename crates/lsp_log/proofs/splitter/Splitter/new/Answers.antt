@@ -1,6 +1,4 @@
-use Rattle.std.proofs.Common.{sym, ap, ◌∙◌, length}
-use Rattle.lsp_frame.specs.Stream.{FramerData}
-use Rattle.lsp_frame.specs.Faults.{place_after}
+use Rattle.lsp_log.proofs.Prelude.{sym, ap, ◌∙◌, length, FramerData, place_after}
 use Rattle.lsp_log.proofs.SplitLemmas.{new_stands}
 use Rattle.lsp_log.proofs.splitter.Splitter.new.Goals as goal
 

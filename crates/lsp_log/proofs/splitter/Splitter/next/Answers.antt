@@ -1,4 +1,4 @@
-use Rattle.std.proofs.Common.{ap, arith, length}
+use Rattle.lsp_log.proofs.Prelude.{ap, arith, length}
 use Rattle.lsp_log.proofs.SplitLemmas.{given_ready, given_stands, some_side}
 use Rattle.lsp_log.proofs.splitter.Splitter.next.Goals as goal
 

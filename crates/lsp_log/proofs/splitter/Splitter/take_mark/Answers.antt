@@ -1,4 +1,4 @@
-use Rattle.std.proofs.Common.{drop}
+use Rattle.lsp_log.proofs.Prelude.{drop}
 use Rattle.lsp_log.proofs.LogLemmas.{first_is}
 use Rattle.lsp_log.proofs.SplitLemmas.{marked_stands}
 use Rattle.lsp_log.proofs.splitter.Splitter.take_mark.Goals as goal

@@ -1,7 +1,4 @@
-use Rattle.std.proofs.Common.{◌≡◌, true, ap, ◌∙◌, arith}
-use Rattle.std.proofs.lemmas.Result.{IfOk-weaker}
-use Rattle.json.specs.Json.{parse_map}
-use Rattle.serde_json.specs.Data.{array}
+use Rattle.lsp_message.proofs.Prelude.{◌≡◌, true, ap, ◌∙◌, arith, IfOk-weaker, parse_map, array}
 use Rattle.lsp_message.proofs.Openings.{opened_array}
 use Rattle.lsp_message.proofs.reader.changes.read_changes.Goals as goal
 

@@ -1,9 +1,4 @@
-use Rattle.std.proofs.Common.{◌≡◌, ◌-◌, ◌<◌, ◌∷◌, ◌++◌, [], length, map, option_map, Some, None, sym, ap, ◌∙◌, arith}
-use Rattle.json.specs.Json.{parse_map, after_end_array}
-use Rattle.serde_json.specs.Data.{no_items}
-use Rattle.lsp_message.specs.Params.{content_change_in}
-use Rattle.lsp_message.specs.Seen.{content_change_view}
-use Rattle.lsp_message.specs.inside.Reading.{items_at}
+use Rattle.lsp_message.proofs.Prelude.{◌≡◌, ◌-◌, ◌<◌, ◌∷◌, ◌++◌, [], length, map, option_map, Some, None, sym, ap, ◌∙◌, arith, parse_map, after_end_array, no_items, content_change_in, content_change_view, items_at}
 use Rattle.lsp_message.proofs.Grammar.{items_at-more, items_at-refused, items_at-end}
 use Rattle.lsp_message.proofs.Growing.{items_before, each_of-items_before, one_more_item, with_edit, without_edit, map_push}
 use Rattle.lsp_message.proofs.reader.changes.read_items.Goals as goal

@@ -1,8 +1,4 @@
-use Rattle.std.proofs.Common.{◌≡◌, ℕ, ◌≤◌, List, length, map, Some, None, if◌then◌else◌}
-use Rattle.json.specs.Json.{parse_map}
-use Rattle.serde_json.specs.Data.{Data}
-use Rattle.lsp_message.specs.Seen.{content_change_view}
-use Rattle.lsp_message.specs.inside.Reading.{items_at}
+use Rattle.lsp_message.proofs.Prelude.{◌≡◌, ℕ, ◌≤◌, List, length, map, Some, None, if◌then◌else◌, parse_map, Data, content_change_view, items_at}
 use Rattle.lsp_message.proofs.Growing.{items_before, edits_list}
 use Rattle.lsp_message.proofs.reader.changes.read_items.Given as goal
 

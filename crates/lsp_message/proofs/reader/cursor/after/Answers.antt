@@ -1,5 +1,4 @@
-use Rattle.std.proofs.Common.{◌++◌, sym, ap, ◌∙◌}
-use Rattle.std.proofs.lemmas.Slice.Eq.{bytes_eq-Decides}
+use Rattle.lsp_message.proofs.Prelude.{◌++◌, sym, ap, ◌∙◌, bytes_eq-Decides}
 use Rattle.lsp_message.proofs.Lexemes.{split_is}
 use Rattle.lsp_message.proofs.reader.cursor.after.Goals as goal
 

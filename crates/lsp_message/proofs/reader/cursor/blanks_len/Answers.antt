@@ -1,7 +1,6 @@
-use Rattle.std.proofs.Common.{arith}
+use Rattle.lsp_message.proofs.Prelude.{arith, common_steps}
 use Rattle.lsp_message.proofs.Lexemes.{blank_read}
 use Rattle.lsp_message.proofs.reader.cursor.blanks_len.Goals as goal
-use Rattle.std.proofs.lemmas.Grind.{common_steps}
 
 pub loop-byte-preserved : goal.loop-byte-preserved
 loop-byte-preserved c =

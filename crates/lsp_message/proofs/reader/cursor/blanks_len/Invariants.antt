@@ -1,5 +1,4 @@
-use Rattle.std.proofs.Common.{◌≡◌, drop}
-use Rattle.json.specs.Lex.{lex, between}
+use Rattle.lsp_message.proofs.Prelude.{◌≡◌, drop, lex, between}
 use Rattle.lsp_message.proofs.reader.cursor.blanks_len.Given as goal
 
 abbrev pub invariant-loop-byte : goal.invariant-loop-byte

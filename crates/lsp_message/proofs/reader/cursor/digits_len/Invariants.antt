@@ -1,4 +1,4 @@
-use Rattle.std.proofs.Common.{◌≡◌}
+use Rattle.lsp_message.proofs.Prelude.{◌≡◌}
 use Rattle.lsp_message.proofs.reader.cursor.digits_len.Given as goal
 
 abbrev pub invariant-loop-byte : goal.invariant-loop-byte

@@ -1,6 +1,5 @@
-use Rattle.std.proofs.Common.{sym, ap, ◌∙◌}
+use Rattle.lsp_message.proofs.Prelude.{sym, ap, ◌∙◌, incoming_of}
 use Rattle.lsp_message.proofs.Readings.{reading_of_value, reading_of_none}
-use Rattle.lsp_message.specs.Incoming.{incoming_of}
 use Rattle.lsp_message.proofs.reader.incoming.read_body.Goals as goal
 
 pub returns-in_default-clause-ok : goal.returns-in_default-clause-ok

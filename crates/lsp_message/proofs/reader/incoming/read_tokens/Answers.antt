@@ -1,8 +1,4 @@
-use Rattle.std.proofs.Common.{◌≡◌, [], Some, sym, ap, ◌∙◌, arith}
-use Rattle.json.specs.Lex.{tokens}
-use Rattle.lsp_message.specs.Incoming.{incoming_of}
-use Rattle.lsp_message.specs.Message.{message_of}
-use Rattle.lsp_message.specs.inside.Reading.{value_at}
+use Rattle.lsp_message.proofs.Prelude.{◌≡◌, [], Some, sym, ap, ◌∙◌, arith, tokens, incoming_of, message_of, value_at}
 use Rattle.lsp_message.proofs.Messages.{if_some_weaker, text_read}
 use Rattle.lsp_message.proofs.reader.incoming.read_tokens.Goals as goal
 

@@ -1,5 +1,4 @@
-use Rattle.std.proofs.Common.{sym, ap, ◌∙◌}
-use Rattle.json.specs.Lex.{lex, between}
+use Rattle.lsp_message.proofs.Prelude.{sym, ap, ◌∙◌, lex, between}
 use Rattle.lsp_message.proofs.Lexemes.{end_read}
 use Rattle.lsp_message.proofs.reader.keystroke.keystroke_of.Goals as goal
 

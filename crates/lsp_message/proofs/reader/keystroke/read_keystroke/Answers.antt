@@ -1,5 +1,4 @@
-use Rattle.std.proofs.Common.{Some, sym, ap, ◌∙◌}
-use Rattle.lsp_message.specs.Incoming.{did_change}
+use Rattle.lsp_message.proofs.Prelude.{Some, sym, ap, ◌∙◌, did_change}
 use Rattle.lsp_message.proofs.Keystrokes.{keystroke_read}
 use Rattle.lsp_message.proofs.reader.keystroke.read_keystroke.Goals as goal
 

@@ -1,6 +1,5 @@
-use Rattle.std.proofs.Common.{ap, ◌∙◌}
+use Rattle.lsp_message.proofs.Prelude.{ap, ◌∙◌, lengths_of}
 use Rattle.lsp_message.proofs.Readings.{reading_of_value}
-use Rattle.lsp_message.specs.Lengths.{lengths_of}
 use Rattle.lsp_message.proofs.Messages.{if_some_weaker}
 use Rattle.lsp_message.proofs.reader.lengths.length_by_bytes.Goals as goal
 

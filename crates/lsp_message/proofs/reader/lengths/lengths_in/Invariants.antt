@@ -1,6 +1,4 @@
-use Rattle.std.proofs.Common.{◌≡◌, ◌++◌, drop}
-use Rattle.serde_json.specs.View.{items_view}
-use Rattle.lsp_message.specs.Lengths.{lengths_in}
+use Rattle.lsp_message.proofs.Prelude.{◌≡◌, ◌++◌, drop, items_view, lengths_in}
 use Rattle.lsp_message.proofs.reader.lengths.lengths_in.Given as goal
 
 -- those so far, and those of the rest

@@ -1,8 +1,6 @@
-use Rattle.std.proofs.Common.{◌≡◌, arith}
-use Rattle.std.proofs.lemmas.List.{take_all}
+use Rattle.lsp_message.proofs.Prelude.{◌≡◌, arith, take_all, common_steps}
 use Rattle.lsp_message.proofs.Digits.{natural_of_digits, one_more_digit}
 use Rattle.lsp_message.proofs.reader.number.short_natural.Goals as goal
-use Rattle.std.proofs.lemmas.Grind.{common_steps}
 
 pub loop-byte-preserved : goal.loop-byte-preserved
 loop-byte-preserved c =

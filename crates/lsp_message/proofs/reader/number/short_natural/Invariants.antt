@@ -1,5 +1,4 @@
-use Rattle.std.proofs.Common.{◌≡◌, ◌<◌, ◌^◌, take}
-use Rattle.std.specs.Str.Parse.{AllDigits, digits_value}
+use Rattle.lsp_message.proofs.Prelude.{◌≡◌, ◌<◌, ◌^◌, take, AllDigits, digits_value}
 use Rattle.lsp_message.proofs.reader.number.short_natural.Given as goal
 
 abbrev pub invariant-loop-byte : goal.invariant-loop-byte

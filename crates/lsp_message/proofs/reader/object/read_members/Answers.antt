@@ -1,7 +1,4 @@
-use Rattle.std.proofs.Common.{◌≡◌, ◌-◌, Some, ◌∙◌, arith}
-use Rattle.json.specs.Json.{read_key}
-use Rattle.json.proofs.Grammar.{read_key-shorter}
-use Rattle.serde_json.specs.Data.{put}
+use Rattle.lsp_message.proofs.Prelude.{◌≡◌, ◌-◌, Some, ◌∙◌, arith, read_key, read_key-shorter, put}
 use Rattle.lsp_message.proofs.Grammar.{members_at-more, members_at-refused, members_at-no_key, members_at-end}
 use Rattle.lsp_message.proofs.reader.object.read_members.Goals as goal
 

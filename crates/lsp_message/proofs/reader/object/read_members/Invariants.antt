@@ -1,6 +1,4 @@
-use Rattle.std.proofs.Common.{◌≡◌, ℕ, ◌≤◌, length}
-use Rattle.serde_json.specs.Data.{Members, no_members}
-use Rattle.lsp_message.specs.inside.Reading.{members_at}
+use Rattle.lsp_message.proofs.Prelude.{◌≡◌, ℕ, ◌≤◌, length, Members, no_members, members_at}
 use Rattle.lsp_message.proofs.reader.object.read_members.Given as goal
 
 abbrev pub invariant-members : goal.invariant-members

@@ -1,12 +1,7 @@
-use Rattle.std.proofs.Common.{◌≡◌, ◌∷◌, refl, ap, ◌∙◌, arith}
-use Rattle.json.specs.Json.{parse_map}
-use Rattle.json.specs.Reads.{token_of}
-use Rattle.serde_json.specs.Data.{object}
-use Rattle.lsp_message.specs.inside.Reading.{value_at}
+use Rattle.lsp_message.proofs.Prelude.{◌≡◌, ◌∷◌, refl, ap, ◌∙◌, arith, parse_map, token_of, object, value_at, common_steps}
 use Rattle.lsp_message.proofs.Grammar.{value_at-nil, value_at-null, value_at-shallow_object, value_at-object}
 use Rattle.lsp_message.proofs.Openings.{first_read}
 use Rattle.lsp_message.proofs.reader.object.read_object.Goals as goal
-use Rattle.std.proofs.lemmas.Grind.{common_steps}
 
 pub returns-in_err-token-clause-error : goal.returns-in_err-token-clause-error
 returns-in_err-token-clause-error g c = λ e. value_at-nil c.args.depth c.args.reader.now (grind arith)
@@ -34,8 +29,7 @@ returns-in_ok-kept-in-BeginObject-clause-ok g c =
     )
 
 pub returns-in-Null-clause-ok : goal.returns-in-Null-clause-ok
-returns-in-Null-clause-ok g c =
-    grind (arith, common_steps, value_at-null, c.in-Null.is)
+returns-in-Null-clause-ok g c = grind (arith, common_steps, value_at-null, c.in-Null.is)
 
 pub returns-in_ok-skip_value_from-in_default : goal.returns-in_ok-skip_value_from-in_default
 returns-in_ok-skip_value_from-in_default g c =

@@ -1,14 +1,8 @@
-use Rattle.std.proofs.Common.{◌≡◌, ◌∷◌, ap, ◌∙◌, arith, rules}
-use Rattle.json.specs.Token.{Token}
-use Rattle.json.specs.Reads.{token_of}
-use Rattle.serde_json.specs.Data.{null, number, string}
-use Rattle.lsp_message.specs.inside.Reading.{value_at}
-use Rattle.lsp_message.specs.inside.Scalars.{number_data}
+use Rattle.lsp_message.proofs.Prelude.{◌≡◌, ◌∷◌, ap, ◌∙◌, arith, rules, Token, token_of, null, number, string, value_at, number_data, common_steps}
 use Rattle.lsp_message.proofs.Converted.{on_err}
 use Rattle.lsp_message.proofs.Grammar.{value_at-nil, value_at-string, value_at-null, value_at-number, value_at-no_number}
 use Rattle.lsp_message.proofs.Openings.{first_read}
 use Rattle.lsp_message.proofs.reader.scalar.read_scalar.Goals as goal
-use Rattle.std.proofs.lemmas.Grind.{common_steps}
 
 pub returns-in_err-token-clause-error : goal.returns-in_err-token-clause-error
 returns-in_err-token-clause-error c = on_err _ (value_at-nil c.args.depth c.args.reader.now (grind arith))
@@ -34,8 +28,7 @@ returns-in-Some-clause-ok c =
     (number read.0, ap (value_at c.args.depth) is ∙ read.1, read.2)
 
 pub returns-in-None-clause-error : goal.returns-in-None-clause-error
-returns-in-None-clause-error c =
-    grind (arith, common_steps, value_at-no_number, c.in-None.ensures)
+returns-in-None-clause-error c = grind (arith, common_steps, value_at-no_number, c.in-None.ensures)
 
 pub returns-in_ok-skip_value_from-in_default : goal.returns-in_ok-skip_value_from-in_default
 returns-in_ok-skip_value_from-in_default c =

@@ -1,13 +1,7 @@
-use Rattle.std.proofs.Common.{◌≡◌, ◌-◌, ◌<◌, ◌∷◌, length, Some, None, refl, ap, ◌∙◌, arith}
-use Rattle.json.specs.Json.{after_end_array, read_key, value}
-use Rattle.json.specs.Reads.{token_of}
-use Rattle.json.proofs.Grammar.{read_key-shorter, value_is, left_some, left_none, left-parse_map}
-use Rattle.serde_json.specs.Data.{no_members, item, put}
-use Rattle.lsp_message.specs.inside.Reading.{value_at, items_at, rest_of}
+use Rattle.lsp_message.proofs.Prelude.{◌≡◌, ◌-◌, ◌<◌, ◌∷◌, length, Some, None, refl, ap, ◌∙◌, arith, after_end_array, read_key, value, token_of, read_key-shorter, value_is, left_some, left_none, left-parse_map, no_members, item, put, value_at, items_at, rest_of, common_steps}
 use Rattle.lsp_message.proofs.Converted.{on_err, on_err_weaker, on_ok_weaker}
 use Rattle.lsp_message.proofs.Grammar.{value_at-nil, value_at-string, value_at-boolean, value_at-null, value_at-number, value_at-no_number, value_at-shallow_array, value_at-shallow_object, value_at-array, value_at-object, items_at-more, items_at-refused, items_at-end, members_at-more, members_at-refused, members_at-no_key, members_at-end}
 use Rattle.lsp_message.proofs.reader.skip.+skip.Goals as goal
-use Rattle.std.proofs.lemmas.Grind.{common_steps}
 
 pub skip_value-returns-in_err-token-clause-error : goal.skip_value-returns-in_err-token-clause-error
 skip_value-returns-in_err-token-clause-error t c = on_err _ (value_at-nil c.args.depth c.args.reader.now (grind arith))
@@ -21,16 +15,13 @@ skip_value_from-returns-then-depth-eq0-2-clause-error t c =
     grind (arith, common_steps, value_at-shallow_object, c.in-BeginObject.is)
 
 pub skip_value_from-returns-in-String-clause-ok : goal.skip_value_from-returns-in-String-clause-ok
-skip_value_from-returns-in-String-clause-ok t c =
-    grind (arith, common_steps, value_at-string, c.in-String.is)
+skip_value_from-returns-in-String-clause-ok t c = grind (arith, common_steps, value_at-string, c.in-String.is)
 
 pub skip_value_from-returns-in-Bool-clause-ok : goal.skip_value_from-returns-in-Bool-clause-ok
-skip_value_from-returns-in-Bool-clause-ok t c =
-    grind (arith, common_steps, value_at-boolean, c.in-Bool.is)
+skip_value_from-returns-in-Bool-clause-ok t c = grind (arith, common_steps, value_at-boolean, c.in-Bool.is)
 
 pub skip_value_from-returns-in-Null-clause-ok : goal.skip_value_from-returns-in-Null-clause-ok
-skip_value_from-returns-in-Null-clause-ok t c =
-    grind (arith, common_steps, value_at-null, c.in-Null.is)
+skip_value_from-returns-in-Null-clause-ok t c = grind (arith, common_steps, value_at-null, c.in-Null.is)
 
 pub skip_value_from-returns-in-Some-clause-ok : goal.skip_value_from-returns-in-Some-clause-ok
 skip_value_from-returns-in-Some-clause-ok t c =
@@ -42,8 +33,7 @@ skip_value_from-returns-in-None-clause-error t c =
     grind (arith, common_steps, value_at-no_number, c.in-Number.is, c.in-None.ensures)
 
 pub skip_value_from-returns-in-EndObject-clause-error : goal.skip_value_from-returns-in-EndObject-clause-error
-skip_value_from-returns-in-EndObject-clause-error t c =
-    grind (arith, common_steps, value_is)
+skip_value_from-returns-in-EndObject-clause-error t c = grind (arith, common_steps, value_is)
 
 pub skip_value_from-returns-else-depth-eq0-clause-ok : goal.skip_value_from-returns-else-depth-eq0-clause-ok
 skip_value_from-returns-else-depth-eq0-clause-ok t c =

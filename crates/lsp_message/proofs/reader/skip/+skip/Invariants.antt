@@ -1,6 +1,4 @@
-use Rattle.std.proofs.Common.{◌≡◌, ℕ, ◌+◌, ◌*◌, ◌≤◌, length}
-use Rattle.serde_json.specs.Data.{Members, no_members}
-use Rattle.lsp_message.specs.inside.Reading.{items_at, members_at, rest_of}
+use Rattle.lsp_message.proofs.Prelude.{◌≡◌, ℕ, ◌+◌, ◌*◌, ◌≤◌, length, Members, no_members, items_at, members_at, rest_of}
 use Rattle.lsp_message.proofs.reader.skip.+skip.Given as goal
 
 abbrev pub decreases-skip_value : goal.decreases-skip_value

@@ -1,4 +1,4 @@
-use Rattle.std.proofs.Common.{sym}
+use Rattle.lsp_message.proofs.Prelude.{sym}
 use Rattle.lsp_message.proofs.Tokens.{put, add, ending, range_first}
 use Rattle.lsp_message.proofs.writer.documents.content_change_value.Goals as goal
 

@@ -1,11 +1,7 @@
-use Rattle.std.proofs.Common.{◌≡◌, ◌∷◌, sym, take, arith}
-use Rattle.std.proofs.lemmas.List.{take_all}
-use Rattle.std.specs.List.{flat_map}
+use Rattle.lsp_message.proofs.Prelude.{◌≡◌, ◌∷◌, sym, take, arith, take_all, flat_map, content_change_view, Appends, tokens_of}
+use Rattle.lsp_message.proofs.Tokens.{add, ending, items_in_turn}
 use Rattle.json.specs.Token as token
 use Rattle.lsp_message.specs.Written as values
-use Rattle.lsp_message.specs.Seen.{content_change_view}
-use Rattle.lsp_message.specs.inside.Tokens.{Appends, tokens_of}
-use Rattle.lsp_message.proofs.Tokens.{add, ending, items_in_turn}
 use Rattle.lsp_message.proofs.writer.documents.content_changes_value.Goals as goal
 
 pub returns-clause-tokens : goal.returns-clause-tokens

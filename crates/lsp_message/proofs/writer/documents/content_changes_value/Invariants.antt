@@ -1,9 +1,6 @@
-use Rattle.std.proofs.Common.{◌∷◌, take}
-use Rattle.std.specs.List.{flat_map}
+use Rattle.lsp_message.proofs.Prelude.{◌∷◌, take, flat_map, content_change_view, Appends, tokens_of}
 use Rattle.json.specs.Token as token
 use Rattle.lsp_message.specs.Written as values
-use Rattle.lsp_message.specs.Seen.{content_change_view}
-use Rattle.lsp_message.specs.inside.Tokens.{Appends, tokens_of}
 use Rattle.lsp_message.proofs.writer.documents.content_changes_value.Given as goal
 
 -- the tokens of the changes so far

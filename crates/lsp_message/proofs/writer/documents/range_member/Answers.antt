@@ -1,4 +1,4 @@
-use Rattle.std.proofs.lemmas.Result.{on_ok_weaker}
+use Rattle.lsp_message.proofs.Prelude.{on_ok_weaker}
 use Rattle.lsp_message.proofs.Tokens.{put}
 use Rattle.lsp_message.proofs.writer.documents.range_member.Goals as goal
 

@@ -1,5 +1,4 @@
-use Rattle.std.proofs.Common.{◌≡◌, sym, rules, w32, to_z, of_z}
-use Rattle.std.proofs.lemmas.Int.{to_z-of_z}
+use Rattle.lsp_message.proofs.Prelude.{◌≡◌, sym, rules, w32, to_z, of_z, to_z-of_z}
 use Rattle.lsp_message.proofs.Tokens.{put, add, ending, integer_text}
 use Rattle.lsp_message.proofs.writer.documents.versioned_document.Goals as goal
 

@@ -1,5 +1,4 @@
-use Rattle.std.proofs.Common.{rules, ◌≡◌, true}
-use Rattle.lsp_pair.specs.Pair.{can_choose_utf16, are_within, IsFitting}
+use Rattle.lsp_pair.proofs.Prelude.{rules, ◌≡◌, true, can_choose_utf16, are_within, IsFitting}
 use Rattle.lsp_pair.proofs.Steps.NewLemmas.{sound_from, new_reached}
 use Rattle.lsp_pair.proofs.Histories.HistoryLemmas.{new_history}
 use Rattle.lsp_pair.proofs.pair.Pair.new.Goals as goal

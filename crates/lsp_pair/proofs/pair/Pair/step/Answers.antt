@@ -1,12 +1,8 @@
-use Rattle.lsp_pair.specs.Events.{to_server, to_client}
-use Rattle.std.proofs.Common.{ap}
-use Rattle.lsp_pair.specs.inside.Ends.{both_ends}
-use Rattle.lsp_pair.specs.Seen.{event_view, frames}
-use Rattle.lsp_pair.proofs.pair.Pair.step.Goals as goal
+use Rattle.lsp_pair.proofs.Prelude.{to_server, to_client, ap, both_ends, event_view, frames, refl, ◌∙◌}
 use Rattle.lsp_pair.proofs.Steps.ReachLemmas.{reached_serves, reached_hears, reach_or_same, at_if, at_next, step_from, same_at_server, same_at_client, same_from}
 use Rattle.lsp_pair.proofs.Histories.HistoryLemmas.{history_if}
 use Rattle.lsp_pair.proofs.Steps.CalledLemmas.{is_call, call_is, call_same, no_delivery, refused_if}
-use Rattle.std.proofs.Common.{refl, ◌∙◌}
+use Rattle.lsp_pair.proofs.pair.Pair.step.Goals as goal
 
 pub serve_first-requires : goal.serve_first-requires
 serve_first-requires c = reached_serves _ c.self.invariant

@@ -1,4 +1,4 @@
-use Rattle.std.proofs.Common.{refl}
+use Rattle.lsp_simulate.proofs.Prelude.{refl}
 use Rattle.std.specs.Fmt.{digits}
 use Rattle.lsp_simulate.proofs.command_line.help.client_limits.Goals as goal
 

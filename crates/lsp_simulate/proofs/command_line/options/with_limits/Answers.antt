@@ -1,4 +1,4 @@
-use Rattle.std.specs.Prelude.{◌∷◌, []}
+use Rattle.lsp_simulate.proofs.Prelude.{◌∷◌, []}
 use Rattle.lsp_simulate.proofs.ProgramLemmas.{adds, adds_after, adds_one}
 use Rattle.lsp_simulate.proofs.command_line.options.with_limits.Goals as goal
 

@@ -1,6 +1,4 @@
-use Rattle.std.specs.Prelude.{◌≤◌}
-use Rattle.lsp_stream.specs.Turns.{Spends}
-use Rattle.lsp_simulate.specs.inside.Lines.{Passed, is_begun, rest, size}
+use Rattle.lsp_simulate.proofs.Prelude.{◌≤◌, Spends, Passed, is_begun, rest, size}
 use Rattle.lsp_simulate.proofs.lines.InputLines.next.Given as goal
 
 abbrev pub invariant-pieces : goal.invariant-pieces

@@ -1,6 +1,4 @@
-use Rattle.std.proofs.Common.{List, ℕ, ◌+◌, ◌++◌, false, ap, sym, ◌∙◌}
-use Rattle.lsp_simulate.specs.Session.{lines_from}
-use Rattle.lsp_simulate.specs.inside.Lines.{is_begun, unused}
+use Rattle.lsp_simulate.proofs.Prelude.{List, ℕ, ◌+◌, ◌++◌, false, ap, sym, ◌∙◌, lines_from, is_begun, unused}
 use Rattle.lsp_simulate.proofs.InputLemmas.{after_line, first_line, no_line}
 use Rattle.lsp_simulate.proofs.lines.InputLines.take_into.Goals as goal
 

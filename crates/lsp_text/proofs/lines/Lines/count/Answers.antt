@@ -1,7 +1,6 @@
-use Rattle.std.proofs.Common.{arith}
+use Rattle.lsp_text.proofs.Prelude.{arith, common_steps}
 use Rattle.lsp_text.proofs.TextLines.IndexesLemmas.{indexes_count}
 use Rattle.lsp_text.proofs.lines.Lines.count.Goals as goal
-use Rattle.std.proofs.lemmas.Grind.{common_steps}
 
 pub returns-clause-line_ends : goal.returns-clause-line_ends
 returns-clause-line_ends c = grind (arith, common_steps, indexes_count, c.len.ensures, c.self.view_is)

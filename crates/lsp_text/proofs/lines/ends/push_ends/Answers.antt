@@ -1,4 +1,4 @@
-use Rattle.std.proofs.Common.{refl}
+use Rattle.lsp_text.proofs.Prelude.{refl}
 use Rattle.lsp_text.proofs.TextLines.EndLemmas.{ends_of-all, Marks-part}
 use Rattle.lsp_text.proofs.lines.ends.push_ends.Goals as goal
 

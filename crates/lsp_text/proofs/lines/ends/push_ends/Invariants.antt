@@ -1,5 +1,4 @@
-use Rattle.std.proofs.Common.{◌≡◌, ◌++◌, ◌-◌, take, drop}
-use Rattle.memchr.specs.Find.{places, is_byte2}
+use Rattle.lsp_text.proofs.Prelude.{◌≡◌, ◌++◌, ◌-◌, take, drop, places, is_byte2}
 use Rattle.lsp_text.proofs.TextLines.EndLemmas.{ends_of, Marks}
 use Rattle.lsp_text.proofs.lines.ends.push_ends.Given as goal
 

@@ -1,4 +1,4 @@
-use Rattle.std.proofs.Common.{ap, ◌∙◌, ◌++◌, take, drop}
+use Rattle.lsp_text.proofs.Prelude.{ap, ◌∙◌, ◌++◌, take, drop}
 use Rattle.lsp_text.proofs.TextLines.ShiftLemmas.{drained_is}
 use Rattle.lsp_text.proofs.lines.splice.replace.Goals as goal
 

@@ -1,4 +1,4 @@
-use Rattle.std.proofs.Common.{◌≡◌}
+use Rattle.lsp_text.proofs.Prelude.{◌≡◌}
 use Rattle.lsp_text.proofs.TextLines.ShiftLemmas.{shifted}
 use Rattle.lsp_text.proofs.lines.splice.shift.Given as goal
 

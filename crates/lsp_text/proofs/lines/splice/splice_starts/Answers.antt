@@ -1,4 +1,4 @@
-use Rattle.std.proofs.Common.{◌∙◌, refl}
+use Rattle.lsp_text.proofs.Prelude.{◌∙◌, refl}
 use Rattle.lsp_text.proofs.TextLines.SpliceLemmas.{IsPlaced, line_of_same, starts_are_same, found_anew, shown_behind, shown_room, shown_starts}
 use Rattle.lsp_text.proofs.lines.splice.splice_starts.Goals as goal
 

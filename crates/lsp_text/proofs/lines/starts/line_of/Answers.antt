@@ -1,7 +1,6 @@
-use Rattle.std.proofs.Common.{◌∙◌, arith}
+use Rattle.lsp_text.proofs.Prelude.{◌∙◌, arith, common_steps}
 use Rattle.lsp_text.proofs.TextLines.SearchLemmas.{looks_one, looked_low, looked_high}
 use Rattle.lsp_text.proofs.lines.starts.line_of.Goals as goal
-use Rattle.std.proofs.lemmas.Grind.{common_steps}
 
 pub loop-high-preserved-then-at-place : goal.loop-high-preserved-then-at-place
 loop-high-preserved-then-at-place g c =

@@ -1,4 +1,4 @@
-use Rattle.std.proofs.Common.{◌≡◌, ℕ, ◌+◌, ◌-◌, ◌≤◌, ◌<◌, ◌^◌, length, slice_index}
+use Rattle.lsp_text.proofs.Prelude.{◌≡◌, ℕ, ◌+◌, ◌-◌, ◌≤◌, ◌<◌, ◌^◌, length, slice_index}
 use Rattle.lsp_text.proofs.TextLines.SearchLemmas.{LooksLeft}
 use Rattle.lsp_text.proofs.lines.starts.line_of.Given as goal
 

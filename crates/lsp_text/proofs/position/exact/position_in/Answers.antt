@@ -1,8 +1,6 @@
-use Rattle.std.proofs.Common.{slice_index, arith}
+use Rattle.lsp_text.proofs.Prelude.{slice_index, arith, chars, common_steps}
 use Rattle.lsp_text.proofs.Positions.ExactLemmas.{indexes_are, indexes_few, front_found, front_within, front_utf8, front_few, part_short, exact_is, exact_resolves}
-use Rattle.std.specs.Str.{chars}
 use Rattle.lsp_text.proofs.position.exact.position_in.Goals as goal
-use Rattle.std.proofs.lemmas.Grind.{common_steps}
 
 pub new-looks-requires : goal.new-looks-requires
 new-looks-requires g c = indexes_are c.args.bytes.now c.args.starts.now c.requires.utf8 c.requires.indexed

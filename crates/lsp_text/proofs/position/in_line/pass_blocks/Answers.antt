@@ -1,4 +1,4 @@
-use Rattle.std.proofs.Common.{◌∙◌, arith}
+use Rattle.lsp_text.proofs.Prelude.{◌∙◌, arith}
 use Rattle.lsp_text.proofs.Counting.BlockLemmas.{pass_block}
 use Rattle.lsp_text.proofs.position.in_line.pass_blocks.Goals as goal
 

@@ -1,5 +1,4 @@
-use Rattle.std.proofs.Common.{◌≡◌, ◌+◌, ◌-◌, ◌≤◌, length, drop, option_map}
-use Rattle.lsp_text.specs.inside.Leads.{byte_place}
+use Rattle.lsp_text.proofs.Prelude.{◌≡◌, ◌+◌, ◌-◌, ◌≤◌, length, drop, option_map, byte_place}
 use Rattle.lsp_text.proofs.position.in_line.pass_blocks.Given as goal
 
 abbrev pub invariant-loop-place : goal.invariant-loop-place

@@ -1,4 +1,4 @@
-use Rattle.std.proofs.Common.{◌≡◌, ◌*◌, ◌≤◌, take, drop, sum_by}
+use Rattle.lsp_text.proofs.Prelude.{◌≡◌, ◌*◌, ◌≤◌, take, drop, sum_by}
 use Rattle.lsp_text.proofs.position.in_line.units_of_block.Given as goal
 
 abbrev pub invariant-loop-index : goal.invariant-loop-index

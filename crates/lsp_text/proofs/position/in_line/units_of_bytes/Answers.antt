@@ -1,7 +1,6 @@
-use Rattle.std.proofs.Common.{arith}
+use Rattle.lsp_text.proofs.Prelude.{arith, common_steps}
 use Rattle.lsp_text.proofs.Counting.BlockLemmas.{block_more, blocks_all}
 use Rattle.lsp_text.proofs.position.in_line.units_of_bytes.Goals as goal
-use Rattle.std.proofs.lemmas.Grind.{common_steps}
 
 pub loop-block-preserved : goal.loop-block-preserved
 loop-block-preserved g c = record {

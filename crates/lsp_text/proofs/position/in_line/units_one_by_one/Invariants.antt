@@ -1,4 +1,4 @@
-use Rattle.std.proofs.Common.{◌≡◌, ◌*◌, ◌≤◌, take, sum_by}
+use Rattle.lsp_text.proofs.Prelude.{◌≡◌, ◌*◌, ◌≤◌, take, sum_by}
 use Rattle.lsp_text.proofs.position.in_line.units_one_by_one.Given as goal
 
 abbrev pub invariant-loop-byte : goal.invariant-loop-byte

@@ -1,7 +1,6 @@
-use Rattle.std.proofs.Common.{arith}
+use Rattle.lsp_text.proofs.Prelude.{arith, common_steps}
 use Rattle.lsp_text.proofs.TextLines.IndexesLemmas.{indexes_line, indexes_start, indexes_last, indexes_next}
 use Rattle.lsp_text.proofs.position.resolve.content.Goals as goal
-use Rattle.std.proofs.lemmas.Grind.{common_steps}
 
 pub stop_before-requires-clause-some : goal.stop_before-requires-clause-some
 stop_before-requires-clause-some c =

@@ -1,9 +1,7 @@
-use Rattle.std.proofs.Common.{◌+◌, ◌≤◌, length, sym, arith}
+use Rattle.lsp_text.proofs.Prelude.{◌+◌, ◌≤◌, length, sym, arith, chars, common_steps}
 use Rattle.lsp_text.proofs.TextLines.IndexesLemmas.{indexes_line, indexes_count}
 use Rattle.lsp_text.proofs.Positions.ResolveLemmas.{resolved_past, resolved_at, content_order, content_within, content_utf8, place_in_content, denoted_place, denoted_boundary}
-use Rattle.std.specs.Str.{chars}
 use Rattle.lsp_text.proofs.position.resolve.resolve_in.Goals as goal
-use Rattle.std.proofs.lemmas.Grind.{common_steps}
 
 pub returns-then-line-starts-clause-value : goal.returns-then-line-starts-clause-value
 returns-then-line-starts-clause-value g c =

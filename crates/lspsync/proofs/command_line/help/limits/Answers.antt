@@ -1,4 +1,4 @@
-use Rattle.std.proofs.Common.{refl}
+use Rattle.lspsync.proofs.Prelude.{refl}
 use Rattle.std.specs.Fmt.{digits}
 use Rattle.lspsync.proofs.command_line.help.limits.Goals as goal
 

@@ -1,4 +1,4 @@
-use Rattle.std.proofs.Common.{rules}
+use Rattle.lspsync.proofs.Prelude.{rules}
 use Rattle.lspsync.proofs.ProgramLemmas.{is_command}
 use Rattle.lspsync.proofs.command_line.options.command.Goals as goal
 

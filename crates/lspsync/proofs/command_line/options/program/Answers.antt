@@ -1,7 +1,4 @@
-use Rattle.std.specs.Prelude.{◌++◌, ◌∷◌, [], codes}
-use Rattle.clap.specs.Words.{app_of}
-use Rattle.lspsync.specs.CommandLine.{check_rules, compare_rules, detail_rules, log_rule, logs_rule, part_rules, server_rules, writing_rules}
-use Rattle.lspsync.specs.declared.command_line.options.Values.{Values}
+use Rattle.lspsync.proofs.Prelude.{◌++◌, ◌∷◌, [], codes, app_of, check_rules, compare_rules, detail_rules, log_rule, logs_rule, part_rules, server_rules, writing_rules, Values}
 use Rattle.lspsync.proofs.ProgramLemmas.{program_is, puts}
 use Rattle.lspsync.proofs.command_line.options.program.Goals as goal
 

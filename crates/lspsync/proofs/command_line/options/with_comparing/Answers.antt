@@ -1,4 +1,4 @@
-use Rattle.std.specs.Prelude.{◌∷◌, []}
+use Rattle.lspsync.proofs.Prelude.{◌∷◌, []}
 use Rattle.lspsync.proofs.ProgramLemmas.{adds, adds_after, adds_one}
 use Rattle.lspsync.proofs.command_line.options.with_comparing.Goals as goal
 

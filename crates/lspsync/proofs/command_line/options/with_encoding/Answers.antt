@@ -1,6 +1,4 @@
-use Rattle.std.proofs.Common.{◌≡◌, false, rules}
-use Rattle.clap.specs.Words.{rule_of}
-use Rattle.lspsync.specs.CommandLine.{encoding_rule}
+use Rattle.lspsync.proofs.Prelude.{◌≡◌, false, rules, rule_of, encoding_rule}
 use Rattle.lspsync.proofs.ProgramLemmas.{adds}
 use Rattle.lspsync.proofs.command_line.options.with_encoding.Goals as goal
 

@@ -1,4 +1,4 @@
-use Rattle.std.proofs.Common.{inl, inr}
+use Rattle.lspsync.proofs.Prelude.{inl, inr}
 use Rattle.lspsync.proofs.ProgramLemmas.{adds}
 use Rattle.lspsync.proofs.command_line.options.with_file.Goals as goal
 

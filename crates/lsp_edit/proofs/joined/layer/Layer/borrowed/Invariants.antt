@@ -1,6 +1,4 @@
-use Rattle.std.proofs.Common.{◌≡◌, ◌++◌, drop}
-use Rattle.lsp_edit.specs.Layers.{owned_parts}
-use Rattle.lsp_edit.specs.Parts.{parts_of}
+use Rattle.lsp_edit.proofs.Prelude.{◌≡◌, ◌++◌, drop, owned_parts, parts_of}
 use Rattle.lsp_edit.proofs.joined.layer.Layer.borrowed.Given as goal
 
 abbrev pub invariant-loop-span : goal.invariant-loop-span

@@ -1,5 +1,4 @@
-use Rattle.std.proofs.Common.{refl}
-use Rattle.std.proofs.lemmas.Bool.{false≢true}
+use Rattle.lsp_frame.proofs.Prelude.{refl, false≢true}
 use Rattle.lsp_frame.proofs.HeaderLemmas.{stops_at_start, stops_at_name, stops_at_value, stops_at_return, stops_at_last, colon_part, value_part}
 use Rattle.lsp_frame.proofs.framer.shape.Shape.after.Goals as goal
 

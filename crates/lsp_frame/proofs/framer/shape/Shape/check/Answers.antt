@@ -1,6 +1,4 @@
-use Rattle.std.proofs.Common.{◌≡◌, ℕ, ◌+◌, List, [], ◌∷◌, ◌++◌, take, get_or, ap, sym, subst, ◌∙◌, append_assoc}
-use Rattle.std.proofs.lemmas.List.{take_more}
-use Rattle.lsp_frame.specs.inside.Progress.{StopsHeader}
+use Rattle.lsp_frame.proofs.Prelude.{◌≡◌, ℕ, ◌+◌, List, [], ◌∷◌, ◌++◌, take, get_or, ap, sym, subst, ◌∙◌, append_assoc, take_more, StopsHeader}
 use Rattle.lsp_frame.proofs.HeaderLemmas.{not_over}
 use Rattle.lsp_frame.proofs.framer.shape.Shape.check.Goals as goal
 

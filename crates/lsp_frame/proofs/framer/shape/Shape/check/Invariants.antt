@@ -1,5 +1,4 @@
-use Rattle.std.proofs.Common.{◌≡◌, ℕ, ◌-◌, ◌<◌, true, List, ◌++◌, take, get_or}
-use Rattle.lsp_frame.specs.inside.Stage.{IsPartOfLine, is_over}
+use Rattle.lsp_frame.proofs.Prelude.{◌≡◌, ℕ, ◌-◌, ◌<◌, true, List, ◌++◌, take, get_or, IsPartOfLine, is_over}
 use Rattle.lsp_frame.proofs.framer.shape.Shape.check.Given as goal
 
 abbrev pub invariant-loop-i : goal.invariant-loop-i

@@ -1,6 +1,4 @@
-use Rattle.std.proofs.Common.{◌≡◌, rules, subst, sym, w32, to_z, of_z}
-use Rattle.std.proofs.lemmas.Int.{to_z-of_z}
-use Rattle.lsp_message.specs.inside.Lexemes.{AreVersionDigits}
+use Rattle.lsp_message.proofs.Prelude.{◌≡◌, rules, subst, sym, w32, to_z, of_z, to_z-of_z, AreVersionDigits}
 use Rattle.lsp_message.proofs.Lexemes.{document_read}
 use Rattle.lsp_message.proofs.reader.cursor.Cursor.document.Goals as goal
 

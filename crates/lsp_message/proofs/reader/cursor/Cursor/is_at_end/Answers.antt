@@ -1,4 +1,4 @@
-use Rattle.std.proofs.Common.{sym, ◌∙◌}
+use Rattle.lsp_message.proofs.Prelude.{sym, ◌∙◌}
 use Rattle.lsp_message.proofs.Lexemes.{no_bytes}
 use Rattle.lsp_message.proofs.reader.cursor.Cursor.is_at_end.Goals as goal
 

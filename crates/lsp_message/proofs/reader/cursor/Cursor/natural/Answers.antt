@@ -1,5 +1,4 @@
-use Rattle.std.proofs.Common.{sym, ap, ◌∙◌}
-use Rattle.serde_json.specs.Read.{number_of}
+use Rattle.lsp_message.proofs.Prelude.{sym, ap, ◌∙◌, number_of}
 use Rattle.lsp_message.proofs.Lexemes.{split_is, number_read}
 use Rattle.lsp_message.proofs.reader.cursor.Cursor.natural.Goals as goal
 

@@ -1,5 +1,4 @@
-use Rattle.std.proofs.Common.{true, false}
-use Rattle.lsp_message.specs.inside.Lexemes.{document_lexemes, changes_lexemes}
+use Rattle.lsp_message.proofs.Prelude.{true, false, document_lexemes, changes_lexemes}
 use Rattle.lsp_message.proofs.Lexemes.{params_read}
 use Rattle.lsp_message.proofs.reader.cursor.Cursor.params.Goals as goal
 

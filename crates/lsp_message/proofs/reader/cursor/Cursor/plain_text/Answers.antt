@@ -1,5 +1,4 @@
-use Rattle.std.proofs.Common.{◌≡◌, take, sym, ap, ◌∙◌}
-use Rattle.json.specs.Print.{escape}
+use Rattle.lsp_message.proofs.Prelude.{◌≡◌, take, sym, ap, ◌∙◌, escape}
 use Rattle.lsp_message.proofs.Lexemes.{split_is, plain_text_read}
 use Rattle.lsp_message.proofs.reader.cursor.Cursor.plain_text.Goals as goal
 

@@ -1,5 +1,4 @@
-use Rattle.std.proofs.Common.{codes}
-use Rattle.lsp_message.specs.inside.Lexemes.{number_lexemes}
+use Rattle.lsp_message.proofs.Prelude.{codes, number_lexemes}
 use Rattle.lsp_message.proofs.Lexemes.{line_piece, character_piece, two_read}
 use Rattle.lsp_message.proofs.reader.cursor.Cursor.position.Goals as goal
 

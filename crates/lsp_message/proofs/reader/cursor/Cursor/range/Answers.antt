@@ -1,5 +1,4 @@
-use Rattle.std.proofs.Common.{true, false, codes}
-use Rattle.lsp_message.specs.inside.Lexemes.{position_lexemes}
+use Rattle.lsp_message.proofs.Prelude.{true, false, codes, position_lexemes}
 use Rattle.lsp_message.proofs.Lexemes.{start_piece, end_piece, two_read}
 use Rattle.lsp_message.proofs.reader.cursor.Cursor.range.Goals as goal
 

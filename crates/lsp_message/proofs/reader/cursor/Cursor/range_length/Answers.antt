@@ -1,4 +1,4 @@
-use Rattle.std.proofs.Common.{Some, refl}
+use Rattle.lsp_message.proofs.Prelude.{Some, refl}
 use Rattle.lsp_message.proofs.Lexemes.{length_read}
 use Rattle.lsp_message.proofs.reader.cursor.Cursor.range_length.Goals as goal
 

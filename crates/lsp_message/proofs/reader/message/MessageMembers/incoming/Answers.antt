@@ -1,7 +1,4 @@
-use Rattle.std.proofs.Common.{◌≡◌, true, Some, None, codes, sym, ap, ◌∙◌, arith}
-use Rattle.serde_json.specs.Find.{get_member}
-use Rattle.lsp_message.specs.Incoming.{incoming_of}
-use Rattle.lsp_message.specs.Message.{is_version_two}
+use Rattle.lsp_message.proofs.Prelude.{◌≡◌, true, Some, None, codes, sym, ap, ◌∙◌, arith, get_member, incoming_of, is_version_two}
 use Rattle.lsp_message.proofs.MemberLemmas.{message_of_object}
 use Rattle.lsp_message.proofs.Messages.{if_ok_weaker, if_some_weaker, by_method}
 use Rattle.lsp_message.proofs.reader.message.MessageMembers.incoming.Goals as goal

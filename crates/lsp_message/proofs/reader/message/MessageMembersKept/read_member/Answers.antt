@@ -1,9 +1,4 @@
-use Rattle.std.proofs.Common.{codes, Some, refl, ap, ◌∙◌}
-use Rattle.std.specs.Prelude.{not}
-use Rattle.json.proofs.Grammar.{left_some}
-use Rattle.lsp_message.specs.Message.{is_version_two}
-use Rattle.lsp_message.specs.Values.{is_null}
-use Rattle.lsp_message.specs.inside.Reading.{value_at}
+use Rattle.lsp_message.proofs.Prelude.{codes, Some, refl, ap, ◌∙◌, not, left_some, is_version_two, is_null, value_at}
 use Rattle.lsp_message.proofs.Kept.{kept_two, kept_null}
 use Rattle.lsp_message.proofs.Puts.{differs, get_put}
 use Rattle.lsp_message.proofs.reader.message.MessageMembersKept.read_member.Goals as goal

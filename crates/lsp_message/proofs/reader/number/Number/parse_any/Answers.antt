@@ -1,7 +1,5 @@
-use Rattle.std.proofs.Common.{◌≡◌, ◌∷◌, ◌==◌, true, false, ℕ, List, option_map, slice_index, refl, ap, ◌∙◌}
-use Rattle.fast_float.specs.Text.{scan}
+use Rattle.lsp_message.proofs.Prelude.{◌≡◌, ◌∷◌, ◌==◌, true, false, ℕ, List, option_map, slice_index, refl, ap, ◌∙◌, scan, kept_number}
 use Rattle.serde_json.specs.Read.{number_of, number_from}
-use Rattle.lsp_message.specs.inside.Scalars.{kept_number}
 use Rattle.lsp_message.proofs.reader.number.Number.parse_any.Goals as goal
 
 with_minus : (s digits : List ℕ) → s ≡ 45 ∷ digits → number_from true (scan digits) ≡ number_of s

@@ -1,6 +1,4 @@
-use Rattle.std.proofs.Common.{codes}
-use Rattle.json.proofs.Grammar.{left_some}
-use Rattle.lsp_message.specs.inside.Reading.{value_at}
+use Rattle.lsp_message.proofs.Prelude.{codes, left_some, value_at}
 use Rattle.lsp_message.proofs.Puts.{differs, get_put}
 use Rattle.lsp_message.proofs.reader.params.ParamsMembersKept.read_member.Goals as goal
 

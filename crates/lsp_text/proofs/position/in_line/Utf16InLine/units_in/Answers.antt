@@ -1,7 +1,4 @@
-use Rattle.std.proofs.Common.{◌∙◌}
-use Rattle.lsp_text.specs.Leads.{lead_units_utf16}
-use Rattle.lsp_text.specs.Units.{units_in}
-use Rattle.lsp_text.specs.declared.encoding.Encoding.TheVariants.{Utf16}
+use Rattle.lsp_text.proofs.Prelude.{◌∙◌, lead_units_utf16, units_in, Utf16}
 use Rattle.lsp_text.proofs.Counting.LeadLemmas.{units_of_text, utf16_first}
 use Rattle.lsp_text.proofs.position.in_line.Utf16InLine.units_in.Goals as goal
 

@@ -1,7 +1,4 @@
-use Rattle.std.proofs.Common.{◌∙◌}
-use Rattle.lsp_text.specs.Leads.{lead_units_utf32}
-use Rattle.lsp_text.specs.Units.{units_in}
-use Rattle.lsp_text.specs.declared.encoding.Encoding.TheVariants.{Utf32}
+use Rattle.lsp_text.proofs.Prelude.{◌∙◌, lead_units_utf32, units_in, Utf32}
 use Rattle.lsp_text.proofs.Counting.LeadLemmas.{units_of_text, utf32_first}
 use Rattle.lsp_text.proofs.position.in_line.Utf32InLine.units_in.Goals as goal
 
