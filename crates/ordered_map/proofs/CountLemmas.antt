@@ -1,11 +1,6 @@
 -- Counts of blocks, as slots change.
-use Rattle.std.proofs.Common.{◌≡◌, ◌≤◌, ◌<◌, ◌+◌, ◌-◌, ◌*◌, ◌/◌, ℕ, List, [], ◌∷◌, ◌++◌, length, set, min, slice_get, slice_index, Option, Some, None, arith, ⊎_elim}
-use Rattle.std.proofs.lemmas.List.{length-append, length-set, get_or-set_same, get_or-set_other, get_or_append_left, get_or_push}
-use Rattle.std.proofs.lemmas.Bool.{cases_eq, cases_lt, le-ltb, lt-ltb}
-use Rattle.std.proofs.lemmas.Option.{slice_get_within}
-use Rattle.ordered_map.specs.inside.Slots.{AreCounted, counted_last, live_to, somes}
+use Rattle.ordered_map.proofs.Prelude.{◌≡◌, ◌≤◌, ◌<◌, ◌+◌, ◌-◌, ◌*◌, ◌/◌, ℕ, List, [], ◌∷◌, ◌++◌, length, set, min, slice_get, slice_index, Option, Some, None, arith, ⊎_elim, length-append, length-set, get_or-set_same, get_or-set_other, get_or_append_left, get_or_push, cases_eq, cases_lt, le-ltb, lt-ltb, slice_get_within, AreCounted, counted_last, live_to, somes, common_steps}
 use Rattle.ordered_map.proofs.SlotLemmas.{live_next, live_gap, live_past, live_rises, live_within, live_taken_after, live_taken_before, live_put_before, live_put_after, live_all}
-use Rattle.std.proofs.lemmas.Grind.{common_steps}
 
 module _ {X : Type 0} where
   -- a count fits among the items
@@ -22,8 +17,7 @@ module _ {X : Type 0} where
   -- a block with an item begins within the slots
   pub block_begins : (items : List (Option X)) (counts : List ℕ) (block : ℕ) → AreCounted items counts
       → block < length counts → 0 < slice_index counts block → 256 * block < length items
-  block_begins items counts block counted within some =
-      grind (arith, common_steps, live_past, cases_lt)
+  block_begins items counts block counted within some = grind (arith, common_steps, live_past, cases_lt)
 
   -- each slot is in a block
   pub block_within : (items : List (Option X)) (counts : List ℕ) (slot : ℕ) → AreCounted items counts
@@ -35,17 +29,9 @@ module _ {X : Type 0} where
       → slice_get items slot ≡ Some (Some item) → 0 < slice_index counts (slot / 256)
   block_has items counts slot item counted at =
       let within : slot < length items = slice_get_within items slot (Some item) at in
-      let begins : live_to items (256 * (slot / 256)) ≤ live_to items slot =
-      live_rises items (256 * (slot / 256)) slot (omega arith) in
-      let ends : live_to items (slot + 1) ≤ live_to items (256 * (slot / 256 + 1)) =
-      live_rises items (slot + 1) (256 * (slot / 256 + 1)) (omega arith) in
-      omega (
-        arith,
-        begins,
-        ends,
-        live_next items slot (Some item) at,
-        counted.each (slot / 256) (block_within items counts slot counted within),
-      )
+      let begins = live_rises items (256 * (slot / 256)) slot (omega arith) in
+      let ends = live_rises items (slot + 1) (256 * (slot / 256 + 1)) (omega arith) in
+      omega (arith, begins, ends, live_next items slot (Some item) at)
 
   -- ---- an item is taken out
 
@@ -89,8 +75,7 @@ module _ {X : Type 0} where
   -- ---- an item is put in last
 
   pub put_counted : (items : List (Option X)) (counts : List ℕ) (item : X) → AreCounted items counts
-      → length items / 256 < length counts
-      → AreCounted (items ++ Some item ∷ [])
+      → length items / 256 < length counts → AreCounted (items ++ Some item ∷ [])
       (set counts (length items / 256) (slice_index counts (length items / 256) + 1))
   put_counted items counts item counted block_is =
       grind (
@@ -125,15 +110,13 @@ module _ {X : Type 0} where
 
   live_min : (items : List (Option X)) (bound : ℕ) → length (somes items) ≡ length items → live_to items bound
       ≡ min bound (length items)
-  live_min items bound all =
-      grind (arith, common_steps, live_all, live_past, cases_lt)
+  live_min items bound all = grind (arith, common_steps, live_all, live_past, cases_lt)
 
   pub all_counted : (items : List (Option X)) (counts : List ℕ) → length (somes items) ≡ length items
       → length items ≤ 256 * length counts
       → ((block : ℕ) → block < length counts → slice_index counts block ≡ min 256 (length items - 256 * block))
       → AreCounted items counts
-  all_counted items counts all enough are =
-      grind (arith, common_steps, live_min)
+  all_counted items counts all enough are = grind (arith, common_steps, live_min)
 
   pub last_counted : (items : List (Option X)) (counts : List ℕ) (item : X) → AreCounted items counts
       → AreCounted (items ++ Some item ∷ []) (counted_last counts (length items))

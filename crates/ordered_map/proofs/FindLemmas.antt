@@ -1,17 +1,8 @@
 -- What the slot of a key says of the entries.
-use Rattle.std.proofs.Common.{◌≡◌, ◌<◌, ℕ, zero, suc, true, false, List, [], ◌∷◌, length, set, get_or, slice_get, position, Option, Some, None, String, refl, ap, arith}
-use Rattle.std.proofs.lemmas.Bool.{lt-ltb, le-ltb}
-use Rattle.std.proofs.lemmas.List.Quantifiers.{position-Some}
+use Rattle.ordered_map.proofs.Prelude.{◌≡◌, ◌<◌, ℕ, zero, suc, true, false, List, [], ◌∷◌, length, set, slice_index_or as get_or, slice_get, position, Option, Some, None, String, refl, ap, arith, lt-ltb, le-ltb, position-Some, slice_get_within, position_or_len, keys_of, lookup, lookup_key, remove_entry, Global, is_key, has_key, live_to, somes, common_steps}
 use Rattle.std.proofs.lemmas.Map.Entries.{length-keys_of}
-use Rattle.std.proofs.lemmas.Option.{slice_get_within}
-use Rattle.std.specs.List.{position_or_len}
-use Rattle.std.specs.Map.{keys_of, lookup, lookup_key, remove_entry}
-use Rattle.std.specs.declared.alloc.Global.{Global}
-use Rattle.ordered_map.specs.Entries.{is_key}
-use Rattle.ordered_map.specs.inside.Slots.{has_key, live_to, somes}
 use Rattle.ordered_map.proofs.PositionLemmas.{none_passes}
 use Rattle.ordered_map.proofs.SlotLemmas.{somes_at}
-use Rattle.std.proofs.lemmas.Grind.{common_steps}
 
 module _ {V : Type 0} (bytes : List ℕ) where
   -- What is found of a key whose entry is in a slot.
@@ -71,8 +62,7 @@ module _ {V : Type 0} (bytes : List ℕ) where
 
   pub found : (items : List (Option (String Global × V))) (slot : ℕ) → position (has_key bytes) items ≡ Some slot
       → IsFound items slot
-  found items slot is =
-      grind (arith, common_steps, position-Some, by_slot)
+  found items slot is = grind (arith, common_steps, position-Some, by_slot)
 
   -- What is found where no slot has an entry of the key.
   pub record IsMissing (entries : List (String Global × V)) : Type 0 where
@@ -105,8 +95,7 @@ module _ {V : Type 0} (bytes : List ℕ) where
 
   pub position_found : (items : List (Option (String Global × V))) (slot : ℕ) → IsFound items slot
       → position (is_key bytes) (keys_of (somes items)) ≡ Some (live_to items slot)
-  position_found items slot is =
-      grind (arith, common_steps, slice_get_within, somes_at, length-keys_of, lt-ltb)
+  position_found items slot is = grind (arith, common_steps, slice_get_within, somes_at, length-keys_of, lt-ltb)
 
   pub position_missing : (entries : List (String Global × V)) → IsMissing entries
       → position (is_key bytes) (keys_of entries) ≡ None

@@ -1,21 +1,11 @@
 -- Keys of slots, and the entries that they find.
-use Rattle.std.proofs.Common.{◌≡◌, ◌≤◌, ◌<◌, ◌+◌, ◌-◌, ℕ, zero, suc, Bool, true, false, List, [], ◌∷◌, ◌++◌, length, map, filter, set, get_or, slice_get, position, is_some, option_map, Option, Some, None, String, string_bytes, string_eq, refl, sym, ap, ◌∙◌, subst, arith, true≢false, ⊎_elim}
+use Rattle.ordered_map.proofs.Prelude.{◌≡◌, ◌≤◌, ◌<◌, ◌+◌, ◌-◌, ℕ, zero, suc, Bool, true, false, List, [], ◌∷◌, ◌++◌, length, map, filter, set, slice_index_or as get_or, slice_get, position, is_some, option_map, Option, Some, None, String, string_bytes, string_eq, refl, sym, ap, ◌∙◌, subst, arith, true≢false, ⊎_elim, cases_Bool, cases_eq, cases_lt, get_or_push, length-map, length-set, length_push, map-append, map-set, set-append_left, set-get_or, position-Some, none-some, slice_get-get_or, slice_get_within, IsDistinct, swap_remove, keys_of, lookup, values_of, Global, is_key, slot_entry, IsOnly, has_key, vacated, with_value_in, common_steps}
+use Rattle.std.proofs.Common.{IfSome}
 use Rattle.std.proofs.Math.Seq.{take-append_seam}
-use Rattle.std.proofs.lemmas.Bool.{cases_Bool, cases_eq, cases_lt}
-use Rattle.std.proofs.lemmas.List.{get_or_push, length-map, length-set, length_push, map-append, map-set, set-append_left, set-get_or}
-use Rattle.std.proofs.lemmas.List.Quantifiers.{position-Some}
 use Rattle.std.proofs.lemmas.Map.Keys.{apart_from_distinct}
-use Rattle.std.proofs.lemmas.Option.{none-some, slice_get-get_or, slice_get_within}
 use Rattle.std.specs.Cmp.Lexicographic.{nat_list_eq_equiv}
-use Rattle.std.specs.List.{IsDistinct, swap_remove}
-use Rattle.std.specs.Map.{keys_of, lookup, values_of}
-use Rattle.std.specs.Prelude.{IfSome}
-use Rattle.std.specs.declared.alloc.Global.{Global}
 use Rattle.indexmap.specs.IndexMap.{set_value_at}
-use Rattle.ordered_map.specs.Entries.{is_key, slot_entry}
-use Rattle.ordered_map.specs.inside.Slots.{IsOnly, has_key, vacated, with_value_in}
 use Rattle.ordered_map.proofs.PositionLemmas.{none_within, position_is, position_none}
-use Rattle.std.proofs.lemmas.Grind.{common_steps}
 
 -- the last item takes the place of another
 swap_removed : {X : Type 0} (slots : List X) (slot : ℕ) (last default : X) → slot < length slots
@@ -60,8 +50,7 @@ module _ {V : Type 0} where
   module _ (bytes : List ℕ) (slots : List (String Global × Option V)) where
     within_slots : (slot : ℕ) (content : String Global × Option V) → slice_get slots slot ≡ Some content
         → slot < length (keys_of slots)
-    within_slots slot content at =
-        grind (arith, common_steps, slice_get_within, length-map)
+    within_slots slot content at = grind (arith, common_steps, slice_get_within, length-map)
 
     pub only_slot : (found : Option ℕ) → IsDistinct string_eq (keys_of slots)
         → found ≡ position (is_key bytes) (keys_of slots) → IfSome found (IsOnly bytes slots)
@@ -79,8 +68,7 @@ module _ {V : Type 0} where
               (⊎_elim
               (λ (before : other < slot). true≢false (sym has ∙ (ap (is_key bytes) (sym here) ∙ first.2 other before)))
               (λ (after : slot ≤ other).
-              true≢false (sym (sym (nat_list_eq_equiv.congr bytes (string_bytes (get_or (keys_of slots) slot key))
-              (string_bytes key) first.1) ∙ has)
+              true≢false (sym (grind (arith, common_steps, string_bytes, nat_list_eq_equiv.congr))
               ∙ (ap (string_eq (get_or (keys_of slots) slot key)) (sym here)
               ∙ apart_from_distinct string_eq (keys_of slots) slot other key distinct (omega (arith, after, differ))
               (within_slots other content at))))
@@ -110,8 +98,7 @@ module _ {V : Type 0} where
 
     pub dead_entry : (slot : ℕ) → IsOnly bytes slots slot → get_or (map slot_entry slots) slot None ≡ None
         → position (has_key bytes) (map slot_entry slots) ≡ None
-    dead_entry slot alone dead =
-        grind (arith, common_steps, all_fail, entry_at, cases_Bool)
+    dead_entry slot alone dead = grind (arith, common_steps, all_fail, entry_at, cases_Bool)
 
     pub live_entry : (slot : ℕ) (entry : String Global × V) → position (is_key bytes) (keys_of slots) ≡ Some slot
         → get_or (map slot_entry slots) slot None ≡ Some entry
@@ -120,19 +107,14 @@ module _ {V : Type 0} where
         let first = position-Some (is_key bytes) (keys_of slots) slot entry.0 is in
         let within : slot < length slots =
         omega (arith, first.0, length-map slots (λ (pair : String Global × Option V). pair.0)) in
-        let at : slice_get slots slot ≡ Some (get_or slots slot (entry.0, None)) =
-        slice_get-get_or slots slot (entry.0, None) within in
-        let here : get_or (map slot_entry slots) slot None ≡ slot_entry (get_or slots slot (entry.0, None)) =
-        entry_at slots slot (get_or slots slot (entry.0, None)) at in
+        let at = slice_get-get_or slots slot (entry.0, None) within in
         position_is (has_key bytes) (map slot_entry slots) slot None
         (omega (arith, within, length-map slots slot_entry))
         (λ other before.
-        let earlier : slice_get slots other ≡ Some (get_or slots other (entry.0, None)) =
-        slice_get-get_or slots other (entry.0, None) (omega (arith, before, within)) in
+        let earlier = slice_get-get_or slots other (entry.0, None) (omega (arith, before, within)) in
         ap (has_key bytes) (entry_at slots other (get_or slots other (entry.0, None)) earlier)
         ∙ fails bytes (get_or slots other (entry.0, None))
-        (ap (is_key bytes) (sym (key_at slots other (get_or slots other (entry.0, None)) entry.0 earlier))
-        ∙ first.2 other before))
+        (grind (arith, common_steps, (key_at slots other (get_or slots other (entry.0, None)) entry.0 earlier))))
         (grind (arith, common_steps, key_at))
 
   -- ---- a value that is taken or written
@@ -194,8 +176,7 @@ module _ {V : Type 0} where
       → after ≡ set slots slot (text, None)
   replaced slots pushed after slot text None within put out removed =
       let longer : length pushed ≡ length slots + 1 = ap length put ∙ length_push slots (text, None) in
-      absurd (none-some (get_or pushed slot (text, None)) (out ∙ slice_get-get_or pushed slot (text, None)
-      (omega (arith, within, longer))))
+      absurd (none-some (get_or pushed slot (text, None)) (grind (arith, common_steps, slice_get-get_or)))
   replaced slots pushed after slot text (Some last) within put out removed =
       removed ∙ (ap (λ items. swap_remove items slot last) put ∙ swap_removed slots slot (text, None) last within)
 
@@ -227,8 +208,7 @@ module _ {V : Type 0} where
         → is_key bytes content.0 ≡ false
     key_gone text alone free other content at =
         let first = position-Some (is_key bytes) (keys_of slots) slot text found in
-        let there : slice_get slots slot ≡ Some (get_or slots slot (text, None)) =
-        slice_get-get_or slots slot (text, None) found_within in
+        let there = slice_get-get_or slots slot (text, None) found_within in
         let unlike : is_key bytes text ≡ false =
         grind (arith, common_steps, string_bytes, key_at, key_fails, cases_Bool, nat_list_eq_equiv.congr) in
         ⊎_elim
@@ -253,8 +233,7 @@ module _ {V : Type 0} where
       where
         by : (entry : Option (String Global × V)) → get_or (map slot_entry slots) slot None ≡ entry
             → set (map slot_entry slots) slot None ≡ vacated (map slot_entry slots) was
-        by None dead =
-            grind (arith, common_steps, set-get_or, dead_entry)
+        by None dead = grind (arith, common_steps, set-get_or, dead_entry)
         by (Some entry) live =
             ap (vacated (map slot_entry slots)) (sym (is ∙ live_entry bytes slots slot entry found live))
 

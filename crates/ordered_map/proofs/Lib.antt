@@ -3,4 +3,5 @@ mod FindLemmas
 mod KeyLemmas
 mod MapLemmas
 mod PositionLemmas
+mod Prelude
 mod SlotLemmas

@@ -1,15 +1,9 @@
 -- What the calls of a map make of its slots.
-use Rattle.std.proofs.Common.{◌≡◌, ◌≤◌, ◌<◌, ◌+◌, ◌-◌, ◌*◌, ℕ, zero, suc, List, [], ◌∷◌, ◌++◌, length, map, min, filter, position, get_or, slice_get, slice_index, slice_index_or, is_some, option_map, Bor, Option, Some, None, String, refl, sym, ap, ◌∙◌, arith, one-add, zero-add}
-use Rattle.std.proofs.lemmas.List.{append-nil, get_or_default, length-append, length-set, length_push, map-append}
-use Rattle.std.specs.Map.Iter.{deref_pair}
-use Rattle.std.specs.Map.{remove_entry}
-use Rattle.std.specs.declared.alloc.Global.{Global}
+use Rattle.ordered_map.proofs.Prelude.{◌≡◌, ◌≤◌, ◌<◌, ◌+◌, ◌-◌, ◌*◌, ℕ, zero, suc, List, [], ◌∷◌, ◌++◌, length, map, min, filter, position, slice_index_or as get_or, slice_get, slice_index, slice_index_or, is_some, option_map, Bor, Option, Some, None, String, refl, sym, ap, ◌∙◌, arith, one-add, zero-add, append-nil, get_or_default, length-append, length-set, length_push, map-append, deref_pair, remove_entry, Global, AreCounted, IsOrderedMap, counted_last, has_key, here, live_to, somes, uncounted, vacated, with_value, with_value_in, common_steps}
 use Rattle.ordered_map.specs.Entries.{Entries, is_key, set_value_at, slot_entry, with_value_at}
-use Rattle.ordered_map.specs.inside.Slots.{AreCounted, IsOrderedMap, counted_last, has_key, here, live_to, somes, uncounted, vacated, with_value, with_value_in}
 use Rattle.ordered_map.proofs.CountLemmas.{all_counted, count_small, last_counted, taken_counted}
 use Rattle.ordered_map.proofs.FindLemmas.{found, missing}
 use Rattle.ordered_map.proofs.SlotLemmas.{packed_all, packed_short, packed_somes, somes-append, somes_taken}
-use Rattle.std.proofs.lemmas.Grind.{common_steps}
 
 module _ {V : Type 0} where
   -- ---- an entry that is read
@@ -21,12 +15,7 @@ module _ {V : Type 0} where
   pub seen : (entry : Option (Bor (String Global) × Bor V)) (is : String Global × V)
       → option_map deref_pair entry ≡ Some is → IsSeen entry is
   seen None is same = absurd (cc)
-  seen (Some pair) is same = record {
-    key_is = ap (λ (found : Option (String Global × V)).
-        option_map (λ (both : String Global × V). both.0) found) same;
-    value_is = ap (λ (found : Option (String Global × V)).
-        option_map (λ (both : String Global × V). both.1) found) same;
-  }
+  seen (Some pair) is same = record { key_is = grind (arith, common_steps); value_is = grind (arith, common_steps) }
 
   -- ---- an entry that is written
 
@@ -51,13 +40,11 @@ module _ {V : Type 0} where
       rw one-add (ap (λ rest. first ∷ rest) (somes_written items slot entry value at))
 
   pub view_written : (items : List (Option (String Global × V))) (slot index : ℕ)
-      (entry : String Global × V) (value : V)
-      → slice_get items slot ≡ Some (Some entry) → live_to items slot ≡ index
+      (entry : String Global × V) (value : V) → slice_get items slot ≡ Some (Some entry) → live_to items slot ≡ index
       → ◌≡◌ {A = Entries V}
       (record { entries = somes (with_value_in items slot value); slots = length (with_value_in items slot value) })
       (with_value_at (record { entries = somes items; slots = length items }) index value)
-  view_written items slot index entry value at is =
-      grind (arith, common_steps, length-set, somes_written)
+  view_written items slot index entry value at is = grind (arith, common_steps, length-set, somes_written)
 
   length_written : (items : List (Option (String Global × V))) (slot : ℕ) (value : V)
       → length (somes (with_value_in items slot value)) ≡ length (somes items)
@@ -88,8 +75,7 @@ module _ {X : Type 0} where
       let short : length after ≤ length items = rw kept (packed_short items) in
       all_counted after counted all (omega (arith, short, same, is.enough)) are
 
-  pub packed_full : (items after : List (Option X)) → after ≡ filter is_some items
-      → length after ≡ length (somes items)
+  pub packed_full : (items after : List (Option X)) → after ≡ filter is_some items → length after ≡ length (somes items)
   packed_full items after kept = rw kept (sym (packed_all items) ∙ ap length (packed_somes items))
 
 -- ---- an entry that is put in last, and out of the slot where its key was
@@ -116,14 +102,12 @@ module _ {X : Type 0} where
       (freed : IsFreed items was counts live) where
     pub freed_small : (block default : ℕ) → block < length counts → slice_index_or counts block default ≤ 256
     freed_small block default within =
-        let small : slice_index counts block ≤ 256 =
-        count_small (vacated items was) counts block freed.counted within in
+        let small = count_small (vacated items was) counts block freed.counted within in
         omega (arith, small, get_or_default counts block default 0 within)
 
     pub freed_counted : (item : X) (len : ℕ) → len ≡ length items
         → AreCounted (vacated items was ++ Some item ∷ []) (counted_last counts len)
-    freed_counted item len is =
-        grind (arith, common_steps, last_counted, length-set)
+    freed_counted item len is = grind (arith, common_steps, last_counted, length-set)
 
     pub freed_live : (item : X) → live ≡ length (somes (vacated items was ++ Some item ∷ []))
     freed_live item =
@@ -146,8 +130,7 @@ module _ {V : Type 0} where
 module _ {V : Type 0} where
   last_slot : (slots : List (String Global × Option V)) (last : String Global × Option V)
       → somes (map slot_entry (slots ++ last ∷ [])) ≡ somes (map slot_entry slots) ++ somes (slot_entry last ∷ [])
-  last_slot slots last =
-      grind (arith, common_steps, map-append, somes-append)
+  last_slot slots last = grind (arith, common_steps, map-append, somes-append)
 
   -- the last slot has an entry, of so many
   pub record HasLast (rest : List (String Global × Option V)) (left : ℕ) (entry : String Global × V)
@@ -161,9 +144,7 @@ module _ {V : Type 0} where
       (counted : left ≡ length (somes (map slot_entry slots))) (are : somes (map slot_entry slots) ≡ all)
       (last : String Global × Option V) (split : slots ≡ rest ++ last ∷ []) where
     pub last_live : (entry : String Global × V) → slot_entry last ≡ Some entry → HasLast rest left entry all
-    last_live entry is =
-        grind (arith, common_steps, last_slot, length_push)
+    last_live entry is = grind (arith, common_steps, last_slot, length_push)
 
     pub last_vacant : slot_entry last ≡ None → somes (map slot_entry rest) ≡ all
-    last_vacant is =
-        grind (arith, common_steps, append-nil, last_slot)
+    last_vacant is = grind (arith, common_steps, append-nil, last_slot)

@@ -1,8 +1,5 @@
 -- The items of slots, and how many there are.
-use Rattle.std.proofs.Common.{◌≡◌, ◌≤◌, ◌<◌, ◌+◌, ℕ, zero, suc, true, false, List, [], ◌∷◌, ◌++◌, length, filter, get_or, set, slice_get, is_some, Option, Some, None, refl, ap, arith, add-one, one-add, zero-add}
-use Rattle.std.proofs.lemmas.Option.{slice_get-get_or}
-use Rattle.ordered_map.specs.inside.Slots.{IsLive, here, live_to, somes}
-use Rattle.std.proofs.lemmas.Grind.{common_steps}
+use Rattle.ordered_map.proofs.Prelude.{◌≡◌, ◌≤◌, ◌<◌, ◌+◌, ℕ, zero, suc, true, false, List, [], ◌∷◌, ◌++◌, length, filter, slice_index_or as get_or, set, slice_get, is_some, Option, Some, None, refl, ap, arith, add-one, one-add, zero-add, slice_get-get_or, IsLive, here, live_to, somes, common_steps}
 
 module _ {X : Type 0} where
   -- ---- the items
@@ -26,10 +23,8 @@ module _ {X : Type 0} where
   live_suc : (items : List (Option X)) (slot : ℕ) (item : Option X) → slice_get items slot ≡ Some item
       → live_to items (suc slot) ≡ live_to items slot + here item
   live_suc [] slot item at = absurd (cc)
-  live_suc (first ∷ items) zero item at =
-      grind (arith, common_steps, live_none)
-  live_suc (first ∷ items) (suc slot) item at =
-      grind (arith, common_steps, (live_suc items slot item at))
+  live_suc (first ∷ items) zero item at = grind (arith, common_steps, live_none)
+  live_suc (first ∷ items) (suc slot) item at = grind (arith, common_steps, (live_suc items slot item at))
 
   pub live_next : (items : List (Option X)) (slot : ℕ) (item : Option X) → slice_get items slot ≡ Some item
       → live_to items (slot + 1) ≡ live_to items slot + here item

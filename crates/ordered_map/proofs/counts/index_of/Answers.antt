@@ -1,4 +1,4 @@
-use Rattle.std.proofs.Common.{arith, sym}
+use Rattle.ordered_map.proofs.Prelude.{arith, sym}
 use Rattle.ordered_map.proofs.SlotLemmas.{live_all}
 use Rattle.ordered_map.proofs.counts.index_of.Goals as goal
 

@@ -1,5 +1,4 @@
-use Rattle.std.proofs.Common.{◌≡◌, ◌+◌, ◌*◌}
-use Rattle.ordered_map.specs.inside.Slots.{live_to}
+use Rattle.ordered_map.proofs.Prelude.{◌≡◌, ◌+◌, ◌*◌, live_to}
 use Rattle.ordered_map.proofs.counts.live_at.Given as goal
 
 abbrev pub invariant-loop-block : goal.invariant-loop-block

@@ -1,26 +1,13 @@
-use Rattle.std.proofs.Common.{◌≡◌, ◌<◌, ◌+◌, None, arith, get_or, length, sym}
-use Rattle.std.proofs.lemmas.Option.{slice_get-get_or}
-use Rattle.ordered_map.specs.inside.Slots.{here, live_to}
+use Rattle.ordered_map.proofs.Prelude.{◌≡◌, ◌<◌, ◌+◌, None, arith, slice_index_or as get_or, length, sym, slice_get-get_or, here, live_to, common_steps}
 use Rattle.ordered_map.proofs.SlotLemmas.{here_none, here_some, live_below, live_next, live_none}
 use Rattle.ordered_map.proofs.counts.live_before.Goals.{then-is_live, else-is_live}
 use Rattle.ordered_map.proofs.counts.live_before.Goals as goal
-use Rattle.std.proofs.lemmas.Grind.{common_steps}
 
 pub loop-block-init : goal.loop-block-init
 loop-block-init g c = sym (live_none c.args.slots.now)
 
 pub overflow_add-live : goal.overflow_add-live
-overflow_add-live g c =
-    grind (
-      arith,
-      common_steps,
-      live_below,
-      c.loop-block-test.true,
-      c.requires.within,
-      c.requires.counted.enough,
-      c.loop-block.invariant,
-      c.requires.counted.each,
-    )
+overflow_add-live g c = grind (arith, common_steps, live_below)
 
 pub overflow_add-live-then-is_live : goal.overflow_add-live-then-is_live
 overflow_add-live-then-is_live g c =
@@ -34,8 +21,7 @@ loop-before-preserved g c =
     let so_far : c.loop-before.live ≡ live_to items c.loop-before.before = c.loop-before.invariant in
     let next : live_to items (c.loop-before.before + 1) ≡ live_to items c.loop-before.before
     + here (get_or items c.loop-before.before None)
-    = live_next items c.loop-before.before (get_or items c.loop-before.before None)
-    (slice_get-get_or items c.loop-before.before None within) in
+    = grind (arith, common_steps, live_next, slice_get-get_or) in
     let more : c.if-is_live.live ≡ live_to items (c.loop-before.before + 1) =
     elim c.if-is_live.branch [
       | then-is_live w ↦ grind (arith, common_steps, here_some, w.live-is, c.is_live.ensures, w.if-is_live.true)

@@ -1,10 +1,7 @@
-use Rattle.std.proofs.Common.{◌≡◌, ◌+◌, ◌*◌, ◌∙◌, None, arith, get_or, sym}
-use Rattle.std.proofs.lemmas.Option.{slice_get-get_or}
-use Rattle.ordered_map.specs.inside.Slots.{here, live_to}
-use Rattle.ordered_map.proofs.SlotLemmas.{here_none, here_some, live_next, live_past, live_read}
+use Rattle.ordered_map.proofs.Prelude.{◌≡◌, ◌+◌, ◌*◌, ◌∙◌, arith, sym, live_to, common_steps, None, slice_index_or as get_or, slice_get-get_or, here}
+use Rattle.ordered_map.proofs.SlotLemmas.{here_none, here_some, live_past, live_read, live_next}
 use Rattle.ordered_map.proofs.counts.live_from.Goals.{then-is_live+else-left-eq0, else-is_live}
 use Rattle.ordered_map.proofs.counts.live_from.Goals as goal
-use Rattle.std.proofs.lemmas.Grind.{common_steps}
 
 pub returns-then-left-eq0-clause-found : goal.returns-then-left-eq0-clause-found
 returns-then-left-eq0-clause-found g c =
@@ -36,5 +33,4 @@ loop-slot-preserved g c =
     more
 
 pub returns-clause-none : goal.returns-clause-none
-returns-clause-none g c =
-    grind (arith, common_steps, live_past, c.loop-slot.invariant)
+returns-clause-none g c = grind (arith, common_steps, live_past, c.loop-slot.invariant)

@@ -1,4 +1,4 @@
-use Rattle.std.proofs.Common.{◌≡◌, ◌<◌, ◌-◌, ◌*◌, ℕ, min, slice_index}
+use Rattle.ordered_map.proofs.Prelude.{◌≡◌, ◌<◌, ◌-◌, ◌*◌, ℕ, min, slice_index}
 use Rattle.ordered_map.proofs.counts.recount.Given as goal
 
 abbrev pub invariant-loop-count : goal.invariant-loop-count

@@ -1,4 +1,4 @@
-use Rattle.std.proofs.Common.{arith}
+use Rattle.ordered_map.proofs.Prelude.{arith}
 use Rattle.ordered_map.proofs.SlotLemmas.{all_live, live_all}
 use Rattle.ordered_map.proofs.counts.slot_of.Goals as goal
 

@@ -1,5 +1,4 @@
-use Rattle.std.proofs.Common.{◌∙◌, ◌-◌, ◌*◌, ap, min}
-use Rattle.ordered_map.specs.inside.Slots.{somes}
+use Rattle.ordered_map.proofs.Prelude.{◌∙◌, ◌-◌, ◌*◌, ap, min, somes}
 use Rattle.ordered_map.proofs.MapLemmas.{packed_counted, packed_full}
 use Rattle.ordered_map.proofs.SlotLemmas.{packed_somes}
 use Rattle.ordered_map.proofs.map.pack.Goals as goal

@@ -1,4 +1,4 @@
-use Rattle.std.proofs.Common.{arith}
+use Rattle.ordered_map.proofs.Prelude.{arith}
 use Rattle.ordered_map.proofs.SlotLemmas.{somes_short}
 use Rattle.ordered_map.proofs.map.pack_if_sparse.Goals as goal
 

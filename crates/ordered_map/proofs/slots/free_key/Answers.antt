@@ -1,7 +1,4 @@
-use Rattle.std.proofs.Common.{◌≡◌, ◌∙◌, None, ap, map, position, refl, set, sym}
-use Rattle.std.specs.Map.{keys_of}
-use Rattle.ordered_map.specs.Entries.{is_key, slot_entry}
-use Rattle.ordered_map.specs.inside.Slots.{vacated}
+use Rattle.ordered_map.proofs.Prelude.{◌≡◌, ◌∙◌, None, ap, map, position, refl, set, sym, keys_of, is_key, slot_entry, vacated}
 use Rattle.ordered_map.proofs.KeyLemmas.{absent, key_fails, key_gone, no_entry, vacated_entries}
 use Rattle.ordered_map.proofs.slots.free_key.Goals as goal
 

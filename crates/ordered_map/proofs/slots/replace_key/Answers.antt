@@ -1,6 +1,4 @@
-use Rattle.std.proofs.Common.{◌≡◌, ◌∙◌, ◌++◌, [], ◌∷◌, None, string_bytes}
-use Rattle.indexmap.proofs.CallerLemmas.{insert_entry-new}
-use Rattle.ordered_map.specs.Entries.{is_key}
+use Rattle.ordered_map.proofs.Prelude.{◌≡◌, ◌∙◌, ◌++◌, [], ◌∷◌, None, string_bytes, insert_entry-new, is_key}
 use Rattle.ordered_map.proofs.KeyLemmas.{absent, key_fails, replaced}
 use Rattle.ordered_map.proofs.slots.replace_key.Goals as goal
 

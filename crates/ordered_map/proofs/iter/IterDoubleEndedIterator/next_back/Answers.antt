@@ -1,5 +1,4 @@
-use Rattle.std.proofs.Common.{◌∙◌, ap, length, option_map, rules, sym}
-use Rattle.std.specs.Map.Iter.{deref_pair}
+use Rattle.ordered_map.proofs.Prelude.{◌∙◌, ap, length, option_map, rules, sym, deref_pair}
 use Rattle.ordered_map.proofs.MapLemmas.{last_live, last_vacant}
 use Rattle.ordered_map.proofs.iter.IterDoubleEndedIterator.next_back.Goals as goal
 

@@ -1,6 +1,4 @@
-use Rattle.std.proofs.Common.{◌≡◌, length, map}
-use Rattle.ordered_map.specs.Entries.{slot_entry}
-use Rattle.ordered_map.specs.inside.Slots.{somes}
+use Rattle.ordered_map.proofs.Prelude.{◌≡◌, length, map, slot_entry, somes}
 use Rattle.ordered_map.proofs.iter.IterIterator.next.Given as goal
 
 -- only slots without an entry were passed over

@@ -1,7 +1,5 @@
-use Rattle.std.proofs.Common.{◌∙◌, Some, ap, slice_get, sym}
-use Rattle.std.proofs.lemmas.Option.{none-some, some_pair_parts}
-use Rattle.ordered_map.specs.inside.Slots.{somes}
-use Rattle.ordered_map.proofs.FindLemmas.{found, missing, position_found, position_missing}
+use Rattle.ordered_map.proofs.Prelude.{◌∙◌, Some, ap, slice_get, sym, none-some, some_pair_parts, somes, common_steps, arith}
+use Rattle.ordered_map.proofs.FindLemmas.{found, position_found, position_missing, missing}
 use Rattle.ordered_map.proofs.SlotLemmas.{somes_at}
 use Rattle.ordered_map.proofs.map.OrderedMap.get_full.Goals as goal
 
@@ -38,8 +36,7 @@ returns-in_err-key-clause-value g c =
 pub returns-clause-index : goal.returns-clause-index
 returns-clause-index g c =
     let there = found c.args.key.now c.self.inside.slots c.in_ok-slot.slot (sym c.in_ok-slot.ensures) in
-    rw (← c.self.view_is) (ap (λ index. Some index) c.index_of-index.ensures
-    ∙ sym (position_found c.args.key.now c.self.inside.slots c.in_ok-slot.slot there))
+    rw (← c.self.view_is) (grind (arith, common_steps, position_found, c.index_of-index.ensures))
 
 pub returns-clause-key : goal.returns-clause-key
 returns-clause-key g c =
@@ -59,5 +56,4 @@ pub returns-clause-entry : goal.returns-clause-entry
 returns-clause-entry g c =
     let there = found c.args.key.now c.self.inside.slots c.in_ok-slot.slot (sym c.in_ok-slot.ensures) in
     rw (← c.self.view_is) (ap (slice_get (somes c.self.inside.slots)) c.index_of-index.ensures
-    ∙ (somes_at c.self.inside.slots c.in_ok-slot.slot there.entry there.at
-    ∙ sym (c.in_ok-key.ensures ∙ there.here)))
+    ∙ (grind (arith, common_steps, somes_at, c.in_ok-key.ensures)))

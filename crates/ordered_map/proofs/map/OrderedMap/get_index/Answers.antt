@@ -1,6 +1,4 @@
-use Rattle.std.proofs.Common.{◌∙◌, Some, None, ap, slice_get, sym}
-use Rattle.std.proofs.lemmas.Option.{get_or_from_slice_get}
-use Rattle.ordered_map.specs.inside.Slots.{somes}
+use Rattle.ordered_map.proofs.Prelude.{◌∙◌, Some, None, ap, slice_get, sym, get_or_from_slice_get, somes}
 use Rattle.ordered_map.proofs.SlotLemmas.{somes_at}
 use Rattle.ordered_map.proofs.map.OrderedMap.get_index.Goals as goal
 

@@ -1,7 +1,7 @@
-use Rattle.std.proofs.Common.{◌∙◌, sym}
+use Rattle.ordered_map.proofs.map.OrderedMap.get_key_value.Goals as goal
+use Rattle.ordered_map.proofs.Prelude.{common_steps, arith, ◌∙◌, sym}
 use Rattle.ordered_map.proofs.FindLemmas.{found, missing}
 use Rattle.ordered_map.proofs.MapLemmas.{seen}
-use Rattle.ordered_map.proofs.map.OrderedMap.get_key_value.Goals as goal
 
 pub returns-in_err-slot-clause-key : goal.returns-in_err-slot-clause-key
 returns-in_err-slot-clause-key g c =

@@ -1,14 +1,10 @@
-use Rattle.std.proofs.Common.{◌≡◌, ◌∙◌, ap, arith, refl, string_bytes, sym}
-use Rattle.std.proofs.lemmas.List.{with_items_is}
-use Rattle.std.specs.Vec.{with_items}
-use Rattle.ordered_map.specs.inside.Slots.{somes, uncounted}
+use Rattle.ordered_map.proofs.Prelude.{◌≡◌, ◌∙◌, ap, arith, refl, string_bytes, sym, with_items_is, with_items, somes, uncounted, common_steps}
 use Rattle.ordered_map.proofs.CountLemmas.{block_has}
 use Rattle.ordered_map.proofs.FindLemmas.{found}
 use Rattle.ordered_map.proofs.MapLemmas.{IsFreed, freed_counted, freed_live, freed_none, freed_small, freed_some, put_entries}
 use Rattle.ordered_map.proofs.SlotLemmas.{somes_short}
 use Rattle.ordered_map.proofs.map.OrderedMap.insert_last.Goals.{in-Some, in-None}
 use Rattle.ordered_map.proofs.map.OrderedMap.insert_last.Goals as goal
-use Rattle.std.proofs.lemmas.Grind.{common_steps}
 
 pub uncount-requires-clause-some : goal.uncount-requires-clause-some
 uncount-requires-clause-some g c =

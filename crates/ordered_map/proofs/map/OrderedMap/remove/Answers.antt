@@ -1,12 +1,9 @@
-use Rattle.std.proofs.Common.{◌≡◌, ◌∙◌, ◌-◌, Option, String, Global, ap, arith, option_map, sym}
-use Rattle.std.proofs.lemmas.List.{with_items_is}
-use Rattle.std.specs.Vec.{with_items}
-use Rattle.ordered_map.specs.inside.Slots.{somes, uncounted}
+use Rattle.ordered_map.proofs.Prelude.{common_steps, with_items_is, with_items, somes, uncounted}
+use Rattle.std.proofs.Common.{◌-◌, arith, sym, ◌≡◌, ◌∙◌, Option, String, Global, ap, option_map}
+use Rattle.ordered_map.proofs.FindLemmas.{missing, found}
 use Rattle.ordered_map.proofs.CountLemmas.{block_has, taken_counted}
-use Rattle.ordered_map.proofs.FindLemmas.{found, missing}
 use Rattle.ordered_map.proofs.SlotLemmas.{somes_taken}
 use Rattle.ordered_map.proofs.map.OrderedMap.remove.Goals as goal
-use Rattle.std.proofs.lemmas.Grind.{common_steps}
 
 pub returns-in_err-slot-clause-value : goal.returns-in_err-slot-clause-value
 returns-in_err-slot-clause-value g c =
@@ -33,14 +30,7 @@ pack_if_sparse-requires-clause-counted g c =
     let there = found c.args.key.now c.self.inside.slots c.in_ok-slot.slot (sym c.in_ok-slot.ensures) in
     let counts_are : (with_items c.self.inside.counts c.uncount.new.counts).items
     ≡ uncounted c.self.inside.counts.items c.in_ok-slot.slot =
-    grind (
-      arith,
-      common_steps,
-      with_items_is,
-      c.deref_mut.ensures.len,
-      c.uncount.ensures,
-      c.deref_mut.ensures.value,
-    ) in
+    grind (arith, common_steps, with_items_is, c.deref_mut.ensures.len, c.uncount.ensures, c.deref_mut.ensures.value) in
     rw (c.take-value.ensures.slots, c.deref_mut-2.ensures.value, counts_are)
     (taken_counted c.self.inside.slots c.self.inside.counts.items c.in_ok-slot.slot there.entry
     c.self.invariant.counted there.at)

@@ -1,6 +1,5 @@
-use Rattle.std.proofs.Common.{◌∙◌, Some, None, Option, String, Global, ap, option_map, refl, slice_get, sym}
-use Rattle.std.proofs.lemmas.Option.{get_or_from_slice_get, slice_get-map}
-use Rattle.ordered_map.specs.inside.Slots.{somes}
+use Rattle.ordered_map.proofs.Prelude.{get_or_from_slice_get, slice_get-map, somes, common_steps}
+use Rattle.std.proofs.Common.{◌∙◌, Option, String, Global, ap, option_map, refl, slice_get, sym, arith}
 use Rattle.ordered_map.proofs.MapLemmas.{view_written, written_map}
 use Rattle.ordered_map.proofs.SlotLemmas.{somes_at}
 use Rattle.ordered_map.proofs.map.OrderedMap.value_mut.Goals as goal
@@ -25,8 +24,7 @@ returns g c =
             ∙ (ap (λ (entry : Option (String Global × g.row.V.Denot)). option_map
             (λ (pair : String Global × g.row.V.Denot). pair.1) entry)
             (ap (slice_get (somes c.self.inside.slots)) (sym c.in-Some.ensures.index)
-            ∙ (somes_at c.self.inside.slots c.in-Some.slot live.item live.at
-            ∙ sym (get_or_from_slice_get c.self.inside.slots c.in-Some.slot (Some live.item) None live.at)))
+            ∙ (grind (arith, common_steps, somes_at, get_or_from_slice_get)))
             ∙ c.value_mut.ensures.value));
       },
     )

@@ -1,4 +1,4 @@
-use Rattle.std.proofs.Common.{sym}
+use Rattle.ordered_map.proofs.Prelude.{sym}
 use Rattle.ordered_map.proofs.KeyLemmas.{dead_entry, live_entry, no_entry}
 use Rattle.ordered_map.proofs.slots.Slots.find.Goals as goal
 

@@ -1,7 +1,4 @@
-use Rattle.std.proofs.Common.{◌≡◌, ◌∙◌, ◌++◌, [], ◌∷◌, Some, ap, map, position, sym}
-use Rattle.indexmap.proofs.CallerLemmas.{insert_entry-new}
-use Rattle.ordered_map.specs.Entries.{slot_entry}
-use Rattle.ordered_map.specs.inside.Slots.{has_key, vacated}
+use Rattle.ordered_map.proofs.Prelude.{◌≡◌, ◌∙◌, ◌++◌, [], ◌∷◌, Some, ap, map, position, sym, insert_entry-new, slot_entry, has_key, vacated}
 use Rattle.ordered_map.proofs.KeyLemmas.{put_entries}
 use Rattle.ordered_map.proofs.slots.Slots.push.Goals as goal
 

@@ -1,4 +1,4 @@
-use Rattle.std.proofs.Common.{◌∙◌, sym}
+use Rattle.ordered_map.proofs.Prelude.{◌∙◌, sym}
 use Rattle.ordered_map.proofs.KeyLemmas.{taken, value_at}
 use Rattle.ordered_map.proofs.slots.Slots.take.Goals as goal
 
@@ -10,5 +10,4 @@ returns-clause-value g c =
     (sym c.in_ok-get_index_mut.ensures.value))
 
 pub returns-clause-slots : goal.returns-clause-slots
-returns-clause-slots g c =
-    rw (← c.self.view_is, c.take.ensures.after) (taken c.self.inside.indexed.entries c.args.slot)
+returns-clause-slots g c = rw (← c.self.view_is, c.take.ensures.after) (taken c.self.inside.indexed.entries c.args.slot)

@@ -1,4 +1,4 @@
-use Rattle.std.proofs.Common.{◌∙◌, refl, sym}
+use Rattle.ordered_map.proofs.Prelude.{◌∙◌, refl, sym, common_steps, arith}
 use Rattle.ordered_map.proofs.KeyLemmas.{live_value, value_at, written}
 use Rattle.ordered_map.proofs.slots.Slots.value_mut.Goals as goal
 
@@ -16,7 +16,12 @@ returns g c = (
   ),
   record {
     lends = tt;
-    value = rw (← c.self.view_is) (sym (value_at c.self.inside.indexed.entries c.args.slot c.index_mut.result.now
-        c.index_mut.ensures.value) ∙ c.value_there.ensures.value);
+    value = rw (← c.self.view_is) (sym (grind (
+      arith,
+      common_steps,
+      value_at,
+      c.self.inside.indexed.entries,
+      c.index_mut.ensures.value,
+    )) ∙ c.value_there.ensures.value);
   },
 )
