@@ -1,34 +1,6 @@
 -- The facts of a record, what is known after it, and the output of `trace` and `check --explain` from the record on.
-use Rattle.std.proofs.Common.{◌≡◌, ◌≢◌, ℕ, Bool, false, List, [], ◌∷◌, option_map, string_bytes, refl, sym, ap, ap₂, ◌∙◌, inl, inr}
-use Rattle.std.specs.Prelude.{◌⊎◌}
-use Rattle.lsp_message.specs.Message.{reading}
-use Rattle.lsp_message.specs.Seen.{change_view}
-use Rattle.lsp_message.specs.Params.{ChangeData}
-use Rattle.lsp_server.specs.Incoming.{IncomingData, incoming_of}
-use Rattle.lsp_server.specs.Step.{ServerData}
-use Rattle.lsp_log.specs.declared.record.Head.{Head}
-use Rattle.lsp_log.specs.declared.record.Sender.{Sender}
-use Rattle.lsp_log.specs.declared.record.Sender.TheVariants.{Client, Server}
-use Rattle.lsp_log.specs.declared.record.Version.{Version}
-use Rattle.lsp_log.specs.Log.{Record}
+use Rattle.lsp_replay.proofs.Prelude.{◌≡◌, ◌≢◌, ℕ, Bool, false, List, [], ◌∷◌, option_map, string_bytes, refl, sym, ap, ap₂, ◌∙◌, inl, inr, ◌⊎◌, reading, change_view, ChangeData, IncomingData, incoming_of, ServerData, Head, Sender, Client, Server, Version, Record, Facts, Note, Taken, written_first, change_in, writes, rare_notes, Known, LineView, is_renamed, is_strict_refusal, known_after, last_in, lines, uri_of, lines_in, is_mention, notes_if, notes_of, notes_on, ranged_after, Session, Verdict, recorded, bad, encoding_for, judge_server, is_change, judge, judge_from, BodyData, body_read, AreFacts, IsAbout, IsLearned, is_change_read, known_by, uri_read, notes_on_read, judge_at, IsTaken, ranged_read, ranged_with, verdict_view}
 use Rattle.lsp_replay.specs.declared.facts.About.{About}
-use Rattle.lsp_replay.specs.declared.facts.Facts.{Facts}
-use Rattle.lsp_replay.specs.declared.notes.Note.{Note}
-use Rattle.lsp_replay.specs.declared.session.Taken.{Taken}
-use Rattle.lsp_replay.specs.RunOutput.{written_first}
-use Rattle.lsp_replay.specs.Commands.{change_in, writes}
-use Rattle.lsp_replay.specs.Counts.{rare_notes}
-use Rattle.lsp_replay.specs.Lines.{Known, LineView, is_renamed, is_strict_refusal, known_after, last_in, lines, uri_of}
-use Rattle.lsp_replay.specs.inside.Lines.{lines_in}
-use Rattle.lsp_replay.specs.Mentions.{is_mention}
-use Rattle.lsp_replay.specs.Notes.{notes_if, notes_of, notes_on, ranged_after}
-use Rattle.lsp_replay.specs.Session.{Session, Verdict, recorded, bad, encoding_for, judge_server, is_change, judge, judge_from}
-use Rattle.lsp_replay.specs.inside.Bodies.{BodyData, body_read}
-use Rattle.lsp_replay.specs.inside.Facts.{AreFacts, IsAbout, IsLearned, is_change_read, known_by, uri_read}
-use Rattle.lsp_replay.specs.inside.Noting.{notes_on_read}
-use Rattle.lsp_replay.specs.inside.Session.{judge_at}
-use Rattle.lsp_replay.specs.inside.Taken.{IsTaken, ranged_read, ranged_with}
-use Rattle.lsp_replay.specs.inside.Verdicts.{verdict_view}
 use Rattle.lsp_replay.proofs.Canonical.CanonicalLogLemmas.{heard_as}
 use Rattle.lsp_replay.proofs.Records.OutputLemmas.{output_after, unless_not}
 use Rattle.lsp_replay.proofs.Reports.ReasonLemmas.{strict_at}

@@ -5,6 +5,7 @@
 -- `Stay/DocumentsLawLemmas`, `convert.converted` in `Converted/ConvertedLogLemmas`, `log_laws.traced` in
 -- `Reports/TraceLawLemmas`.
 pub mod KnownLemmas
+mod Prelude
 pub mod Runs
 pub mod Records
 pub mod Canonical

@@ -1,29 +1,11 @@
 -- A change in two halves, as one step.
-use Rattle.std.proofs.Common.{ℕ, ℤ, ◌≡◌, ◌≢◌, ◌⊎◌, inl, inr, List, map, Result, Ok, Some, string_bytes, sym, ap, subst, refl, ◌∙◌}
-use Rattle.lsp_edit.specs.declared.change.Change.{Change}
-use Rattle.lsp_edit.specs.Batch.{ContentChange}
+use Rattle.lsp_server.proofs.Prelude.{ℕ, ℤ, ◌≡◌, ◌≢◌, ◌⊎◌, inl, inr, List, map, Result, Ok, Some, string_bytes, sym, ap, subst, refl, ◌∙◌, Change, ContentChange, ChangeData, change_view, content_change_view, did_change, Encoding, StoreFault, NoMemory, StoreData, IsRefused, Command, changes, Answer, Dropped, Refused, Store, Down, New, Running, dropped, refused, IsStepOf, IsNotObeyed, IsPlanOfChange, IsPlannedAs, store_of, ServerData, Step, change_command, content_change_from_data, session_encoding, command_step, unchanged_step, step_in, step_on}
 use Rattle.lsp_edit.specs.Edited.{content_change}
 use Rattle.lsp_message.specs.declared.params.ChangeParams.{ChangeParams}
-use Rattle.lsp_message.specs.Params.{ChangeData}
-use Rattle.lsp_message.specs.Seen.{change_view, content_change_view}
-use Rattle.lsp_message.specs.Incoming.{did_change}
-use Rattle.lsp_text.specs.declared.encoding.Encoding.{Encoding}
-use Rattle.lsp_store.specs.declared.fault.StoreFault.{StoreFault}
-use Rattle.lsp_store.specs.declared.fault.StoreFault.TheVariants.{NoMemory}
 use Rattle.lsp_store.specs.declared.store.plan.Plan.{Plan}
-use Rattle.lsp_store.specs.Opened.{StoreData, IsRefused}
 use Rattle.lsp_store.specs.Plan.{IsPlanOf}
-use Rattle.lsp_store.specs.Table.{Command, changes}
-use Rattle.lsp_server.specs.declared.answer.Answer.{Answer}
-use Rattle.lsp_server.specs.declared.answer.Answer.TheVariants.{Dropped, Refused}
-use Rattle.lsp_server.specs.declared.answer.Refusal.TheVariants.{Store}
-use Rattle.lsp_server.specs.declared.phase.Phase.TheVariants.{Down, New, Running}
 use Rattle.lsp_server.specs.declared.planned.PlannedChange.{PlannedChange}
 use Rattle.lsp_server.specs.declared.planned.PlannedChange.TheVariants.{Accepted, Answered}
-use Rattle.lsp_server.specs.Answer.{dropped, refused}
-use Rattle.lsp_server.specs.Calls.{IsStepOf}
-use Rattle.lsp_server.specs.Planned.{IsNotObeyed, IsPlanOfChange, IsPlannedAs, store_of}
-use Rattle.lsp_server.specs.Step.{ServerData, Step, change_command, content_change_from_data, session_encoding, command_step, unchanged_step, step_in, step_on}
 use Rattle.lsp_server.proofs.Commands.{edits_of, obeyed_as_refused}
 
 -- The step of a change in phase Running.
@@ -35,8 +17,7 @@ running_step s p running = ap (λ phase. step_in phase s (did_change (Some p))) 
 pub planned_is : (s : ServerData) (store : StoreData) (p : ChangeParams) (uri : List ℕ) (version : ℤ)
     (encoding : Encoding) (edits : List Change) (plan : Plan)
     → store ≡ store_of s → uri ≡ string_bytes p.uri → version ≡ p.version → encoding ≡ session_encoding s
-    → edits ≡ p.changes.items → s.phase ≡ Running
-    → IsPlanOf store uri version encoding (map content_change edits) plan
+    → edits ≡ p.changes.items → s.phase ≡ Running → IsPlanOf store uri version encoding (map content_change edits) plan
     → IsPlannedAs s (change_view p) (Accepted plan)
 planned_is s store p uri version encoding edits plan store_is uri_is version_is encoding_is edits_is running planned =
     let same : IsPlanOf (store_of s) (string_bytes p.uri) p.version (session_encoding s)
@@ -48,8 +29,7 @@ planned_is s store p uri version encoding edits plan store_is uri_is version_is 
 pub refused_is : (s : ServerData) (store : StoreData) (p : ChangeParams) (uri : List ℕ) (version : ℤ)
     (encoding : Encoding) (edits : List Change) (fault : StoreFault) (a : Answer)
     → store ≡ store_of s → uri ≡ string_bytes p.uri → version ≡ p.version → encoding ≡ session_encoding s
-    → edits ≡ p.changes.items → s.phase ≡ Running
-    → (fault ≢ NoMemory) × (a ≡ Refused (Store fault))
+    → edits ≡ p.changes.items → s.phase ≡ Running → (fault ≢ NoMemory) × (a ≡ Refused (Store fault))
     → IsRefused store (changes uri version encoding (map content_change edits)) fault
     → IsNotObeyed s (step_on s (did_change (Some (change_view p)))) a
 refused_is s store p uri version encoding edits fault a store_is uri_is version_is encoding_is edits_is running why

@@ -1,22 +1,8 @@
 -- Commands on the store, as the server's definitions and the store's calls write them.
-use Rattle.std.proofs.Common.{◌≡◌, ◌≢◌, List, [], ◌∷◌, map, refl, sym, ap, subst, Option, Some, None, option_map, Result, Ok, Err, IfOk, IfErr, OnOk, OnErr, inl, inr}
-use Rattle.lsp_edit.specs.declared.change.Change.{Change}
-use Rattle.lsp_edit.specs.Edited as made
-use Rattle.lsp_message.specs.Seen.{content_change_view}
-use Rattle.lsp_store.specs.declared.fault.StoreFault.{StoreFault}
-use Rattle.lsp_store.specs.declared.fault.StoreFault.TheVariants.{NoMemory}
+use Rattle.lsp_server.proofs.Prelude.{◌≡◌, ◌≢◌, List, [], ◌∷◌, map, refl, sym, ap, subst, Option, Some, None, option_map, Result, Ok, Err, IfOk, IfErr, OnOk, OnErr, inl, inr, Change, content_change_view, StoreFault, NoMemory, StoreData, Takes, IsRefused, DocumentItem, Command, unless_refused, command_refusal, table_after, after_command, Answer, Changed, Refused, Store, refused, NeverAllocates, ServerData, content_change_from_data, unchanged_step, result_step, command_step, IsStepOf, IsQuietStepOf, store_of}
 use Rattle.lsp_store.specs.Faults.{refusal_fault}
-use Rattle.lsp_store.specs.Opened.{StoreData, Takes, IsRefused}
+use Rattle.lsp_edit.specs.Edited as made
 use Rattle.lsp_store.specs.Table as table
-use Rattle.lsp_message.specs.Params.{DocumentItem}
-use Rattle.lsp_store.specs.Table.{Command, unless_refused, command_refusal, table_after, after_command}
-use Rattle.lsp_server.specs.declared.answer.Answer.{Answer}
-use Rattle.lsp_server.specs.declared.answer.Answer.TheVariants.{Changed, Refused}
-use Rattle.lsp_server.specs.declared.answer.Refusal.TheVariants.{Store}
-use Rattle.lsp_server.specs.Answer.{refused, NeverAllocates}
-use Rattle.lsp_server.specs.Step.{ServerData, content_change_from_data, unchanged_step, result_step, command_step}
-use Rattle.lsp_server.specs.Calls.{IsStepOf, IsQuietStepOf}
-use Rattle.lsp_server.specs.Planned.{store_of}
 
 -- The changes as they were read are those that the store is given.
 pub edits_of : (changes : List Change) → map content_change_from_data (map content_change_view changes)
@@ -45,13 +31,10 @@ obeyed_as_refused s command fault other (inr e) =
 
 -- The store's result of a command, as an answer, is the step that obeys it.
 pub obeyed_step : {E : Type 0} (s : ServerData) (given command : Command) (new : StoreData)
-    (outcome : Result (Unit {0}) StoreFault) (result : Result Answer E)
-    → OnOk outcome (Takes (store_of s) given new)
-    → OnErr outcome (new ≡ store_of s)
-    → IfErr outcome (IsRefused (store_of s) given)
+    (outcome : Result (Unit {0}) StoreFault) (result : Result Answer E) → OnOk outcome (Takes (store_of s) given new)
+    → OnErr outcome (new ≡ store_of s) → IfErr outcome (IsRefused (store_of s) given)
     → OnOk outcome (result ≡ Ok Changed)
-    → IfErr outcome (λ fault. IfOk result (λ a. (fault ≢ NoMemory) × (a ≡ Refused (Store fault))))
-    → given ≡ command
+    → IfErr outcome (λ fault. IfOk result (λ a. (fault ≢ NoMemory) × (a ≡ Refused (Store fault)))) → given ≡ command
     → IsStepOf (command_step s command) result s (over s new)
 obeyed_step s given command new (Ok u) result takes unchanged error changed other same =
     subst (λ r. IsStepOf (command_step s command) r s (over s new)) (sym changed)

@@ -1,10 +1,7 @@
 -- A batch is read back as it was written.
-use Rattle.std.proofs.Common.{◌≡◌, List, [], ◌∷◌, map, encode_utf8_all, refl}
-use Rattle.std.specs.Str.{chars}
+use Rattle.lsp_server.proofs.Prelude.{◌≡◌, List, [], ◌∷◌, map, encode_utf8_all, refl, chars, ContentChange, content_change_from_data}
 use Rattle.std.proofs.lemmas.Str.{chars-encodes}
-use Rattle.lsp_edit.specs.Batch.{ContentChange}
 use Rattle.lsp_store.specs.Message.{AreTexts, written_content_change}
-use Rattle.lsp_server.specs.Step.{content_change_from_data}
 
 pub edits_back : (batch : List ContentChange) → AreTexts batch → map content_change_from_data
     (map written_content_change batch) ≡ batch

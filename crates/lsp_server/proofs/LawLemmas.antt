@@ -1,25 +1,15 @@
 -- What holds of every row of the table of steps.
-use Rattle.std.proofs.Common.{ℕ, ◌≡◌, ◌≢◌, ◌≤◌, Bool, true, false, if◌then◌else◌, codes, List, Option, Some, None, Result, Ok, Err, refl, ap, arith}
-use Rattle.std.specs.Str.{bytes_eq}
+use Rattle.lsp_server.proofs.Prelude.{ℕ, ◌≡◌, ◌≢◌, ◌≤◌, Bool, true, false, if◌then◌else◌, codes, List, Option, Some, None, Result, Ok, Err, refl, ap, arith, bytes_eq, OutgoingData, initialize_result, shutdown_result, error_reply, DocumentItem, open_of, change_of, close_of, Encoding, Command, after_command, New, Running, Down, Ended, AnswerData, reply, changed, exits, IncomingData, response, initialize, shutdown, other_request, exit, did_open, did_change, did_close, other_notification, request_of, notification_of, RepliesTo, way_of, ChangesNothing, ServerData, Step, unchanged_step, phase_step, begin_step, result_step, step_in}
 use Rattle.serde_json.specs.Data.{Data}
 use Rattle.lsp_message.specs.declared.agreement.Offers.{Offers}
 use Rattle.lsp_message.specs.declared.outgoing.ErrorCode.TheVariants.{InvalidRequest, MethodNotFound, InvalidParams, ServerNotInitialized}
 use Rattle.lsp_message.specs.Agreement.{is_offered, offers_of}
 use Rattle.lsp_message.specs.Message.{IdData}
-use Rattle.lsp_message.specs.Outgoing.{OutgoingData, initialize_result, shutdown_result, error_reply}
-use Rattle.lsp_message.specs.Params.{DocumentItem, open_of, change_of, close_of}
-use Rattle.lsp_text.specs.declared.encoding.Encoding.{Encoding}
 use Rattle.lsp_text.specs.declared.encoding.Encoding.TheVariants.{Utf16}
-use Rattle.lsp_store.specs.Table.{Command, after_command}
-use Rattle.lsp_store.specs.Table as table
 use Rattle.lsp_server.specs.declared.config.EncodingChoice.TheVariants.{Negotiated}
 use Rattle.lsp_server.specs.declared.phase.Phase.{Phase}
-use Rattle.lsp_server.specs.declared.phase.Phase.TheVariants.{New, Running, Down, Ended}
-use Rattle.lsp_server.specs.Answer.{AnswerData, reply, changed, exits}
 use Rattle.lsp_server.specs.Choice.{encoding_chosen, announced_kind}
-use Rattle.lsp_message.specs.Incoming.{IncomingData, response, initialize, shutdown, other_request, exit, did_open, did_change, did_close, other_notification, request_of, notification_of}
-use Rattle.lsp_server.specs.laws.Steps.{RepliesTo, way_of, ChangesNothing}
-use Rattle.lsp_server.specs.Step.{ServerData, Step, unchanged_step, phase_step, begin_step, result_step, step_in}
+use Rattle.lsp_store.specs.Table as table
 
 -- ---- requests
 

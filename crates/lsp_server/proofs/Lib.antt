@@ -6,5 +6,6 @@
 mod Commands
 mod Changes
 pub mod LawLemmas
+mod Prelude
 mod RefusalLemmas
 pub mod EditLemmas

@@ -1,19 +1,11 @@
 -- A message that isn't obeyed changes nothing.
-use Rattle.std.proofs.Common.{◌≡◌, refl, None, IsSome, Ok, subst, ◌∙◌}
-use Rattle.std.specs.Prelude.{⊤}
+use Rattle.lsp_server.proofs.Prelude.{subst, ◌∙◌, OutgoingData, IncomingData, Answer, Reply, Changed, Dropped, Ignored, Refused, AnswerData, Sent, reply, changed, dropped, ignored, already_ended, refused, exits, as_sent, IsQuietStepOf, ChangesNothing, ServerData, step_on}
+use Rattle.std.specs.Prelude.{◌≡◌, refl, None, IsSome, Ok, ⊤}
 use Rattle.lsp_message.specs.declared.outgoing.ErrorCode.{ErrorCode}
-use Rattle.lsp_message.specs.Outgoing as outgoing
-use Rattle.lsp_message.specs.Outgoing.{OutgoingData}
-use Rattle.lsp_message.specs.Incoming.{IncomingData}
-use Rattle.lsp_server.specs.declared.answer.Answer.{Answer}
-use Rattle.lsp_server.specs.declared.answer.Answer.TheVariants.{Reply, Changed, Dropped, Ignored, Refused}
-use Rattle.lsp_server.specs.declared.answer.Answer.TheVariants as variants
-use Rattle.lsp_server.specs.Answer.{AnswerData, Sent, reply, changed, dropped, ignored, already_ended, refused, exits, as_sent}
-use Rattle.lsp_server.specs.Calls.{IsQuietStepOf}
-use Rattle.lsp_server.specs.laws.Steps.{ChangesNothing}
 use Rattle.lsp_server.specs.Seen.{answer_view, IsRefusing}
-use Rattle.lsp_server.specs.Step.{ServerData, step_on}
 use Rattle.lsp_server.proofs.LawLemmas.{kept}
+use Rattle.lsp_message.specs.Outgoing as outgoing
+use Rattle.lsp_server.specs.declared.answer.Answer.TheVariants as variants
 
 -- the same of an answer as it is sent
 abbrev IsRefusingSent : AnswerData Sent → Type 0

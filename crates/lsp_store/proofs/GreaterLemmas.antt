@@ -1,23 +1,7 @@
 -- What greater limits accept, and the canonical batch as a law.
-use Rattle.std.proofs.Common.{ℕ, ℤ, ◌≡◌, ◌≤◌, ◌<◌, Bool, true, false, nat_lt, nat_le, List, length, Option, Some, None, Ok, refl, ap, ◌∙◌, arith}
-use Rattle.std.specs.Prelude.{if◌then◌else◌}
-use Rattle.std.specs.Str.{chars}
-use Rattle.std.proofs.lemmas.Bool.{le-ltb, ltb-false, lt-leb, leb-false}
-use Rattle.lsp_frame.specs.Limits.{LimitsData}
-use Rattle.lsp_text.specs.Units.{units_in}
-use Rattle.lsp_edit.specs.Items.{Item}
-use Rattle.lsp_edit.specs.Batch.{ContentChange, meaning}
-use Rattle.lsp_edit.specs.Canonical.{canonical}
-use Rattle.lsp_edit.specs.laws.Batches.{IsCanonical}
-use Rattle.lsp_edit.proofs.Batches.LawLemmas.{canonical_law, units_some}
-use Rattle.lsp_message.specs.Params.{DocumentItem}
-use Rattle.lsp_store.specs.Table.{opens, changes, closes, already_open, too_many_documents, text_too_long, entry_at, is_taken, open_refusal, refusal_on, entry_refusal, change_refusal, after_change, after_close}
-use Rattle.lsp_store.specs.Message.{canonical_batch}
-use Rattle.lsp_store.specs.laws.Tables.{GreaterLimitsLaw, CanonicalBatchLaw}
-use Rattle.lsp_store.specs.Limits.{AreWithin}
+use Rattle.lsp_store.proofs.Prelude.{ℕ, ℤ, ◌≡◌, ◌≤◌, ◌<◌, Bool, true, false, nat_lt, nat_le, List, length, Option, Some, None, Ok, refl, ap, ◌∙◌, arith, if◌then◌else◌, chars, le-ltb, ltb-false, lt-leb, leb-false, LimitsData, units_in, Item, ContentChange, meaning, canonical, IsCanonical, canonical_law, units_some, DocumentItem, opens, changes, closes, already_open, too_many_documents, text_too_long, entry_at, is_taken, open_refusal, refusal_on, entry_refusal, change_refusal, after_change, after_close, canonical_batch, GreaterLimitsLaw, CanonicalBatchLaw, AreWithin, common_steps}
 use Rattle.lsp_store.proofs.Tables.LenientLemmas.{still_new, still_free}
 use Rattle.lsp_store.proofs.Messages.MessageLemmas.{Accepts, accepted_parts, accepted_from, batch_at, settled_accepted, settled_leaves, accepts}
-use Rattle.std.proofs.lemmas.Grind.{common_steps}
 
 -- a document may be opened
 pub record MayOpen (limits : LimitsData) (table : List DocumentItem) (entry : DocumentItem) : Type 0 where
@@ -26,8 +10,7 @@ pub record MayOpen (limits : LimitsData) (table : List DocumentItem) (entry : Do
   pub short : length entry.text ≤ limits.max_text
 
 open_cases : (a b c : Bool) → (if a then Some already_open else if b then Some too_many_documents else if c then
-    Some text_too_long else None) ≡ None
-    → (a ≡ false) × (b ≡ false) × (c ≡ false)
+    Some text_too_long else None) ≡ None → (a ≡ false) × (b ≡ false) × (c ≡ false)
 open_cases true b c e = absurd (let bad : Some already_open ≡ None = e in cc)
 open_cases false true c e = absurd (let bad : Some too_many_documents ≡ None = e in cc)
 open_cases false false true e = absurd (let bad : Some text_too_long ≡ None = e in cc)
@@ -35,8 +18,7 @@ open_cases false false false e = (refl, refl, refl)
 
 pub open_parts : (limits : LimitsData) (table : List DocumentItem) (entry : DocumentItem)
     → open_refusal limits table entry ≡ None → MayOpen limits table entry
-open_parts limits table entry e =
-    grind (arith, common_steps, open_cases, nat_le, nat_lt, leb-false, ltb-false)
+open_parts limits table entry e = grind (arith, common_steps, open_cases, nat_le, nat_lt, leb-false, ltb-false)
 
 pub open_from : (limits : LimitsData) (table : List DocumentItem) (entry : DocumentItem) → MayOpen limits table entry
     → open_refusal limits table entry ≡ None
@@ -69,12 +51,10 @@ change_from limits units table uri version batch entry is may =
 pub greater_accepts : (small great : LimitsData) (units : ℕ → ℕ) (entry : DocumentItem) (version : ℤ)
     (batch : List ContentChange) → AreWithin small great → Accepts small units entry version batch
     → Accepts great units entry version batch
-greater_accepts small great units entry version batch within a =
-    grind (arith, common_steps, still_new)
+greater_accepts small great units entry version batch within a = grind (arith, common_steps, still_new)
 
 pub greater_entry : (small great : LimitsData) (units : ℕ → ℕ) (entry : DocumentItem) (version : ℤ)
-    (batch : List ContentChange)
-    → AreWithin small great
+    (batch : List ContentChange) → AreWithin small great
     → entry_refusal small units entry version batch ≡ None → entry_refusal great units entry version batch ≡ None
 greater_entry small great units entry version batch within e =
     grind (arith, common_steps, accepted_from, greater_accepts, accepted_parts)

@@ -1,31 +1,14 @@
 -- What is true of the table of documents.
 -- ---- what an accepted command says of the table
-use Rattle.std.proofs.Common.{ℕ, ℤ, ◌≡◌, true, false, List, [], ◌∷◌, ◌++◌, length, map, IsUtf8, bytes_eq, encode_utf8_all, Some, None, Ok, refl, ap, ◌∙◌, arith, ⊎_elim}
-use Rattle.std.specs.Str.{chars}
-use Rattle.std.proofs.lemmas.Bool.{cases_Bool}
-use Rattle.std.proofs.lemmas.List.Sums.{sum_by-cons}
-use Rattle.std.proofs.lemmas.Slice.Eq.{bytes_eq-Decides}
-use Rattle.std.proofs.lemmas.Str.{encodes-chars}
-use Rattle.lsp_frame.specs.Limits.{LimitsData, AreInRange}
-use Rattle.lsp_text.specs.Units.{units_in}
-use Rattle.lsp_edit.specs.Items.{New, text_of}
-use Rattle.lsp_edit.specs.Batch.{ContentChange, meaning}
-use Rattle.lsp_edit.specs.Indexed.{bytes_left}
-use Rattle.lsp_message.specs.Params.{DocumentItem}
-use Rattle.lsp_store.specs.Table.{Command, opens, changes, closes, batch_bytes, entry_at, entry_refusal, change_refusal, changed, after_change, after_close, table_after, table_from}
-use Rattle.lsp_store.specs.Message.{AreTexts, whole_text, whole_batch}
-use Rattle.lsp_store.specs.laws.Tables.{WholeTextLaw, UniqueLaw, TableLaw, LastLaw, IsWithin, AreUnique, AreAccepted, IsInOrder}
-use Rattle.lsp_store.specs.Limits.{AreWithin}
+use Rattle.lsp_store.proofs.Prelude.{ℕ, ℤ, ◌≡◌, true, false, List, [], ◌∷◌, ◌++◌, length, map, IsUtf8, bytes_eq, encode_utf8_all, Some, None, Ok, refl, ap, ◌∙◌, arith, ⊎_elim, chars, cases_Bool, sum_by-cons, bytes_eq-Decides, encodes-chars, LimitsData, AreInRange, units_in, New, text_of, ContentChange, meaning, bytes_left, DocumentItem, Command, opens, changes, closes, batch_bytes, entry_at, entry_refusal, change_refusal, changed, after_change, after_close, table_after, table_from, AreTexts, whole_text, whole_batch, WholeTextLaw, UniqueLaw, TableLaw, LastLaw, IsWithin, AreUnique, AreAccepted, IsInOrder, AreWithin, common_steps}
 use Rattle.lsp_store.proofs.Tables.LenientLemmas.{still_new}
 use Rattle.lsp_store.proofs.Messages.MessageLemmas.{Accepts, accepted_parts, accepted_from, leaves_same}
 use Rattle.lsp_store.proofs.GreaterLemmas.{change_parts, change_from}
 use Rattle.lsp_store.proofs.WithinLemmas.{within_at, within_changed, within_law}
-use Rattle.std.proofs.lemmas.Grind.{common_steps}
 
 -- a changed document is found where it was
 pub found_changed : (units : ℕ → ℕ) (table : List DocumentItem) (uri : List ℕ) (version : ℤ)
-    (batch : List ContentChange)
-    (entry : DocumentItem) → entry_at table uri ≡ Some entry
+    (batch : List ContentChange) (entry : DocumentItem) → entry_at table uri ≡ Some entry
     → entry_at (after_change units table uri version batch) uri ≡ Some (changed units entry version batch)
 found_changed units [] uri version batch entry found = absurd (let bad : None ≡ Some entry = found in cc)
 found_changed units (first ∷ table) uri version batch entry found =
@@ -55,13 +38,11 @@ one_bytes : (old bytes : List ℕ) → IsUtf8 bytes → bytes_left old (map New 
 one_bytes old bytes utf8 = ap encode_utf8_all (read_off (chars old) (chars bytes)) ∙ encodes-chars bytes utf8
 
 one_weighs : (bytes : List ℕ) → IsUtf8 bytes → batch_bytes (one_text bytes) ≡ length bytes
-one_weighs bytes utf8 =
-    grind (arith, common_steps, sum_by-cons, encode_utf8_all, encodes-chars)
+one_weighs bytes utf8 = grind (arith, common_steps, sum_by-cons, encode_utf8_all, encodes-chars)
 
 -- The whole text is accepted, and leaves it.
 whole_accepts : (small great : LimitsData) (units : ℕ → ℕ) (entry : DocumentItem) (version : ℤ)
-    (batch : List ContentChange)
-    → AreInRange small → AreWithin small great
+    (batch : List ContentChange) → AreInRange small → AreWithin small great
     → IsWithin small entry → AreTexts batch → entry_refusal small units entry version batch ≡ None
     → Accepts great units entry version (one_text (changed units entry version batch).text)
 whole_accepts small great units entry version batch ranges within kept texts e =
@@ -119,14 +100,12 @@ last_law commands command = from_last [] commands command
 
 -- two URIs that differ one way differ the other way
 not_equal : (uri other : List ℕ) → bytes_eq uri other ≡ false → bytes_eq other uri ≡ false
-not_equal uri other not =
-    grind (arith, common_steps, bytes_eq, bytes_eq-Decides, cases_Bool)
+not_equal uri other not = grind (arith, common_steps, bytes_eq, bytes_eq-Decides, cases_Bool)
 
 -- a URI that is not open first is open neither first nor later
 first_differs : (first : DocumentItem) (table : List DocumentItem) (uri : List ℕ) → entry_at (first ∷ table) uri ≡ None
     → (bytes_eq uri first.uri ≡ false) × (entry_at table uri ≡ None)
-first_differs first table uri none =
-    grind (arith, common_steps, bytes_eq, cases_Bool)
+first_differs first table uri none = grind (arith, common_steps, bytes_eq, cases_Bool)
 
 none_last : (table : List DocumentItem) (entry : DocumentItem) (uri : List ℕ) → entry_at table uri ≡ None
     → bytes_eq uri entry.uri ≡ false → entry_at (table ++ entry ∷ []) uri ≡ None

@@ -5,6 +5,7 @@
 -- `SquashLemmas`, and `store_laws` is in `LawLemmas`. `Queries` has what is read of a document's text.
 pub mod GreaterLemmas
 pub mod LawLemmas
+mod Prelude
 pub mod WithinLemmas
 pub mod SquashLemmas
 pub mod Messages

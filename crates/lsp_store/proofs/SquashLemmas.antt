@@ -1,37 +1,11 @@
 -- Batches of changes on one document, as one: what the fields that are kept are.
-use Rattle.std.proofs.Common.{ℕ, ℤ, ◌≡◌, ◌≤◌, false, nat_lt, if◌then◌else◌, List, [], length, sum_by, IsUtf8, encode_utf8_all, Option, None, Some, Ok, refl, sym, ap, ap₂, ◌∙◌, subst, arith}
-use Rattle.std.proofs.lemmas.Bool.{le-ltb}
-use Rattle.std.proofs.lemmas.List.Sums.{sum_by-le-sum_by}
-use Rattle.std.proofs.lemmas.Str.{encodes-chars}
-use Rattle.std.specs.Char.{len_utf8}
-use Rattle.std.specs.Str.{chars}
-use Rattle.lsp_frame.specs.Limits.{LimitsData}
-use Rattle.lsp_text.specs.Units.{units_in}
-use Rattle.lsp_text.specs.declared.encoding.Encoding.{Encoding}
-use Rattle.lsp_edit.specs.Items.{Item, text_of}
-use Rattle.lsp_edit.specs.Indexed.{text_within, bytes_left}
-use Rattle.lsp_edit.specs.Batch.{ContentChange, meaning}
-use Rattle.lsp_edit.specs.Canonical.{canonical}
+use Rattle.lsp_store.proofs.Prelude.{ℕ, ℤ, ◌≡◌, ◌≤◌, false, nat_lt, if◌then◌else◌, List, [], length, sum_by, IsUtf8, encode_utf8_all, Option, None, Some, Ok, refl, sym, ap, ap₂, ◌∙◌, subst, arith, le-ltb, sum_by-le-sum_by, encodes-chars, len_utf8, chars, LimitsData, units_in, Encoding, Item, text_of, text_within, bytes_left, ContentChange, meaning, canonical, IsCanonical, bytes_after, meant_by, canonical_law, units_some, StoreFault, Stored, IsRefusal, body_refusal, change_body, Plan, StoreData, entry_under, IsPlanOf, IsPlanOn, HasReached, IsSquashAfter, SquashData, add_refusal, reached_entry, squash_after, squash_batch, squash_refusal, squash_under, DocumentItem, IsLeftToMeaning, Refusal, batch_bytes, changed, greatest_batch, entry_refusal, is_stale, meant_text, too_many_changes, common_steps}
 use Rattle.lsp_edit.specs.Compose.{then_items}
 use Rattle.lsp_edit.specs.Joined.{IsJoined, IsReached, JoinedData, joined_text}
-use Rattle.lsp_edit.specs.laws.Batches.{IsCanonical}
-use Rattle.lsp_edit.specs.Delta.{bytes_after, meant_by}
 use Rattle.lsp_edit.proofs.Batches.ComposeLemmas.{then_means}
-use Rattle.lsp_edit.proofs.Batches.LawLemmas.{canonical_law, units_some}
-use Rattle.lsp_store.specs.declared.fault.StoreFault.{StoreFault}
-use Rattle.lsp_store.specs.declared.store.stored.Stored.{Stored}
-use Rattle.lsp_store.specs.Faults.{IsRefusal}
-use Rattle.lsp_store.specs.Message.{body_refusal, change_body}
-use Rattle.lsp_store.specs.declared.store.plan.Plan.{Plan}
-use Rattle.lsp_store.specs.Opened.{StoreData, entry_under}
-use Rattle.lsp_store.specs.Plan.{IsPlanOf, IsPlanOn}
-use Rattle.lsp_store.specs.Squash.{HasReached, IsSquashAfter, SquashData, add_refusal, reached_entry, squash_after, squash_batch, squash_refusal, squash_under}
-use Rattle.lsp_message.specs.Params.{DocumentItem}
-use Rattle.lsp_store.specs.Table.{IsLeftToMeaning, Refusal, batch_bytes, changed, greatest_batch, entry_refusal, is_stale, meant_text, too_many_changes}
 use Rattle.lsp_store.proofs.Messages.ProperLemmas.{bytes_sum}
 use Rattle.lsp_store.proofs.Tables.PlanLemmas.{on_utf8}
 use Rattle.lsp_store.proofs.Tables.RefusalLemmas.{meaning_accepted}
-use Rattle.std.proofs.lemmas.Grind.{common_steps}
 
 -- what callers see of the fields
 abbrev pub seen : List ℕ → LimitsData → Encoding → JoinedData → ℤ → SquashData
@@ -57,8 +31,7 @@ module _ (uri : List ℕ) (limits : LimitsData) (encoding : Encoding) (joined : 
 
   pub written_refusal : (if nat_lt limits.max_changes (length made) then Some too_many_changes else body_refusal limits
       (change_body uri version made)) ≡ squash_refusal kept
-  written_refusal =
-      grind (arith, common_steps, nat_lt, batch_is)
+  written_refusal = grind (arith, common_steps, nat_lt, batch_is)
 
 -- ---- the message of all batches is accepted on the document as it was, and leaves the one that was reached
 
@@ -96,8 +69,7 @@ module _ (limits : LimitsData) (encoding : Encoding) (entry : DocumentItem) (ver
 -- What a batch makes of a squash is one thing.
 pub after_is : (old : SquashData) (version : ℤ) (batch : List ContentChange) (new : SquashData)
     → IsSquashAfter old version batch new → new ≡ squash_after old version batch
-after_is old version batch new adds =
-    grind (arith, common_steps)
+after_is old version batch new adds = grind (arith, common_steps)
 
 -- ---- batches on a document that is kept elsewhere
 
@@ -111,8 +83,7 @@ module _ (kept : SquashData) (entry : DocumentItem) (version : ℤ) (more : List
   same_text : entry.text ≡ bytes_left kept.text kept.items
   same_text = sym (encodes-chars entry.text utf8) ∙ ap encode_utf8_all at.text
 
-  pub refusal_is : add_refusal kept version more
-      ≡ entry_refusal kept.limits (units_in kept.encoding) entry version more
+  pub refusal_is : add_refusal kept version more ≡ entry_refusal kept.limits (units_in kept.encoding) entry version more
   refusal_is =
       ap₂ (λ (t : List ℕ) (v : ℤ). entry_refusal kept.limits (units_in kept.encoding) (record {
         uri = kept.uri;
@@ -141,8 +112,7 @@ module _ (kept : SquashData) (entry : DocumentItem) (version : ℤ) (more : List
 -- A batch more, by what is kept of the batches before it.
 pub joins_after : (uri : List ℕ) (limits : LimitsData) (encoding : Encoding) (joined next : JoinedData)
     (before version next_version : ℤ) (kept : SquashData) (more : List ContentChange)
-    → seen uri limits encoding joined before
-    ≡ kept
+    → seen uri limits encoding joined before ≡ kept
     → add_refusal kept version more ≡ None → IsJoined (units_in encoding) joined more next → next_version ≡ version
     → IsSquashAfter kept version more (seen uri limits encoding next next_version)
 joins_after uri limits encoding joined next before version next_version kept more view accepted is version_is = record {
@@ -163,8 +133,7 @@ joins_after uri limits encoding joined next before version next_version kept mor
       items = then_items kept.items is.others;
       version = version;
     }
-    next_is =
-        grind (arith, common_steps, ap₂)
+    next_is = grind (arith, common_steps, ap₂)
 
 -- ---- a batch on a document that is changed with the batches
 
@@ -250,8 +219,7 @@ module _ (uri : List ℕ) (limits : LimitsData) (encoding : Encoding) (joined ne
   entry_accepts = rw q.is_open at q.accepted
 
   kept_accepts : entry_refusal kept.limits (units_in kept.encoding) q.on.entry version batch ≡ None
-  kept_accepts =
-      grind (arith, common_steps, ap₂, entry_accepts)
+  kept_accepts = grind (arith, common_steps, ap₂, entry_accepts)
 
   added_accepted : add_refusal kept version batch ≡ None
   added_accepted = refusal_is kept q.on.entry version batch (on_utf8 q.on.entry.text plan.delta q.on.on) (at q.on)

@@ -1,21 +1,8 @@
 -- A table stays within its limits.
-use Rattle.std.proofs.Common.{ℕ, ℤ, ◌≡◌, ◌≤◌, true, false, List, [], ◌∷◌, ◌++◌, length, IsUtf8, bytes_eq, Some, None, refl, sym, ap, subst, arith, ⊎_elim}
-use Rattle.std.specs.Str.{all_scalars, chars}
-use Rattle.std.proofs.lemmas.Bool.{cases_Bool}
-use Rattle.std.proofs.lemmas.List.{length-append}
-use Rattle.std.proofs.lemmas.Str.{scalars-chars}
-use Rattle.lsp_frame.specs.Limits.{LimitsData}
-use Rattle.lsp_edit.specs.Items.{text_of}
-use Rattle.lsp_edit.specs.Batch.{ContentChange, meaning}
-use Rattle.lsp_edit.specs.Indexed.{bytes_left}
-use Rattle.lsp_message.specs.Params.{DocumentItem}
-use Rattle.lsp_store.specs.Table.{opens, changes, closes, meant_text, entry_at, entry_refusal, change_refusal, changed, after_open, after_change, after_close}
-use Rattle.lsp_store.specs.Message.{AreTexts}
-use Rattle.lsp_store.specs.laws.Tables.{WithinLaw, IsWithin, AllWithin}
+use Rattle.lsp_store.proofs.Prelude.{ℕ, ℤ, ◌≡◌, ◌≤◌, true, false, List, [], ◌∷◌, ◌++◌, length, IsUtf8, bytes_eq, Some, None, refl, sym, ap, subst, arith, ⊎_elim, all_scalars, chars, cases_Bool, length-append, scalars-chars, LimitsData, text_of, ContentChange, meaning, bytes_left, DocumentItem, opens, changes, closes, meant_text, entry_at, entry_refusal, change_refusal, changed, after_open, after_change, after_close, AreTexts, WithinLaw, IsWithin, AllWithin, common_steps}
 use Rattle.lsp_store.proofs.Messages.MessageLemmas.{Accepts, accepted_parts}
 use Rattle.lsp_store.proofs.Messages.ScalarLemmas.{scalar-meaning, scalar-text}
 use Rattle.lsp_store.proofs.GreaterLemmas.{open_parts}
-use Rattle.std.proofs.lemmas.Grind.{common_steps}
 
 pub within_at : (limits : LimitsData) (table : List DocumentItem) (uri : List ℕ) (entry : DocumentItem)
     → AllWithin limits table → entry_at table uri ≡ Some entry → IsWithin limits entry
@@ -50,8 +37,7 @@ left_text : (limits : LimitsData) (units : ℕ → ℕ) (entry : DocumentItem) (
 left_text limits units entry version batch a = ap (meant_text entry.text) a.means
 
 pub within_changed : (limits : LimitsData) (units : ℕ → ℕ) (entry : DocumentItem) (version : ℤ)
-    (batch : List ContentChange)
-    → AreTexts batch → IsWithin limits entry
+    (batch : List ContentChange) → AreTexts batch → IsWithin limits entry
     → entry_refusal limits units entry version batch ≡ None → IsWithin limits (changed units entry version batch)
 within_changed limits units entry version batch texts kept e =
     let a = accepted_parts limits units entry version batch e in
@@ -88,8 +74,7 @@ change_many units (first ∷ table) uri version batch =
 
 close_many : (table : List DocumentItem) (uri : List ℕ) → length (after_close table uri) ≤ length table
 close_many [] uri = omega arith
-close_many (first ∷ table) uri =
-    grind (arith, common_steps, bytes_eq, cases_Bool, (close_many table uri))
+close_many (first ∷ table) uri = grind (arith, common_steps, bytes_eq, cases_Bool, (close_many table uri))
 
 pub within_law : WithinLaw
 within_law limits table (opens entry) kept many texts e =

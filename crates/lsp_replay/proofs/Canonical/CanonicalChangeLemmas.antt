@@ -1,34 +1,7 @@
 -- The canonical message of what some batch means on an open document: it is read as a change, which is accepted there,
 -- leaves what the batch
 -- leaves, and is its own canonical message.
-use Rattle.std.proofs.Common.{◌≡◌, ℕ, ℤ, ◌≤◌, false, nat_lt, List, map, length, IsUtf8, Some, None, Ok, refl, ap, ◌∙◌, subst, arith, w32, FitsSigned}
-use Rattle.std.specs.Str.{chars}
-use Rattle.std.proofs.lemmas.Str.{scalars-chars}
-use Rattle.lsp_frame.specs.Limits.{AreInRange}
-use Rattle.lsp_text.specs.Units.{units_in}
-use Rattle.lsp_text.specs.declared.encoding.Encoding.{Encoding}
-use Rattle.lsp_edit.specs.Items.{Item, text_of}
-use Rattle.lsp_edit.specs.Batch.{ContentChange, meaning}
-use Rattle.lsp_edit.specs.Canonical.{canonical}
-use Rattle.lsp_edit.specs.Compose.{then_items}
-use Rattle.lsp_edit.specs.laws.Batches.{IsCanonical}
-use Rattle.lsp_edit.proofs.Batches.LawLemmas.{canonical_law, units_some}
-use Rattle.lsp_edit.specs.Indexed.{bytes_left}
-use Rattle.lsp_message.specs.Message.{reading}
-use Rattle.lsp_message.specs.Params.{DocumentItem, ChangeData}
-use Rattle.lsp_message.proofs.ReadBack.{reading-body_of, is_read_back, body_of-unique}
-use Rattle.lsp_store.specs.Table.{entry_at, entry_refusal, is_stale, meant_text}
-use Rattle.lsp_store.specs.Message.{AreTexts, IsReadAgain, written_content_change, change_body, canonical_batch, canonical_body}
-use Rattle.lsp_store.specs.Squash.{SquashData, items_meant}
-use Rattle.lsp_store.proofs.Messages.MessageLemmas.{is_read}
-use Rattle.lsp_store.proofs.Messages.ScalarLemmas.{canonical_texts}
-use Rattle.lsp_store.proofs.SquashLemmas.{squash_accepted}
-use Rattle.lsp_server.specs.Incoming.{incoming_of, did_change}
-use Rattle.lsp_server.specs.Step.{ServerData, content_change_from_data, session_encoding}
-use Rattle.lsp_server.proofs.EditLemmas.{edits_back}
-use Rattle.lsp_replay.specs.Commands.{canonical_change_body}
-use Rattle.lsp_replay.specs.inside.Joining.{refusal_of, server_after}
-use Rattle.lsp_replay.specs.inside.Squashed.{joined_by}
+use Rattle.lsp_replay.proofs.Prelude.{◌≡◌, ℕ, ℤ, ◌≤◌, false, nat_lt, List, map, length, IsUtf8, Some, None, Ok, refl, ap, ◌∙◌, subst, arith, w32, FitsSigned, chars, scalars-chars, AreInRange, units_in, Encoding, Item, text_of, ContentChange, meaning, canonical, then_items, IsCanonical, canonical_law, units_some, bytes_left, reading, DocumentItem, ChangeData, reading-body_of, is_read_back, body_of-unique, entry_at, entry_refusal, is_stale, meant_text, AreTexts, IsReadAgain, written_content_change, change_body, canonical_batch, canonical_body, SquashData, items_meant, is_read, canonical_texts, squash_accepted, incoming_of, did_change, ServerData, content_change_from_data, session_encoding, edits_back, canonical_change_body, refusal_of, server_after, joined_by}
 use Rattle.lsp_replay.proofs.Records.PutLemmas.{put, change_puts}
 use Rattle.lsp_replay.proofs.Canonical.SettledLemmas.{asks_back}
 
@@ -69,8 +42,7 @@ pub record IsCanonicalChange (t : ServerData) (uri : List ℕ) (version : ℤ) (
   pub own : canonical_change_body t (canonical_change t uri version entry items)
       ≡ change_body uri version (canonical_at t entry items)
   pub joins : (squash : SquashData) → squash.encoding ≡ session_encoding t → text_of (chars squash.text) squash.items
-      ≡ chars entry.text
-      → joined_by (canonical_change t uri version entry items) squash ≡ record squash {
+      ≡ chars entry.text → joined_by (canonical_change t uri version entry items) squash ≡ record squash {
         items = then_items squash.items items;
         version = version;
       }
@@ -82,8 +54,7 @@ module _ (t : ServerData) (uri : List ℕ) (version : ℤ) (entry : DocumentItem
   units = units_in (session_encoding t)
 
   laws : (some : List ContentChange) (others : List Item) → meaning (units_in (session_encoding t))
-      (chars entry.text) some
-      ≡ Ok others → IsCanonical (units_in (session_encoding t)) (chars entry.text) some others
+      (chars entry.text) some ≡ Ok others → IsCanonical (units_in (session_encoding t)) (chars entry.text) some others
   laws some others means = canonical_law (units_in (session_encoding t)) (units_some (session_encoding t))
       (chars entry.text) some others means
 
@@ -134,8 +105,7 @@ module _ (t : ServerData) (uri : List ℕ) (version : ℤ) (entry : DocumentItem
       same_batch
 
   joins_on : (squash : SquashData) → squash.encoding ≡ session_encoding t → text_of (chars squash.text) squash.items
-      ≡ chars entry.text
-      → joined_by (canonical_change t uri version entry items) squash ≡ record squash {
+      ≡ chars entry.text → joined_by (canonical_change t uri version entry items) squash ≡ record squash {
         items = then_items squash.items items;
         version = version;
       }

@@ -1,35 +1,12 @@
 -- What the canonical message of a record is told by.
-use Rattle.std.proofs.Common.{◌≡◌, ◌≢◌, ◌≤◌, ◌<◌, ◌⊎◌, inl, inr, ℕ, Bool, true, false, List, [], map, length, refl, ap, if◌then◌else◌, nat_lt, ltb-true, ltb-false, le-ltb, lt-ltb, ◌++◌, ◌∙◌, drop, sym, append_assoc}
-use Rattle.std.proofs.lemmas.List.{drop_at}
-use Rattle.std.specs.Prelude.{Option, Some, None, option_map, Err}
-use Rattle.lsp_text.specs.Units.{units_in}
-use Rattle.lsp_text.specs.declared.encoding.Encoding.{Encoding}
-use Rattle.lsp_message.specs.Params.{DocumentItem, ChangeData}
-use Rattle.lsp_edit.specs.Edited as given
-use Rattle.lsp_frame.specs.Limits.{LimitsData}
-use Rattle.lsp_store.specs.declared.fault.StoreFault.{StoreFault}
+use Rattle.lsp_replay.proofs.Prelude.{◌≡◌, ◌≢◌, ◌≤◌, ◌<◌, ◌⊎◌, inl, inr, ℕ, Bool, true, false, List, [], map, length, refl, ap, if◌then◌else◌, nat_lt, ltb-true, ltb-false, le-ltb, lt-ltb, ◌++◌, ◌∙◌, drop, sym, append_assoc, drop_at, Option, Some, None, option_map, Err, units_in, Encoding, DocumentItem, ChangeData, LimitsData, StoreFault, IsRefusal, refusal_fault, body_refusal, else_refused, Refusal, body_too_long, change_refusal, unless_refused, command_refusal, table_after, Phase, New, Running, Down, Ended, AnswerData, Sent, changed, as_sent, did_change, ServerData, content_change_from_data, session_encoding, result_step, change_command, step_in, Session, Verdict, answered, recorded, bad, Judged, judged, judge_client, judge_server, canonical_if, written, writes, ends, Version, Record, IsAppended, Body, TooLong, frame}
 use Rattle.lsp_store.specs.declared.fault.StoreFault.TheVariants.{BodyTooLong, NoMemory}
-use Rattle.lsp_store.specs.Faults.{IsRefusal, refusal_fault}
-use Rattle.lsp_store.specs.Message.{body_refusal, else_refused}
-use Rattle.lsp_store.specs.Table.{Refusal, body_too_long, change_refusal, unless_refused, command_refusal, table_after}
-use Rattle.lsp_server.specs.declared.phase.Phase.{Phase}
-use Rattle.lsp_server.specs.declared.phase.Phase.TheVariants.{New, Running, Down, Ended}
-use Rattle.lsp_server.specs.Answer.{AnswerData, Sent, changed, as_sent}
-use Rattle.lsp_server.specs.Incoming.{did_change}
-use Rattle.lsp_server.specs.Step.{ServerData, content_change_from_data, session_encoding, result_step, change_command, step_in}
-use Rattle.lsp_replay.specs.Session.{Session, Verdict, answered, recorded, bad, Judged, judged, judge_client, judge_server}
-use Rattle.lsp_replay.specs.Commands.{canonical_if, written, writes, ends}
-use Rattle.lsp_log.specs.declared.record.Version.{Version}
-use Rattle.lsp_log.specs.Log.{Record}
-use Rattle.lsp_replay.specs.inside.Verdicts.{IsAppended}
-use Rattle.lsp_replay.specs.declared.session.canonical.Appended.TheVariants.{Body, TooLong}
-use Rattle.lsp_frame.specs.Frame.{frame}
+use Rattle.lsp_edit.specs.Edited as given
 use Rattle.lsp_stream.specs.declared.fault.EngineFault.TheVariants as fault
 
 -- a record that isn't answered has no canonical message
 none_unless_answered : (server : ServerData) (change : Option ChangeData) (verdict : Verdict) → (verdict ≡ recorded)
-    ⊎ (verdict ≡ bad)
-    → canonical_if server change verdict ≡ None
+    ⊎ (verdict ≡ bad) → canonical_if server change verdict ≡ None
 none_unless_answered server None verdict way = refl
 none_unless_answered server (Some p) verdict (inl e) = rw e refl
 none_unless_answered server (Some p) verdict (inr e) = rw e refl
@@ -42,8 +19,7 @@ heard_as s (Some (Some encoding)) = inl refl
 
 -- A server's record has no canonical message.
 pub heard_has_none : (server : ServerData) (change : Option ChangeData) (s : Session)
-    (announced : Option (Option Encoding))
-    → canonical_if server change (judge_server s announced).verdict ≡ None
+    (announced : Option (Option Encoding)) → canonical_if server change (judge_server s announced).verdict ≡ None
 heard_has_none server change s announced = none_unless_answered server change (judge_server s announced).verdict
     (heard_as s announced)
 
@@ -85,16 +61,13 @@ accepted s version p e = step_changed s.server.phase s.server p (same_answer _ _
 -- ---- what is written, where a message is told
 
 pub appended_none : (max_body : ℕ) (r : Record) (front : List ℕ) (canonical_log : Option (List ℕ)) (old new : List ℕ)
-    → IsAppended max_body canonical_log None old new
-    → written max_body r front canonical_log ≡ writes (front ++ r.raw)
+    → IsAppended max_body canonical_log None old new → written max_body r front canonical_log ≡ writes (front ++ r.raw)
 appended_none max_body r front None old new error = refl
 appended_none max_body r front (Some body) old new error = absurd error
 
 pub appended_framed : (max_body : ℕ) (r : Record) (line mark : List ℕ) (canonical_log : Option (List ℕ))
-    (old new bytes : List ℕ) (room : ℕ)
-    → length old ≡ room → IsAppended max_body canonical_log (Some Body) old new
-    → bytes ≡ line ++ (mark ++ frame (drop room new))
-    → written max_body r (line ++ mark) canonical_log ≡ writes bytes
+    (old new bytes : List ℕ) (room : ℕ) → length old ≡ room → IsAppended max_body canonical_log (Some Body) old new
+    → bytes ≡ line ++ (mark ++ frame (drop room new)) → written max_body r (line ++ mark) canonical_log ≡ writes bytes
 appended_framed max_body r line mark None old new bytes room len error is = cc
 appended_framed max_body r line mark (Some body) old new bytes room len error is =
     let rest_after : drop room new ≡ body = ap (drop room) error.0 ∙ drop_at old body room len in

@@ -1,28 +1,8 @@
 -- What `normalise` writes of a log: a log of which the same is told, and of which the same is written.
-use Rattle.std.proofs.Common.{◌≡◌, ℕ, ◌+◌, ◌≤◌, Bool, true, false, List, [], ◌∷◌, ◌++◌, length, Option, Some, None, refl, sym, ap, ◌∙◌, subst, arith, append_assoc, append-nil, nat_lt}
-use Rattle.std.specs.Prelude.{if◌then◌else◌, Result, Err}
-use Rattle.std.proofs.lemmas.Bool.{ltb-false}
-use Rattle.lsp_frame.specs.Faults.{place_after}
-use Rattle.lsp_frame.specs.Frame.{frame, IsFrameOf}
-use Rattle.lsp_frame.specs.Limits.{LimitsData, AreInRange}
-use Rattle.lsp_frame.proofs.WrittenLemmas.{written_is_frame}
-use Rattle.lsp_replay.specs.declared.outcome.Outcome.{Outcome}
-use Rattle.lsp_stream.specs.declared.fault.EngineFault.{EngineFault}
-use Rattle.lsp_stream.specs.declared.fault.EngineFault.TheVariants.{BadLog}
-use Rattle.lsp_log.specs.declared.record.Version.{Version}
-use Rattle.lsp_log.specs.declared.record.Version.TheVariants.{One, Two}
-use Rattle.lsp_log.specs.declared.record.Head.{Head}
-use Rattle.lsp_log.specs.Log.{Record, Log, IsRecord, AreRecords, IsVersion, together, record_bytes, mark_of, line_of, version_line, is_line_due}
-use Rattle.lsp_replay.specs.RunOutput.{RunOutput, written_first}
-use Rattle.lsp_replay.specs.Session.{Session, Verdict, answered, recorded, bad, Judged, judge, opened}
-use Rattle.lsp_replay.specs.Commands.{View, RecordOutput, writes, followed_by, unless_bad, normalising, replaying, canonical_output, canonical_of_record, written, front_of, line_if, log_config, canonical_log}
-use Rattle.lsp_replay.specs.inside.Commands.{run_output_in}
-use Rattle.lsp_replay.specs.Engine.{all_of}
-use Rattle.lsp_replay.specs.laws.Written.{CanonicalLogLaw}
+use Rattle.lsp_replay.proofs.Prelude.{◌≡◌, ℕ, ◌+◌, ◌≤◌, Bool, true, false, List, [], ◌∷◌, ◌++◌, length, Option, Some, None, refl, sym, ap, ◌∙◌, subst, arith, append_assoc, append-nil, nat_lt, if◌then◌else◌, Result, Err, ltb-false, place_after, frame, IsFrameOf, LimitsData, AreInRange, written_is_frame, Outcome, EngineFault, BadLog, Version, One, Two, Head, Record, Log, IsRecord, AreRecords, IsVersion, together, record_bytes, mark_of, line_of, version_line, is_line_due, RunOutput, written_first, Session, Verdict, answered, recorded, bad, Judged, judge, opened, View, RecordOutput, writes, followed_by, unless_bad, normalising, replaying, canonical_output, canonical_of_record, written, front_of, line_if, log_config, canonical_log, run_output_in, all_of, CanonicalLogLaw, common_steps}
 use Rattle.lsp_replay.proofs.Records.StateLemmas.{IsHeldState}
 use Rattle.lsp_replay.proofs.Converted.LineLemmas.{is_version_one}
 use Rattle.lsp_replay.proofs.Records.JudgeLemmas.{judged_held, judged_again}
-use Rattle.std.proofs.lemmas.Grind.{common_steps}
 
 -- ---- a course, a record at a time
 
@@ -33,8 +13,7 @@ course_by view s r rs j g = followed_by g.out g.end (run_output_in view j.sessio
 pub command_output : (view : View (Unit {0})) (s : Session) (r : Record) (rs : List Record) (j : Judged)
     (out : List ℕ) → judge s r ≡ j → view.record_output tt s r j ≡ writes out
     → run_output_in view s (r ∷ rs) ≡ written_first out (run_output_in view j.session rs)
-command_output view s r rs j out is gives_it =
-    grind (arith, common_steps)
+command_output view s r rs j out is gives_it = grind (arith, common_steps)
 
 pub went_on : (out : List ℕ) (end : Option (Result Outcome EngineFault)) (c : RunOutput)
     → (followed_by out end c).stop ≡ None → (end ≡ None) × (c.stop ≡ None)
@@ -164,8 +143,7 @@ module _ (limits : LimitsData) (ranges : AreInRange limits) where
       (one : IsWrittenAs limits at s r q) (more : AreWritten (at + length (record_bytes version q)) version false
       (judge s r).session rs qs) where
     front_is : front_of r.head ≡ line_if due ++ mark_of version q.head.side
-    front_is =
-        grind (arith, common_steps)
+    front_is = grind (arith, common_steps)
 
     first : run_output_in normalising s (r ∷ rs) ≡ written_first (front_of r.head ++ q.raw)
         (run_output_in normalising (judge s r).session rs)
@@ -177,8 +155,7 @@ module _ (limits : LimitsData) (ranges : AreInRange limits) where
     one_more : AreWritten at version due s (r ∷ rs) (q ∷ qs)
     one_more = record {
       are = grind (arith, common_steps);
-      out =
-          grind (arith, common_steps, front_none, four);
+      out = grind (arith, common_steps, front_none, four);
       last = λ line_due. ap (λ (c : RunOutput). c.last line_due) first ∙ more.last line_due;
       again =
           command_output normalising s q qs (judge s r) (front_of r.head ++ q.raw) one.same one.again

@@ -1,21 +1,5 @@
 -- What `normalise` writes of a record that was taken, and the output from that record on.
-use Rattle.std.proofs.Common.{◌≡◌, ◌≢◌, ◌≤◌, ◌⊎◌, inl, inr, ℕ, List, [], ◌∷◌, length, Option, Some, None, refl, ◌∙◌}
-use Rattle.std.specs.Prelude.{Err}
-use Rattle.lsp_log.specs.declared.record.Head.{Head}
-use Rattle.lsp_log.specs.Log.{Record}
-use Rattle.lsp_stream.specs.declared.fault.EngineFault.{EngineFault}
-use Rattle.lsp_stream.specs.declared.fault.EngineFault.TheVariants.{BodyTooLong, NoMemory}
-use Rattle.lsp_replay.specs.declared.session.Taken.{Taken}
-use Rattle.lsp_replay.specs.declared.session.canonical.Appended.TheVariants.{Body}
-use Rattle.lsp_replay.specs.declared.session.canonical.Canonical.{Canonical}
-use Rattle.lsp_replay.specs.Commands.{RecordOutput, canonical_change_body, canonical_of_record, canonical_output, ends, followed_by, front_of, normalising, writes, written}
-use Rattle.lsp_replay.specs.RunOutput.{stopped, written_first}
-use Rattle.lsp_replay.specs.Session.{Session, bad, judge}
-use Rattle.lsp_replay.specs.inside.Commands.{run_output_in}
-use Rattle.lsp_replay.specs.inside.RunOutput.{IsRecordFault}
-use Rattle.lsp_replay.specs.inside.Session.{judge_at}
-use Rattle.lsp_replay.specs.inside.Taken.{IsTaken}
-use Rattle.lsp_replay.specs.inside.Verdicts.{IsAppended, verdict_view}
+use Rattle.lsp_replay.proofs.Prelude.{◌≡◌, ◌≢◌, ◌≤◌, ◌⊎◌, inl, inr, ℕ, List, [], ◌∷◌, length, Option, Some, None, refl, ◌∙◌, Err, Head, Record, EngineFault, BodyTooLong, NoMemory, Taken, Body, Canonical, RecordOutput, canonical_change_body, canonical_of_record, canonical_output, ends, followed_by, front_of, normalising, writes, written, stopped, written_first, Session, bad, judge, run_output_in, IsRecordFault, judge_at, IsTaken, IsAppended, verdict_view}
 use Rattle.lsp_replay.proofs.Records.TakenLemmas.{room_kept, seen_written}
 use Rattle.lsp_replay.proofs.Records.OutputLemmas.{output_after, unless_not}
 
@@ -48,8 +32,7 @@ module _ {s t : Session} {head : Head} {body : List ℕ} {taken : Taken} {before
           → IsAppended max c after.appended old after.bytes.items
           → written max (record { head = head; raw = raw; body = b }) (front_of head) c ≡ given
 
-      goes : (given : RecordOutput) → IsWritten given → (more : List Record)
-          → run_output_in normalising s (r ∷ more)
+      goes : (given : RecordOutput) → IsWritten given → (more : List Record) → run_output_in normalising s (r ∷ more)
           ≡ followed_by given.out given.end (run_output_in normalising t more)
       goes given written =
           output_after normalising tt s r given
@@ -61,8 +44,7 @@ module _ {s t : Session} {head : Head} {body : List ℕ} {taken : Taken} {before
       printed out = goes (writes out)
 
       -- a canonical body that is too long ends the run
-      pub not_printed : (fault : EngineFault)
-          → (fault ≡ NoMemory) ⊎ ((fault ≡ BodyTooLong head.place)
+      pub not_printed : (fault : EngineFault) → (fault ≡ NoMemory) ⊎ ((fault ≡ BodyTooLong head.place)
           × IsWritten (ends [] (Err (BodyTooLong head.place))))
           → (fault ≡ NoMemory) ⊎ (IsRecordFault fault × ((more : List Record)
           → run_output_in normalising s (r ∷ more) ≡ stopped [] (Err fault)))

@@ -1,37 +1,11 @@
 -- The canonical message of a change that is accepted asks for its canonical batch, which does the same.
-use Rattle.std.proofs.Common.{◌≡◌, ℕ, ℤ, ◌≤◌, List, map, length, Some, None, refl, ap, ◌∙◌, arith}
-use Rattle.std.specs.Prelude.{Ok}
-use Rattle.std.specs.Str.{chars}
-use Rattle.std.proofs.lemmas.Str.{scalars-chars}
-use Rattle.lsp_frame.specs.Limits.{LimitsData, AreInRange}
+use Rattle.lsp_replay.proofs.Prelude.{◌≡◌, ℕ, ℤ, ◌≤◌, List, map, length, Some, None, refl, ap, ◌∙◌, arith, Ok, chars, scalars-chars, LimitsData, AreInRange, units_in, Encoding, Item, ContentChange, meaning, canonical, IsCanonical, canonical_law, units_some, reading, DocumentItem, ChangeData, reading-body_of, is_read_back, body_of-unique, entry_at, entry_refusal, change_refusal, after_change, Accepts, accepted_parts, body_within, is_settled, is_read, canonical_texts, IsWithin, within_at, Phase, New, Running, Down, Ended, did_change, incoming_of, ServerData, step_in, step_on, content_change_from_data, session_encoding, edits_back, canonical_change_body, common_steps}
 use Rattle.lsp_frame.proofs.LawLemmas.{injective_law}
-use Rattle.lsp_text.specs.Units.{units_in}
-use Rattle.lsp_text.specs.declared.encoding.Encoding.{Encoding}
-use Rattle.lsp_edit.specs.Items.{Item}
-use Rattle.lsp_edit.specs.Batch.{ContentChange, meaning}
-use Rattle.lsp_edit.specs.Canonical.{canonical}
-use Rattle.lsp_edit.specs.laws.Batches.{IsCanonical}
-use Rattle.lsp_edit.proofs.Batches.LawLemmas.{canonical_law, units_some}
-use Rattle.lsp_message.specs.Message.{reading}
-use Rattle.lsp_message.specs.Params.{DocumentItem, ChangeData}
-use Rattle.lsp_message.proofs.ReadBack.{reading-body_of, is_read_back, body_of-unique}
-use Rattle.lsp_store.specs.Table.{entry_at, entry_refusal, change_refusal, after_change}
 use Rattle.lsp_store.specs.Message.{AreTexts, IsCanonicalOf, IsReadAgain, written_content_change, change_body, canonical_batch, canonical_body, body_refusal}
 use Rattle.lsp_store.proofs.Tables.FirstLemmas.{first_none}
-use Rattle.lsp_store.proofs.Messages.MessageLemmas.{Accepts, accepted_parts, body_within, is_settled, is_read}
-use Rattle.lsp_store.proofs.Messages.ScalarLemmas.{canonical_texts}
-use Rattle.lsp_store.specs.laws.Tables.{IsWithin}
-use Rattle.lsp_store.proofs.WithinLemmas.{within_at}
-use Rattle.lsp_server.specs.declared.phase.Phase.{Phase}
-use Rattle.lsp_server.specs.declared.phase.Phase.TheVariants.{New, Running, Down, Ended}
-use Rattle.lsp_server.specs.Incoming.{did_change, incoming_of}
-use Rattle.lsp_server.specs.Step.{ServerData, step_in, step_on, content_change_from_data, session_encoding}
-use Rattle.lsp_server.proofs.EditLemmas.{edits_back}
-use Rattle.lsp_replay.specs.Commands.{canonical_change_body}
 use Rattle.lsp_replay.proofs.Canonical.CanonicalLogLemmas.{within}
 use Rattle.lsp_replay.proofs.Records.AskedLemmas.{IsProperAsked}
 use Rattle.lsp_replay.proofs.Records.StateLemmas.{IsHeldState}
-use Rattle.std.proofs.lemmas.Grind.{common_steps}
 
 -- ---- refusals
 
@@ -69,8 +43,7 @@ same_change : (server : ServerData) (p again : ChangeData) (phase : Phase)
 same_change server p again New may also same = refl
 same_change server p again Down may also same = refl
 same_change server p again Ended may also same = refl
-same_change server p again Running may also same =
-    grind (arith, common_steps)
+same_change server p again Running may also same = grind (arith, common_steps)
 
 module _ (server : ServerData) (p : ChangeData) (ranges : AreInRange server.config.limits)
     (received : IsHeldState server.config.limits server) (proper : IsProperAsked p)
@@ -93,8 +66,7 @@ module _ (server : ServerData) (p : ChangeData) (ranges : AreInRange server.conf
   text_held = within_at server.config.limits server.table p.uri entry received.table is_open
 
   laws : (some : List ContentChange) (items : List Item) → meaning (units_in encoding) (chars entry.text) some
-      ≡ Ok items
-      → IsCanonical (units_in encoding) (chars entry.text) some items
+      ≡ Ok items → IsCanonical (units_in encoding) (chars entry.text) some items
   laws some items means = canonical_law (units_in encoding) (units_some encoding) (chars entry.text) some items means
 
   may_here : entry_refusal server.config.limits (units_in encoding) entry p.version batch ≡ None
@@ -125,8 +97,7 @@ module _ (server : ServerData) (p : ChangeData) (ranges : AreInRange server.conf
   settled_is = rw (is_open, accepts.means) refl
 
   settled_texts : AreTexts settled
-  settled_texts =
-      grind (arith, common_steps, settled_is, canonical_texts, laws, scalars-chars, text_held.utf8)
+  settled_texts = grind (arith, common_steps, settled_is, canonical_texts, laws, scalars-chars, text_held.utf8)
 
   abbrev again_change : ChangeData
   again_change = record { uri = p.uri; version = p.version; changes = map written_content_change settled }

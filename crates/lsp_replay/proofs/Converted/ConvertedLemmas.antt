@@ -1,28 +1,9 @@
 -- What `convert` writes of a log: a log of which the same is told.
-use Rattle.std.proofs.Common.{◌≡◌, ℕ, Bool, true, false, Option, Some, None, refl, ap, ◌∙◌}
-use Rattle.std.specs.Prelude.{⊤, if◌then◌else◌, option_and_then, option_map}
-use Rattle.serde_json.specs.Data.{Data}
-use Rattle.std.proofs.lemmas.Bool.Decides.{Decides-int_eq}
-use Rattle.std.proofs.lemmas.Slice.Eq.{bytes_eq-Decides}
+use Rattle.lsp_replay.proofs.Prelude.{◌≡◌, ℕ, Bool, true, false, Option, Some, None, refl, ap, ◌∙◌, ⊤, if◌then◌else◌, option_and_then, option_map, Data, Decides-int_eq, bytes_eq-Decides, IdData, Reading, whole, text, reading, OutgoingData, initialize_result, body_of, initialize_value, IsProperId, reading-body_of, is_read_back, Encoding, Phase, New, Running, Down, Ended, AnswerData, Sent, reply, changed, dropped, ignored, already_ended, refused, exits, as_sent, IncomingData, not_json, not_a_message, response, initialize, shutdown, other_request, exit, did_open, did_change, did_close, other_notification, ServerData, step_in, step_on, begin_step, with_encoding, Version, One, Two, one_more, Session, Verdict, answered, recorded, bad, Judged, judged, judge_client, handled, judge_server, encoding_for, encoding_in, same_id, is_ended, is_early, is_new, expected_of, count_if, is_refused}
 use Rattle.lsp_message.specs.declared.agreement.Announced.{Announced}
 use Rattle.lsp_message.specs.declared.agreement.Offers.{Offers}
 use Rattle.lsp_message.specs.declared.agreement.SyncKind.{SyncKind}
-use Rattle.lsp_message.specs.Message.{IdData, Reading, whole, text, reading}
-use Rattle.lsp_message.specs.Outgoing.{OutgoingData, initialize_result, body_of}
-use Rattle.lsp_message.specs.Written.{initialize_value}
-use Rattle.lsp_message.specs.laws.Sent.{IsProperId}
-use Rattle.lsp_message.proofs.ReadBack.{reading-body_of, is_read_back}
-use Rattle.lsp_text.specs.declared.encoding.Encoding.{Encoding}
-use Rattle.lsp_server.specs.declared.phase.Phase.{Phase}
-use Rattle.lsp_server.specs.declared.phase.Phase.TheVariants.{New, Running, Down, Ended}
-use Rattle.lsp_server.specs.Answer.{AnswerData, Sent, reply, changed, dropped, ignored, already_ended, refused, exits, as_sent}
 use Rattle.lsp_server.specs.Choice.{encoding_chosen, announced_kind}
-use Rattle.lsp_server.specs.Incoming.{IncomingData, not_json, not_a_message, response, initialize, shutdown, other_request, exit, did_open, did_change, did_close, other_notification}
-use Rattle.lsp_server.specs.Step.{ServerData, step_in, step_on, begin_step, with_encoding}
-use Rattle.lsp_log.specs.declared.record.Version.{Version}
-use Rattle.lsp_log.specs.declared.record.Version.TheVariants.{One, Two}
-use Rattle.lsp_stream.specs.Ports.{one_more}
-use Rattle.lsp_replay.specs.Session.{Session, Verdict, answered, recorded, bad, Judged, judged, judge_client, handled, judge_server, encoding_for, encoding_in, same_id, is_ended, is_early, is_new, expected_of, count_if, is_refused}
 use Rattle.lsp_replay.proofs.Records.AskedLemmas.{IsProperIncoming}
 
 -- ---- a log of version 1 and one of version 2, side by side

@@ -1,28 +1,5 @@
 -- What `convert` writes of a log: a log of which the same is told.
-use Rattle.std.proofs.Common.{◌≡◌, ℕ, ◌+◌, ◌<◌, ◌≤◌, Bool, true, false, List, [], ◌∷◌, ◌++◌, length, Option, Some, None, refl, sym, ap, ◌∙◌, subst, arith, append_assoc, append-nil, codes, ◌==◌}
-use Rattle.std.specs.Prelude.{if◌then◌else◌, Err}
-use Rattle.std.proofs.lemmas.Bool.{ne_eqb}
-use Rattle.lsp_frame.specs.Faults.{place_after}
-use Rattle.lsp_frame.specs.Frame.{frame}
-use Rattle.lsp_frame.specs.Limits.{LimitsData, AreInRange}
-use Rattle.lsp_frame.proofs.WrittenLemmas.{written_is_frame}
-use Rattle.lsp_message.specs.Message.{IdData, reading}
-use Rattle.lsp_message.specs.Outgoing.{OutgoingData, body_of}
-use Rattle.lsp_server.specs.Answer.{AnswerData, Sent, reply, changed, dropped, ignored, already_ended, refused, exits, as_sent, sent_reply}
-use Rattle.lsp_server.specs.Incoming.{incoming_of}
-use Rattle.lsp_server.specs.Step.{ServerData, step_on}
-use Rattle.lsp_stream.specs.declared.fault.EngineFault.TheVariants.{BadLog}
-use Rattle.lsp_log.specs.declared.record.Version.{Version}
-use Rattle.lsp_log.specs.declared.record.Version.TheVariants.{One, Two}
-use Rattle.lsp_log.specs.declared.record.Sender.TheVariants.{Client, Server}
-use Rattle.lsp_stream.specs.Ports.{one_more}
-use Rattle.lsp_log.specs.Log.{Record, IsRecord, AreRecords, together, record_bytes, line_of, version_line, is_line_due}
-use Rattle.lsp_replay.specs.RunOutput.{RunOutput, written_first}
-use Rattle.lsp_replay.specs.Session.{Session, Verdict, answered, recorded, bad, Judged, judged, judge, judge_from, judge_client, counted, opened}
-use Rattle.lsp_replay.specs.Commands.{RecordOutput, writes, unless_bad, replaying, converting, line_if, line_before, reply_record, log_config, converted}
-use Rattle.lsp_replay.specs.inside.Commands.{run_output_in}
-use Rattle.lsp_replay.specs.Engine.{all_of}
-use Rattle.lsp_replay.specs.laws.Written.{IsReplyWithin, AreRepliesWithin, ConvertedLaw}
+use Rattle.lsp_replay.proofs.Prelude.{◌≡◌, ℕ, ◌+◌, ◌<◌, ◌≤◌, Bool, true, false, List, [], ◌∷◌, ◌++◌, length, Option, Some, None, refl, sym, ap, ◌∙◌, subst, arith, append_assoc, append-nil, codes, ◌==◌, if◌then◌else◌, Err, ne_eqb, place_after, frame, LimitsData, AreInRange, written_is_frame, IdData, reading, OutgoingData, body_of, AnswerData, Sent, reply, changed, dropped, ignored, already_ended, refused, exits, as_sent, sent_reply, incoming_of, ServerData, step_on, BadLog, Version, One, Two, Client, Server, one_more, Record, IsRecord, AreRecords, together, record_bytes, line_of, version_line, is_line_due, RunOutput, written_first, Session, Verdict, answered, recorded, bad, Judged, judged, judge, judge_from, judge_client, counted, opened, RecordOutput, writes, unless_bad, replaying, converting, line_if, line_before, reply_record, log_config, converted, run_output_in, all_of, IsReplyWithin, AreRepliesWithin, ConvertedLaw}
 use Rattle.lsp_replay.proofs.Records.AskedLemmas.{asked_proper}
 use Rattle.lsp_replay.proofs.Canonical.NormalisedLemmas.{command_output, went_on, Passes, passes}
 use Rattle.lsp_replay.proofs.Converted.ConvertedLemmas.{twin, IsGood, Follows, next_of, rest_after, waits, follows_step, judged_one, judged_two}

@@ -1,13 +1,6 @@
 -- No frame begins with the line of version 2: a name goes on to its colon, and the line has a space before one.
-use Rattle.std.proofs.Common.{◌≡◌, ◌≢◌, ℕ, Bool, true, List, [], ◌∷◌, ◌++◌, length, sym, ap, ◌∙◌, arith, append_assoc, codes}
-use Rattle.std.specs.Prelude.{⊤}
-use Rattle.std.specs.List.{AllByRecursion}
-use Rattle.lsp_frame.specs.Frame.{IsFrameOf}
+use Rattle.lsp_replay.proofs.Prelude.{◌≡◌, ◌≢◌, ℕ, Bool, true, List, [], ◌∷◌, ◌++◌, length, sym, ap, ◌∙◌, arith, append_assoc, codes, ⊤, AllByRecursion, IsFrameOf, One, Record, IsVersion, AreRecords, together, version_line, first_byte, common_steps}
 use Rattle.lsp_frame.specs.Header.{IsNameByte, Line, AreLines, header_of, lines_bytes}
-use Rattle.lsp_log.specs.declared.record.Version.TheVariants.{One}
-use Rattle.lsp_log.specs.Log.{Record, IsVersion, AreRecords, together, version_line}
-use Rattle.lsp_log.proofs.UniqueLemmas.{first_byte}
-use Rattle.std.proofs.lemmas.Grind.{common_steps}
 
 abbrev NoColon : List ℕ → Type 0
 NoColon [] = ⊤
@@ -42,11 +35,9 @@ lines_apart (line ∷ lines) body others more each e =
     each.0.name
     (sym (grouped line.name (line.value ++ (13 ∷ 10 ∷ [])) (lines_bytes lines) (13 ∷ 10 ∷ []) body others) ∙ e)
   where
-    grouped : (name value rest end body others : List ℕ)
-        → ((((name ++ (58 ∷ value)) ++ rest) ++ end) ++ body) ++ others
+    grouped : (name value rest end body others : List ℕ) → ((((name ++ (58 ∷ value)) ++ rest) ++ end) ++ body) ++ others
         ≡ name ++ 58 ∷ ((((value ++ rest) ++ end) ++ body) ++ others)
-    grouped name value rest end body others =
-        grind (arith, common_steps, append_assoc)
+    grouped name value rest end body others = grind (arith, common_steps, append_assoc)
 
 pub no_line : (max_body : ℕ) (raw body others more : List ℕ) → IsFrameOf max_body raw body → raw ++ others
     ≢ version_line ++ more

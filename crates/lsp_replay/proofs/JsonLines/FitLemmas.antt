@@ -1,45 +1,9 @@
 -- The numbers of a session fit their types: counts 64 bits, versions 32 bits. A canonical message is JSON.
-use Rattle.std.proofs.Common.{◌≡◌, ℕ, ℤ, zero, suc, ◌^◌, ◌<◌, ◌≤◌, Bool, true, false, List, [], ◌∷◌, ◌++◌, length, map, Option, Some, None, refl, sym, ap, ◌∙◌, subst, arith, take, bytes_eq, FitsSigned, IsUtf8}
-use Rattle.std.specs.Prelude.{⊤, codes, if◌then◌else◌, option_and_then, option_map}
+use Rattle.lsp_replay.proofs.Prelude.{◌≡◌, ℕ, ℤ, zero, suc, ◌^◌, ◌<◌, ◌≤◌, Bool, true, false, List, [], ◌∷◌, ◌++◌, length, map, Option, Some, None, refl, sym, ap, ◌∙◌, subst, arith, take, bytes_eq, FitsSigned, IsUtf8, ⊤, codes, if◌then◌else◌, option_and_then, option_map, option_map_or, is_utf8, cases_Bool, ltb-false, IsUtf8-from_is_utf8, Json, IsUtf8-are_ascii, are_ascii, Data, null, boolean, number, string, array, object, Members, get, get_member, read, LimitsData, AreInRange, units_in, ContentChange, IdData, MessageData, OutcomeData, Reading, id_in, json_of, message_of, reading, ChangeData, CloseData, close_by, close_of, DocumentItem, change_by, change_of, document_and_changes, document_in, open_by, open_of, version_in, content_change_in, each_of, text_in, value_of, IsProperId, AllWithin, Refusal, after_change, after_close, after_open, change_refusal, close_refusal, entry_at, open_refusal, unless_refused, AnswerData, changed, refused, Phase, New, Running, Down, Ended, IncomingData, not_json, not_a_message, response, initialize, shutdown, other_request, exit, did_open, did_change, did_close, other_notification, incoming_by, incoming_of, ServerData, content_change_from_data, result_step, session_encoding, step_in, one_more, Sender, Client, Server, Version, Record, canonical_change_body, canonical_if, canonical_of_record, change_in, Known, known_after, last_in, uri_of, Mention, is_mention, last_for, last_record, mentioned, most_mentions, without, Session, Verdict, answered, recorded, bad, encoding_for, has_changed, is_change, judge, judge_from, id_of, is_json, method_of, within, common_steps}
 use Rattle.std.specs.Int.{w32}
-use Rattle.std.specs.Option.{option_map_or}
-use Rattle.std.specs.Str.{is_utf8}
-use Rattle.std.proofs.lemmas.Bool.{cases_Bool, ltb-false}
-use Rattle.std.proofs.lemmas.Str.{IsUtf8-from_is_utf8}
-use Rattle.json.specs.Json.{Json}
-use Rattle.json.proofs.Printed.Utf8.{IsUtf8-are_ascii, are_ascii}
-use Rattle.serde_json.specs.Data.{Data, null, boolean, number, string, array, object, Members}
-use Rattle.serde_json.specs.Find.{get, get_member}
-use Rattle.serde_json.specs.Read.{read}
-use Rattle.lsp_frame.specs.Limits.{LimitsData, AreInRange}
-use Rattle.lsp_text.specs.Units.{units_in}
-use Rattle.lsp_edit.specs.Batch.{ContentChange}
-use Rattle.lsp_message.specs.Message as msg
-use Rattle.lsp_message.specs.Message.{IdData, MessageData, OutcomeData, Reading, id_in, json_of, message_of, reading}
 use Rattle.lsp_message.specs.Agreement.{offers_of}
-use Rattle.lsp_message.specs.Params.{ChangeData, CloseData, close_by, close_of, DocumentItem, change_by, change_of, document_and_changes, document_in, open_by, open_of, version_in, content_change_in}
-use Rattle.lsp_message.specs.Values.{each_of, text_in}
-use Rattle.lsp_message.specs.Written.{value_of}
-use Rattle.lsp_message.specs.laws.Sent.{IsProperId}
 use Rattle.lsp_message.proofs.BodyLemmas.{body_is}
 use Rattle.lsp_store.specs.Message.{change_body, change_message}
-use Rattle.lsp_store.specs.laws.Tables.{AllWithin}
-use Rattle.lsp_store.specs.Table.{Refusal, after_change, after_close, after_open, change_refusal, close_refusal, entry_at, open_refusal, unless_refused}
-use Rattle.lsp_server.specs.Answer.{AnswerData, changed, refused}
-use Rattle.lsp_server.specs.declared.phase.Phase.{Phase}
-use Rattle.lsp_server.specs.declared.phase.Phase.TheVariants.{New, Running, Down, Ended}
-use Rattle.lsp_server.specs.Incoming.{IncomingData, not_json, not_a_message, response, initialize, shutdown, other_request, exit, did_open, did_change, did_close, other_notification, incoming_by, incoming_of}
-use Rattle.lsp_server.specs.Step.{ServerData, content_change_from_data, result_step, session_encoding, step_in}
-use Rattle.lsp_stream.specs.Ports.{one_more}
-use Rattle.lsp_log.specs.declared.record.Sender.{Sender}
-use Rattle.lsp_log.specs.declared.record.Sender.TheVariants.{Client, Server}
-use Rattle.lsp_log.specs.declared.record.Version.{Version}
-use Rattle.lsp_log.specs.Log.{Record}
-use Rattle.lsp_replay.specs.Commands.{canonical_change_body, canonical_if, canonical_of_record, change_in}
-use Rattle.lsp_replay.specs.Lines.{Known, known_after, last_in, uri_of}
-use Rattle.lsp_replay.specs.Mentions.{Mention, is_mention, last_for, last_record, mentioned, most_mentions, without}
-use Rattle.lsp_replay.specs.Session.{Session, Verdict, answered, recorded, bad, encoding_for, has_changed, is_change, judge, judge_from}
-use Rattle.lsp_replay.specs.Trace.{id_of, is_json, method_of, within}
 use Rattle.lsp_replay.proofs.JsonLines.PlainLemmas.{visible_compact}
 use Rattle.lsp_replay.proofs.JsonLines.StringLemmas.{are_visible}
 use Rattle.lsp_replay.proofs.JsonLines.ValueLemmas.{IsJson, read_is}
@@ -47,7 +11,7 @@ use Rattle.lsp_replay.proofs.Records.AskedLemmas.{IsProperAsked, changed_held, d
 use Rattle.lsp_replay.proofs.Records.JudgeLemmas.{asks_change, judged_again, judged_held, of_incoming, of_server}
 use Rattle.lsp_replay.proofs.Records.ReadLemmas.{IsHeld, MembersAreHeld, OnSome, on_map, on_then}
 use Rattle.lsp_replay.proofs.Records.StateLemmas.{IsHeldState}
-use Rattle.std.proofs.lemmas.Grind.{common_steps}
+use Rattle.lsp_message.specs.Message as msg
 
 any : {A : Type 0} (o : Option A) → OnSome (λ (a : A). ⊤) o
 any None = tt
@@ -69,8 +33,7 @@ abbrev IsChangeVersion : ChangeData → Type 0
 IsChangeVersion p = VersionFits p.version
 
 open_version : (ms : Members) → OnSome IsOpenVersion (open_by ms)
-open_version ms =
-    grind (arith, common_steps, on_then, version_fits)
+open_version ms = grind (arith, common_steps, on_then, version_fits)
 
 opened_version : (params : Option Data) → OnSome IsOpenVersion (open_of params)
 opened_version params =
@@ -105,10 +68,8 @@ either_version true x y p q = p
 either_version false x y p q = q
 
 message_version : (m : MessageData) → HasVersion (incoming_by m)
-message_version (msg.request id method params) =
-    grind (arith, common_steps, either_version, bytes_eq)
-message_version (msg.notification method params) =
-    grind (arith, common_steps, either_version, bytes_eq, opened_version)
+message_version (msg.request id method params) = grind (arith, common_steps, either_version, bytes_eq)
+message_version (msg.notification method params) = grind (arith, common_steps, either_version, bytes_eq, opened_version)
 message_version (msg.response id outcome) = tt
 
 reading_version : (r : Reading) → HasVersion (incoming_of r)
@@ -118,11 +79,9 @@ reading_version (msg.message m) = message_version m
 
 -- ---- the versions of a table
 
-versions_at : (table : List DocumentItem) (uri : List ℕ) → AreVersions table
-    → OnSome IsOpenVersion (entry_at table uri)
+versions_at : (table : List DocumentItem) (uri : List ℕ) → AreVersions table → OnSome IsOpenVersion (entry_at table uri)
 versions_at [] uri kept = tt
-versions_at (first ∷ table) uri kept =
-    grind (arith, common_steps, bytes_eq, cases_Bool, (versions_at table uri kept.1))
+versions_at (first ∷ table) uri kept = grind (arith, common_steps, bytes_eq, cases_Bool, (versions_at table uri kept.1))
 
 versions_close : (table : List DocumentItem) (uri : List ℕ) → AreVersions table → AreVersions (after_close table uri)
 versions_close [] uri kept = tt
@@ -249,15 +208,13 @@ mention_fits mentions uri (answered AnswerData.already_ended) are = tt
 mention_fits mentions uri recorded are = tt
 mention_fits mentions uri bad are = tt
 
-either_fits : (b : Bool) (x y : Option ℕ) → OnSome IsCount x → OnSome IsCount y
-    → OnSome IsCount (if b then x else y)
+either_fits : (b : Bool) (x y : Option ℕ) → OnSome IsCount x → OnSome IsCount y → OnSome IsCount (if b then x else y)
 either_fits true x y h k = h
 either_fits false x y h k = k
 
 pub last_fits : (known : Known) (uri : Option (List ℕ)) (verdict : Verdict) → AreNumbered known.made
     → AreNumbered known.mentions → OnSome IsCount (last_in known uri verdict)
-last_fits known uri verdict made mentions =
-    grind (arith, common_steps, either_fits, mention_fits)
+last_fits known uri verdict made mentions = grind (arith, common_steps, either_fits, mention_fits)
 
 -- ---- a session
 
@@ -352,8 +309,7 @@ abbrev HasCloseUri : CloseData → Type 0
 HasCloseUri p = IsUtf8 p.uri
 
 close_uri : (ms : Members) → MembersAreHeld ms → OnSome HasCloseUri (close_by ms)
-close_uri ms held =
-    grind (arith, common_steps, on_map, held_text, held_member)
+close_uri ms held = grind (arith, common_steps, on_map, held_text, held_member)
 
 plain_method : (method : List ℕ) → are_ascii method ≡ true → OnSome IsUtf8 (Some method)
 plain_method method h = IsUtf8-are_ascii method h
@@ -364,11 +320,7 @@ asked_open (Some p) is = record { id = tt; method = plain_method (codes "textDoc
 
 asked_change : (params : Option ChangeData) → OnSome IsProperAsked params → IsAsked (did_change params)
 asked_change None is = record { id = tt; method = plain_method (codes "textDocument/didChange") refl; uri = tt }
-asked_change (Some p) is = record {
-  id = tt;
-  method = plain_method (codes "textDocument/didChange") refl;
-  uri = is.uri;
-}
+asked_change (Some p) is = record { id = tt; method = plain_method (codes "textDocument/didChange") refl; uri = is.uri }
 
 asked_close : (params : Option CloseData) → OnSome HasCloseUri params → IsAsked (did_close params)
 asked_close None is = record { id = tt; method = plain_method (codes "textDocument/didClose") refl; uri = tt }
@@ -440,8 +392,7 @@ read_or P f None d all is rest = rest
 read_or P f (Some a) d all is rest = all a is
 
 value_id : (d : Data) → IsHeld d → IdRead (message_of d)
-value_id d held =
-    grind (arith, common_steps, read_or, version_id, row_id, held_get, on_then, id_held)
+value_id d held = grind (arith, common_steps, read_or, version_id, row_id, held_get, on_then, id_held)
 
 asked : (body : List ℕ) → IsAsked (incoming_of (reading body))
 asked body =

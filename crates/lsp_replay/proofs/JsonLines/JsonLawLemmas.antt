@@ -1,22 +1,7 @@
 -- All lines of `trace`.
-use Rattle.std.proofs.Common.{ℕ, suc, ◌^◌, ◌<◌, List, [], ◌∷◌, refl, arith}
-use Rattle.std.specs.Prelude.{All}
-use Rattle.json.specs.Json.{Json}
-use Rattle.lsp_frame.specs.Limits.{LimitsData, AreInRange}
-use Rattle.lsp_message.specs.Message.{reading}
-use Rattle.lsp_server.specs.Incoming.{incoming_of}
-use Rattle.lsp_log.specs.Log.{Record}
-use Rattle.lsp_replay.specs.declared.commands.traced.Details.{Details}
-use Rattle.lsp_replay.specs.Commands.{followed_by, unless_bad, writes}
-use Rattle.lsp_replay.specs.RunOutput.{RunOutput}
-use Rattle.lsp_replay.specs.Lines.{Known, known_after}
-use Rattle.lsp_replay.specs.Session.{Session, Verdict, answered, recorded, bad, judge}
-use Rattle.lsp_replay.specs.Trace.{trace_line, tracing}
-use Rattle.lsp_replay.specs.inside.Lines.{lines_in}
-use Rattle.lsp_replay.specs.laws.JsonLines.{AreJsonLines, IsJsonLine, TraceJsonLaw, trace_value, unless_bad_value, values_from}
+use Rattle.lsp_replay.proofs.Prelude.{ℕ, suc, ◌^◌, ◌<◌, List, [], ◌∷◌, refl, arith, All, Json, LimitsData, AreInRange, reading, incoming_of, Record, Details, followed_by, unless_bad, writes, RunOutput, Known, known_after, Session, Verdict, answered, recorded, bad, judge, trace_line, tracing, lines_in, AreJsonLines, IsJsonLine, TraceJsonLaw, trace_value, unless_bad_value, values_from, common_steps}
 use Rattle.lsp_replay.proofs.JsonLines.FitLemmas.{IsFit, judged_fits}
 use Rattle.lsp_replay.proofs.JsonLines.LineLemmas.{trace_json}
-use Rattle.std.proofs.lemmas.Grind.{common_steps}
 
 by_verdict : (verdict : Verdict) (r : Record) (line : List ℕ) (value : Json) (c : RunOutput) (values : List Json)
     → IsJsonLine line value → AreJsonLines c.out values
@@ -28,8 +13,7 @@ by_verdict bad r line value c values is more = refl
 
 module _ (limits : LimitsData) (ranges : AreInRange limits) (details : Details) where
   lines_json : (known : Known) (s : Session) (rs : List Record) → All (λ (r : Record). r.head.place < 2 ^ 64) rs
-      → IsFit limits known s
-      → AreJsonLines (lines_in (tracing details) known s rs).out (values_from details known s rs)
+      → IsFit limits known s → AreJsonLines (lines_in (tracing details) known s rs).out (values_from details known s rs)
   lines_json known s [] places fits = refl
   lines_json known s (r ∷ rs) places fits =
       let next = known_after known s r.head r.body (judge s r) in
@@ -41,5 +25,4 @@ module _ (limits : LimitsData) (ranges : AreInRange limits) (details : Details) 
       (judged_fits limits known s r fits))
 
 pub trace_json_law : TraceJsonLaw
-trace_json_law settings details records ranges places =
-    grind (arith, common_steps, lines_json)
+trace_json_law settings details records ranges places = grind (arith, common_steps, lines_json)

@@ -1,44 +1,20 @@
 -- The line of `trace` for a record, and that of `replay` for a document.
-use Rattle.std.proofs.Common.{◌≡◌, ℕ, ℤ, ◌^◌, ◌<◌, Bool, true, false, List, [], ◌∷◌, ◌++◌, map, Option, Some, None, refl, sym, ap, ◌∙◌, subst, arith, append_assoc, decimal, FitsSigned, IsUtf8}
-use Rattle.std.specs.Prelude.{◌&&◌, codes, flat_map, if◌then◌else◌, option_and_then, option_map}
-use Rattle.std.specs.Fmt.{signed_decimal}
+use Rattle.lsp_replay.proofs.Prelude.{◌≡◌, ℕ, ℤ, ◌^◌, ◌<◌, Bool, true, false, List, [], ◌∷◌, ◌++◌, map, Option, Some, None, refl, sym, ap, ◌∙◌, subst, arith, append_assoc, decimal, FitsSigned, IsUtf8, ◌&&◌, codes, flat_map, if◌then◌else◌, option_and_then, option_map, signed_decimal, and_parts, IsUtf8-append, IsUtf8-nil, IsUtf8-are_ascii, Json, document, ItemsHaveNumbers, items_depth, Data, compact_text, items_outline, items_text, outline, LimitsData, AreInRange, IdData, whole, text, reading, DocumentItem, IsProperDocument, IsProperId, AnswerData, Sent, IncomingData, incoming_of, Record, Details, Note, Known, is_renamed, known_after, last_in, uri_of, note_words, notes_of, notes_words, reason_words, renamed_words, Session, Judged, Verdict, answered, recorded, bad, has_changed, is_refused, judge, IsJsonLine, body_value, document_value, id_value, integer, members_with, natural, notes_value, reason_value, text_value, trace_value, common_steps}
 use Rattle.std.specs.Int.{w32, w64}
-use Rattle.std.proofs.lemmas.Bool.{and_parts}
-use Rattle.std.proofs.lemmas.Str.{IsUtf8-append, IsUtf8-nil}
-use Rattle.json.proofs.Printed.Utf8.{IsUtf8-are_ascii}
-use Rattle.json.specs.Json as json
-use Rattle.json.specs.Json.{Json, document}
 use Rattle.json.specs.Print.{escape_byte, quoted}
-use Rattle.json.specs.Tree.{ItemsHaveNumbers, items_depth}
-use Rattle.json.specs.Value as values
-use Rattle.serde_json.specs.Data as tree
-use Rattle.serde_json.specs.Data.{Data}
-use Rattle.serde_json.specs.View as view
-use Rattle.serde_json.specs.Written.{compact_text, items_outline, items_text, outline}
-use Rattle.lsp_frame.specs.Limits.{LimitsData, AreInRange}
-use Rattle.lsp_message.specs.Message.{IdData, whole, text, reading}
-use Rattle.lsp_message.specs.Params.{DocumentItem}
-use Rattle.lsp_message.specs.laws.Sent.{IsProperDocument, IsProperId}
-use Rattle.lsp_server.specs.Answer.{AnswerData, Sent}
-use Rattle.lsp_server.specs.Incoming.{IncomingData, incoming_of}
-use Rattle.lsp_log.specs.Log.{Record}
-use Rattle.lsp_replay.specs.declared.commands.traced.Details.{Details}
-use Rattle.lsp_replay.specs.declared.notes.Note.{Note}
 use Rattle.lsp_replay.specs.Commands.{canonical_of_record, change_in, document_line, verdict_word}
-use Rattle.lsp_replay.specs.Lines.{Known, is_renamed, known_after, last_in, uri_of}
-use Rattle.lsp_replay.specs.Notes.{note_words, notes_of, notes_words}
-use Rattle.lsp_replay.specs.Reasons.{reason_words, renamed_words}
-use Rattle.lsp_replay.specs.Session.{Session, Judged, Verdict, answered, recorded, bad, has_changed, is_refused, judge}
 use Rattle.lsp_replay.specs.Trace.{body_json, document_after, id_json, id_of, is_json, json_string, last_members, member, method_of, notes_json, reason_json, side_word, text_json, trace_line, version_json, within}
-use Rattle.lsp_replay.specs.laws.JsonLines.{IsJsonLine, body_value, document_value, id_value, integer, members_with, natural, notes_value, reason_value, text_value, trace_value}
-use Rattle.lsp_replay.proofs.JsonLines.FitLemmas as fit
 use Rattle.lsp_replay.proofs.JsonLines.FitLemmas.{IsBody, IsFit, canonical_json, document_fits, id_fits, judged_fits, last_fits, method_utf8, text_utf8, uri_utf8}
 use Rattle.lsp_replay.proofs.JsonLines.PlainLemmas.{escape_plain, utf8_plain}
 use Rattle.lsp_replay.proofs.JsonLines.ReasonPlainLemmas.{plain_note, plain_reason_with, plain_side, plain_verdict}
 use Rattle.lsp_replay.proofs.JsonLines.StringLemmas.{are_visible}
 use Rattle.lsp_replay.proofs.JsonLines.ValueLemmas.{AreRead, IsValue, IsValueIf, a_body, a_compact, a_member, a_member_if, a_natural, a_plain, a_quoted, a_string, a_text, an_integer, an_object, last_read, no_more}
 use Rattle.lsp_replay.proofs.Records.ReadLemmas.{OnSome}
-use Rattle.std.proofs.lemmas.Grind.{common_steps}
+use Rattle.json.specs.Json as json
+use Rattle.json.specs.Value as values
+use Rattle.serde_json.specs.Data as tree
+use Rattle.serde_json.specs.View as view
+use Rattle.lsp_replay.proofs.JsonLines.FitLemmas as fit
 
 -- ---- values that are there or not
 
@@ -92,12 +68,10 @@ reason_if limits m renamed bad = tt
 abbrev note_data : Note → Data
 note_data note = tree.string (note_words note)
 
-notes_from : (notes : List Note)
-    → flat_map (λ note. codes "\",\"" ++ note_words note) notes ++ codes "\"]"
+notes_from : (notes : List Note) → flat_map (λ note. codes "\",\"" ++ note_words note) notes ++ codes "\"]"
     ≡ 34 ∷ items_text true (view.items_of (map note_data notes))
 notes_from [] = refl
-notes_from (note ∷ notes) =
-    grind (arith, common_steps, append_assoc, escape_plain, plain_note, (notes_from notes))
+notes_from (note ∷ notes) = grind (arith, common_steps, append_assoc, escape_plain, plain_note, (notes_from notes))
 
 notes_text : (note : Note) (notes : List Note)
     → codes "[\"" ++ notes_words (codes "\",\"") (note ∷ notes) ++ codes "\"]"
@@ -154,11 +128,9 @@ notes_if (note ∷ notes) =
 body_if : (is_asked : Bool) (body : List ℕ) → (is_asked ≡ true → IsBody body)
     → IsValueIf (body_json is_asked body) (body_value is_asked body)
 body_if false body is = tt
-body_if true body is =
-    grind (arith, common_steps, a_body)
+body_if true body is = grind (arith, common_steps, a_body)
 
-canonical_if : (o : Option (List ℕ))
-    → ((body : List ℕ) → o ≡ Some body → IsBody body × (are_visible body ≡ true))
+canonical_if : (o : Option (List ℕ)) → ((body : List ℕ) → o ≡ Some body → IsBody body × (are_visible body ≡ true))
     → IsValueIf o (option_and_then document o)
 canonical_if None is = tt
 canonical_if (Some body) is =
@@ -194,10 +166,7 @@ module _ (limits : LimitsData) (ranges : AreInRange limits) (details : Details) 
       ∷ (codes ",\"last\":", option_map decimal (last_in known uri j.verdict))
       ∷ (codes ",\"notes\":", notes_json (notes_of s known.ranged r.body j.verdict))
       ∷ (codes ",\"version\":", version_json (document_after j.session.server.table uri))
-      ∷ (
-        codes ",\"canonical\":",
-        within s.server.config.limits.max_body (canonical_of_record s r.body j.verdict),
-      )
+      ∷ (codes ",\"canonical\":", within s.server.config.limits.max_body (canonical_of_record s r.body j.verdict))
       ∷ (
         codes ",\"text\":",
         text_json (details.texts && has_changed j.verdict) (document_after j.session.server.table uri),
@@ -218,10 +187,7 @@ module _ (limits : LimitsData) (ranges : AreInRange limits) (details : Details) 
         option_and_then document
             (within s.server.config.limits.max_body (canonical_of_record s r.body j.verdict)),
       )
-      ∷ (
-        codes "text",
-        text_value (details.texts && has_changed j.verdict) (document_after j.session.server.table uri),
-      )
+      ∷ (codes "text", text_value (details.texts && has_changed j.verdict) (document_after j.session.server.table uri))
       ∷ (codes "body", body_value (details.bodies && is_json m) r.body) ∷ []
 
   are_read : AreRead last_texts last_values
@@ -288,8 +254,7 @@ module _ (limits : LimitsData) (ranges : AreInRange limits) (details : Details) 
 
 -- ---- the line of `replay`
 
-document_regroup : (a l b t c u d v e f : List ℕ)
-    → (a ++ l ++ b ++ t ++ c ++ u ++ d ++ v ++ e) ++ f
+document_regroup : (a l b t c u d v e f : List ℕ) → (a ++ l ++ b ++ t ++ c ++ u ++ d ++ v ++ e) ++ f
     ≡ a ++ (l ++ (b ++ (t ++ (c ++ (u ++ (d ++ (v ++ (e ++ f))))))))
 document_regroup a l b t c u d v e f = simp append_assoc
 

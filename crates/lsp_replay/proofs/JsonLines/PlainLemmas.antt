@@ -1,20 +1,11 @@
 -- Texts that need no escape in a JSON string, and texts without line breaks.
-use Rattle.std.proofs.Common.{◌≡◌, inl, inr, ℕ, ℤ, pos, negsuc, zero, suc, ◌+◌, ◌/◌, ◌%◌, ◌<◌, ◌≤◌, Bool, true, false, cond, ◌&&◌, ◌||◌, ◌==◌, List, [], ◌∷◌, ◌++◌, decimal, refl, sym, ap, ◌∙◌, arith, IsUtf8}
-use Rattle.std.specs.Prelude.{if◌then◌else◌, nat_le, nat_lt}
-use Rattle.std.specs.Char.{digit_char}
+use Rattle.lsp_replay.proofs.Prelude.{◌≡◌, inl, inr, ℕ, ℤ, pos, negsuc, zero, suc, ◌+◌, ◌/◌, ◌%◌, ◌<◌, ◌≤◌, Bool, true, false, cond, ◌&&◌, ◌||◌, ◌==◌, List, [], ◌∷◌, ◌++◌, decimal, refl, sym, ap, ◌∙◌, arith, IsUtf8, if◌then◌else◌, nat_le, nat_lt, digit_char, list_all, and_from, and_parts, cases_Bool, eqb-false, eqb-true, le-leb, le-ltb, lt-ltb, ltb-false, ltb-true, ne_eqb, or_cases, list_all-append, are_ascii, IsUtf8-are_ascii, escape_byte_plain, comma_if, compact_text, items_text, members_text, number_text, common_steps}
 use Rattle.std.specs.Fmt.{digit_glyph, digits, digits_onto, signed_decimal}
-use Rattle.std.specs.List.{list_all}
 use Rattle.std.proofs.Math.Nat.{mod-lt}
-use Rattle.std.proofs.lemmas.Bool.{and_from, and_parts, cases_Bool, eqb-false, eqb-true, le-leb, le-ltb, lt-ltb, ltb-false, ltb-true, ne_eqb, or_cases}
-use Rattle.std.proofs.lemmas.List.Folds.{list_all-append}
 use Rattle.json.specs.Run.{is_plain}
 use Rattle.json.specs.Print.{escape, escape_byte, quoted}
-use Rattle.json.proofs.Printed.Utf8.{are_ascii, IsUtf8-are_ascii}
-use Rattle.json.proofs.Printed.Strings.{escape_byte_plain}
 use Rattle.serde_json.specs.Data.{Num, unsigned, negative, float, Data, null, boolean, number, string, array, object, Items, no_items, item, Members, no_members, member}
-use Rattle.serde_json.specs.Written.{comma_if, compact_text, items_text, members_text, number_text}
 use Rattle.lsp_replay.proofs.JsonLines.StringLemmas.{are_visible}
-use Rattle.std.proofs.lemmas.Grind.{common_steps}
 
 -- ---- texts that need no escape
 
@@ -27,8 +18,7 @@ abbrev pub IsPlain : List ℕ → Type 0
 IsPlain s = list_all is_ascii_plain s ≡ true
 
 pub plain-append : (xs ys : List ℕ) → IsPlain xs → IsPlain ys → IsPlain (xs ++ ys)
-plain-append xs ys h k =
-    grind (arith, common_steps, list_all-append, and_from)
+plain-append xs ys h k = grind (arith, common_steps, list_all-append, and_from)
 
 record IsPlainByte (x : ℕ) : Type 0 where
   quote : x ≡ 34 → ⊥
@@ -36,8 +26,7 @@ record IsPlainByte (x : ℕ) : Type 0 where
   high : 32 ≤ x
 
 plain_byte : (x : ℕ) → is_ascii_plain x ≡ true → IsPlainByte x
-plain_byte x both =
-    grind (arith, common_steps, and_parts, eqb-false, ltb-false)
+plain_byte x both = grind (arith, common_steps, and_parts, eqb-false, ltb-false)
 
 pub escape_plain : (s : List ℕ) → IsPlain s → escape s ≡ s
 escape_plain [] h = refl
@@ -128,17 +117,7 @@ digit_high d = grind (arith, common_steps, cases_Bool, inl, inr)
 visible_byte : (x : ℕ) → are_visible (escape_byte x) ≡ true
 unfolding escape_byte
 visible_byte x =
-    grind (
-      arith,
-      common_steps,
-      either_visible,
-      one_visible,
-      letter_high,
-      special_high,
-      ltb-true,
-      digit_high,
-      ltb-false,
-    )
+    grind (arith, common_steps, either_visible, one_visible, letter_high, special_high, ltb-true, digit_high, ltb-false)
 
 visible_escape : (s : List ℕ) → are_visible (escape s) ≡ true
 visible_escape [] = refl

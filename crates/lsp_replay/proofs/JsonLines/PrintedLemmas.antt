@@ -1,11 +1,9 @@
 -- The lexemes and the tokens of JSON that was printed, with more text after it.
-use Rattle.std.proofs.Common.{◌≡◌, ℕ, Bool, true, false, cond, ◌&&◌, List, [], ◌∷◌, ◌++◌, refl, sym, ap, ap₂, ◌∙◌, append_assoc}
-use Rattle.std.specs.Prelude.{fold}
+use Rattle.lsp_replay.proofs.Prelude.{◌≡◌, ℕ, Bool, true, false, cond, ◌&&◌, List, [], ◌∷◌, ◌++◌, refl, sym, ap, ap₂, ◌∙◌, append_assoc, fold, content-escape, lex-escape}
 use Rattle.json.specs.Token.{Token, begin_object, end_object, begin_array, end_array, key, string, number, boolean, null, bad}
 use Rattle.json.specs.Word.{ends_word, word}
 use Rattle.json.specs.Lex.{Lexeme, token, comma, colon, string_token, lex, between, Place, fresh, after_value, begins_colon, punctuate}
 use Rattle.json.specs.Print.{escape, quoted, token_text, begins, ends, print_from, IsPrintable, ArePrintable}
-use Rattle.json.proofs.Printed.Strings.{content-escape, lex-escape}
 use Rattle.json.proofs.Printed.Numbers.{lex-number, in_word-ended}
 
 -- the lexemes of a token
@@ -116,8 +114,7 @@ no_colon (null ∷ ts) ls h = refl
 no_colon (bad ∷ ts) ls h = refl
 
 -- the tokens of the lexemes of tokens, before other lexemes
-pub punctuate-printed : (after : Bool) (ts : List Token) (ls : List Lexeme) → ArePrintable ts
-    → begins_colon ls ≡ false
+pub punctuate-printed : (after : Bool) (ts : List Token) (ls : List Lexeme) → ArePrintable ts → begins_colon ls ≡ false
     → punctuate (place after) (lexemes after ts ++ ls) ≡ ts ++ punctuate (place (ended after ts)) ls
 unfolding punctuate ArePrintable
 punctuate-printed after [] ls h c = refl

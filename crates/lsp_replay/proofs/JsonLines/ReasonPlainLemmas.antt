@@ -1,34 +1,13 @@
 -- The words of a line need no escape in a JSON string.
-use Rattle.std.proofs.Common.{ℕ, Bool, true, false, ◌==◌, List, [], ◌++◌, Option, Some, None, refl}
-use Rattle.std.specs.Prelude.{codes, if◌then◌else◌}
-use Rattle.std.proofs.lemmas.List.Folds.{list_all-append}
-use Rattle.lsp_frame.specs.Limits.{LimitsData}
-use Rattle.lsp_text.specs.declared.position.Position.{Position}
-use Rattle.lsp_text.specs.declared.position.Range.{Range}
-use Rattle.lsp_edit.specs.declared.fault.EditFault.{EditFault}
+use Rattle.lsp_replay.proofs.Prelude.{ℕ, Bool, true, false, ◌==◌, List, [], ◌++◌, Option, Some, None, refl, codes, if◌then◌else◌, list_all-append, LimitsData, Position, Range, EditFault, ErrorCode, ParseError, InvalidRequest, MethodNotFound, InvalidParams, ServerNotInitialized, ChangeData, fault_code, StoreFault, AnswerData, reply, changed, dropped, ignored, refused, exits, already_ended, Sent, one_more, Sender, Client, Server, Note, code_word, verdict_word, change_words, note_words, past_words, side_words, edit_reason, end_words, error_reason, idle_words, is_idle, position_words, range_sent, reason_words, renamed_words, store_reason, version_words, Verdict, answered, recorded, bad, side_word}
 use Rattle.lsp_edit.specs.declared.fault.EditFault.TheVariants.{InsideCharacter, ReversedRange, NoMemory as NoMemoryToEdit}
 use Rattle.lsp_edit.specs.declared.fault.Side.{Side}
 use Rattle.lsp_edit.specs.declared.fault.Side.TheVariants.{Start, Stop}
-use Rattle.lsp_message.specs.declared.outgoing.ErrorCode.{ErrorCode}
-use Rattle.lsp_message.specs.declared.outgoing.ErrorCode.TheVariants.{ParseError, InvalidRequest, MethodNotFound, InvalidParams, ServerNotInitialized}
-use Rattle.lsp_message.specs.Params.{ChangeData}
-use Rattle.lsp_store.specs.Faults.{fault_code}
-use Rattle.lsp_store.specs.declared.fault.StoreFault.{StoreFault}
 use Rattle.lsp_store.specs.declared.fault.StoreFault.TheVariants.{AlreadyOpen, TooManyDocuments, TextTooLong, NotOpen, StaleVersion, TooManyChanges, Edit, BodyTooLong, NoMemory}
-use Rattle.lsp_server.specs.Answer.{AnswerData, reply, changed, dropped, ignored, refused, exits, already_ended, Sent}
 use Rattle.lsp_server.specs.Codes.{server_refusal_code}
 use Rattle.lsp_server.specs.declared.answer.Refusal.{Refusal}
 use Rattle.lsp_server.specs.declared.answer.Refusal.TheVariants.{InvalidParams as BadParams, Store}
-use Rattle.lsp_stream.specs.Ports.{one_more}
-use Rattle.lsp_log.specs.declared.record.Sender.{Sender}
-use Rattle.lsp_log.specs.declared.record.Sender.TheVariants.{Client, Server}
-use Rattle.lsp_replay.specs.declared.notes.Note.{Note}
 use Rattle.lsp_replay.specs.declared.notes.Note.TheVariants.{OpenAlready, LoneReturn, OldVersion, NoChanges, WholeText, PastEnd, WrongLength, SameText, OtherSaved}
-use Rattle.lsp_replay.specs.Commands.{code_word, verdict_word}
-use Rattle.lsp_replay.specs.Notes.{change_words, note_words, past_words, side_words}
-use Rattle.lsp_replay.specs.Reasons.{edit_reason, end_words, error_reason, idle_words, is_idle, position_words, range_sent, reason_words, renamed_words, store_reason, version_words}
-use Rattle.lsp_replay.specs.Session.{Verdict, answered, recorded, bad}
-use Rattle.lsp_replay.specs.Trace.{side_word}
 use Rattle.lsp_replay.proofs.JsonLines.PlainLemmas.{IsPlain, is_ascii_plain, plain-append, plain_decimal, plain_signed}
 
 -- ---- the word of an answer

@@ -1,12 +1,7 @@
 -- A JSON string up to its closing quotation mark, whatever comes after it. No line break is in it.
-use Rattle.std.proofs.Common.{◌≡◌, ◌⊎◌, inl, inr, ℕ, ◌<◌, ◌≤◌, Bool, true, false, cond, ◌&&◌, ◌==◌, List, [], ◌∷◌, ◌++◌, Option, Some, None, option_and_then, refl, sym, ap, ◌∙◌, subst, arith}
-use Rattle.std.specs.Prelude.{if◌then◌else◌, nat_le}
-use Rattle.std.specs.Char.{is_digit, encode_utf8}
-use Rattle.std.proofs.lemmas.Bool.{and_parts, cases_Bool, cases_eq, cases_lt, eqb-true, leb-true, le-ltb, lt-ltb, ne_eqb}
+use Rattle.lsp_replay.proofs.Prelude.{◌≡◌, ◌⊎◌, inl, inr, ℕ, ◌<◌, ◌≤◌, Bool, true, false, cond, ◌&&◌, ◌==◌, List, [], ◌∷◌, ◌++◌, Option, Some, None, option_and_then, refl, sym, ap, ◌∙◌, subst, arith, if◌then◌else◌, nat_le, is_digit, encode_utf8, and_parts, cases_Bool, cases_eq, cases_lt, eqb-true, leb-true, le-ltb, lt-ltb, ne_eqb, is_operator, is_space, common_steps}
 use Rattle.json.specs.Text.{Within, plain, after_backslash, after_u, after_high, content, prepend, code_unit, short_escape, is_high_surrogate, is_low_surrogate, surrogate_pair}
-use Rattle.json.specs.Word.{is_operator, is_space}
 use Rattle.json.specs.Lex.{Class, quote, backslash, operator, space, other, class, Lexeme, Mode, between, in_string, in_escape, lex, lex_byte}
-use Rattle.std.proofs.lemmas.Grind.{common_steps}
 
 -- a text without the bytes that a test names
 abbrev pub without : (ℕ → Bool) → List ℕ → List ℕ
@@ -112,8 +107,7 @@ lex-hex : (x : ℕ) (r : List ℕ) → IsHex x → lex in_string (x ∷ r) ≡ l
 lex-hex x r h = lex-inside x r (λ e. let small = h.0 in omega arith) h.1
 
 lex-unit : (a b c d : ℕ) (r : List ℕ) → AreHex a b c d → lex in_string (a ∷ b ∷ c ∷ d ∷ r) ≡ lex in_string r
-lex-unit a b c d r h =
-    grind (arith, common_steps, lex-hex)
+lex-unit a b c d r h = grind (arith, common_steps, lex-hex)
 
 -- ---- one step of the reading
 
@@ -133,8 +127,7 @@ step_other x r n = rw (ne_eqb x 117 n)
 
 step_escaped : (x c : ℕ) (r : List ℕ) → (x ≡ 117 → ⊥) → short_escape x ≡ Some c
     → content after_backslash (x ∷ r) ≡ prepend (c ∷ []) (content plain r)
-step_escaped x c r n e =
-    step_other x r n ∙ ap (option_and_then (λ (y : ℕ). prepend (y ∷ []) (content plain r))) e
+step_escaped x c r n e = step_other x r n ∙ ap (option_and_then (λ (y : ℕ). prepend (y ∷ []) (content plain r))) e
 
 -- what a unit is, before more text
 abbrev unit_content : List ℕ → ℕ → Option (List ℕ)
@@ -152,21 +145,17 @@ unit_high r u high = ap (λ b. cond b (content (after_high u) r)
 
 unit_low : (r : List ℕ) (u : ℕ) (low : Bool) → is_high_surrogate u ≡ false → is_low_surrogate u ≡ low
     → unit_content r u ≡ cond low None (prepend (encode_utf8 u) (content plain r))
-unit_low r u low not_high is =
-    grind (arith, common_steps)
+unit_low r u low not_high is = grind (arith, common_steps)
 
 -- what the second unit of a pair is, before more text
 abbrev pair_content : ℕ → List ℕ → ℕ → Option (List ℕ)
-pair_content high r l =
-    cond (is_low_surrogate l) (prepend (encode_utf8 (surrogate_pair high l)) (content plain r)) None
+pair_content high r l = cond (is_low_surrogate l) (prepend (encode_utf8 (surrogate_pair high l)) (content plain r)) None
 
 step_pair : (high x u a b c d l : ℕ) (r : List ℕ) → ((x == 92) && (u == 117)) ≡ true → code_unit a b c d ≡ Some l
-    → is_low_surrogate l ≡ true
-    → content (after_high high) (x ∷ u ∷ a ∷ b ∷ c ∷ d ∷ r)
+    → is_low_surrogate l ≡ true → content (after_high high) (x ∷ u ∷ a ∷ b ∷ c ∷ d ∷ r)
     ≡ prepend (encode_utf8 (surrogate_pair high l)) (content plain r)
 unfolding content
-step_pair high x u a b c d l r test e low =
-    grind (arith, common_steps, option_and_then)
+step_pair high x u a b c d l r test e low = grind (arith, common_steps, option_and_then)
 
 -- ---- the string
 
@@ -183,8 +172,7 @@ module _ (drops : ℕ → Bool) (kept : (x : ℕ) → 32 ≤ x → drops x ≡ f
 
   stays_unit : (a b c d : ℕ) (xs ys : List ℕ) → AreHex a b c d → without drops xs ≡ ys
       → without drops (a ∷ b ∷ c ∷ d ∷ xs) ≡ a ∷ b ∷ c ∷ d ∷ ys
-  stays_unit a b c d xs ys h e =
-      grind (arith, common_steps, stays_byte)
+  stays_unit a b c d xs ys h e = grind (arith, common_steps, stays_byte)
 
   stays_pair : (x u a b c d : ℕ) (xs ys : List ℕ) → 32 ≤ x → 32 ≤ u → AreHex a b c d → without drops xs ≡ ys
       → without drops (x ∷ u ∷ a ∷ b ∷ c ∷ d ∷ xs) ≡ x ∷ u ∷ a ∷ b ∷ c ∷ d ∷ ys
@@ -218,8 +206,7 @@ module _ (drops : ℕ → Bool) (kept : (x : ℕ) → 32 ≤ x → drops x ≡ f
             reads = λ r. subst (λ y. content plain (y ∷ (k.inside ++ 34 ∷ r)) ≡ Some s) (sym e) (k.reads r);
             lexes = λ r. subst (λ y. lex in_string (y ∷ (k.inside ++ 34 ∷ r)) ≡ lex between r) (sym e) (k.lexes r);
           }
-      by (inr q) (inr b) (inl l) =
-          absurd (let no : None ≡ Some s = sym (no_step x xs q b l) ∙ h in cc)
+      by (inr q) (inr b) (inl l) = absurd (let no : None ≡ Some s = sym (no_step x xs q b l) ∙ h in cc)
       by (inr q) (inr b) (inr l) =
           let parts = prepended (x ∷ []) (content plain xs) s (sym (step_plain x xs q b l) ∙ h) in
           let k = next parts.0 parts.1 in
@@ -271,11 +258,9 @@ module _ (drops : ℕ → Bool) (kept : (x : ℕ) → 32 ≤ x → drops x ≡ f
       by found.0 found.1 (unit_hex a b c d found.0 found.1) found.2 (cases_Bool (is_high_surrogate found.0))
       (cases_Bool (is_low_surrogate found.0))
     where
-      by : (u : ℕ) → code_unit a b c d ≡ Some u → AreHex a b c d
-          → unit_content xs u ≡ Some s
+      by : (u : ℕ) → code_unit a b c d ≡ Some u → AreHex a b c d → unit_content xs u ≡ Some s
           → (is_high_surrogate u ≡ true) ⊎ (is_high_surrogate u ≡ false)
-          → (is_low_surrogate u ≡ true) ⊎ (is_low_surrogate u ≡ false)
-          → Closed drops after_u (a ∷ b ∷ c ∷ d ∷ xs) s
+          → (is_low_surrogate u ≡ true) ⊎ (is_low_surrogate u ≡ false) → Closed drops after_u (a ∷ b ∷ c ∷ d ∷ xs) s
       by u e digits is (inl high) low =
           let k = pair u s (sym (unit_high xs u high) ∙ is) in
           record {
@@ -290,8 +275,7 @@ module _ (drops : ℕ → Bool) (kept : (x : ℕ) → 32 ≤ x → drops x ≡ f
       by u e digits is (inr high) (inl low) =
           absurd (let no : None ≡ Some s = sym (unit_low xs u true high low) ∙ is in cc)
       by u e digits is (inr high) (inr low) =
-          let parts = prepended (encode_utf8 u) (content plain xs) s
-          (sym (unit_low xs u false high low) ∙ is) in
+          let parts = prepended (encode_utf8 u) (content plain xs) s (sym (unit_low xs u false high low) ∙ is) in
           let k = next parts.0 parts.1 in
           record {
             inside = a ∷ b ∷ c ∷ d ∷ k.inside;
@@ -304,8 +288,7 @@ module _ (drops : ℕ → Bool) (kept : (x : ℕ) → 32 ≤ x → drops x ≡ f
             lexes = λ r. lex-unit a b c d (k.inside ++ 34 ∷ r) digits ∙ k.lexes r;
           }
 
-  pair : (high x u a b c d : ℕ) (xs : List ℕ) → Closes plain xs
-      → Closes (after_high high) (x ∷ u ∷ a ∷ b ∷ c ∷ d ∷ xs)
+  pair : (high x u a b c d : ℕ) (xs : List ℕ) → Closes plain xs → Closes (after_high high) (x ∷ u ∷ a ∷ b ∷ c ∷ d ∷ xs)
   unfolding content lex
   pair high x u a b c d xs next s h =
       let test = if_some ((x == 92) && (u == 117)) _ s h in
@@ -342,8 +325,7 @@ module _ (drops : ℕ → Bool) (kept : (x : ℕ) → 32 ≤ x → drops x ≡ f
   closed after_u (a ∷ []) s h = absurd (let no : None ≡ Some s = h in cc)
   closed after_u (a ∷ b ∷ []) s h = absurd (let no : None ≡ Some s = h in cc)
   closed after_u (a ∷ b ∷ c ∷ []) s h = absurd (let no : None ≡ Some s = h in cc)
-  closed after_u (a ∷ b ∷ c ∷ d ∷ xs) s h =
-      unit a b c d xs (λ high. closed (after_high high) xs) (closed plain xs) s h
+  closed after_u (a ∷ b ∷ c ∷ d ∷ xs) s h = unit a b c d xs (λ high. closed (after_high high) xs) (closed plain xs) s h
   closed (after_high v) [] s h = absurd (let no : None ≡ Some s = h in cc)
   closed (after_high v) (x ∷ []) s h = absurd (let no : None ≡ Some s = h in cc)
   closed (after_high v) (x ∷ u ∷ []) s h = absurd (let no : None ≡ Some s = h in cc)

@@ -1,35 +1,19 @@
 -- Values and members of an object, as they are written one after another.
-use Rattle.std.proofs.Common.{◌≡◌, ◌⊎◌, inl, inr, ℕ, suc, ℤ, ◌^◌, ◌<◌, ◌≤◌, FitsSigned, Bool, true, false, ◌||◌, ◌==◌, List, [], ◌∷◌, ◌++◌, Option, Some, None, option_and_then, refl, sym, ap, ap₂, ◌∙◌, subst, arith, append_assoc, append-nil, decimal, IsUtf8, length, get_or}
-use Rattle.std.specs.Fmt.{signed_decimal}
-use Rattle.std.specs.Int.{w64}
-use Rattle.std.specs.Prelude.{⊤, codes, if◌then◌else◌}
-use Rattle.std.proofs.lemmas.Bool.{and_parts, cases_Bool, cases_lt, eqb-true, or_cases}
-use Rattle.std.proofs.lemmas.Str.{IsUtf8-append, IsUtf8-encode, IsUtf8-nil, encode_ascii, inside_one}
+use Rattle.lsp_replay.proofs.Prelude.{◌≡◌, ◌⊎◌, inl, inr, ℕ, suc, ℤ, ◌^◌, ◌<◌, ◌≤◌, FitsSigned, Bool, true, false, ◌||◌, ◌==◌, List, [], ◌∷◌, ◌++◌, Option, Some, None, option_and_then, refl, sym, ap, ap₂, ◌∙◌, subst, arith, append_assoc, append-nil, decimal, IsUtf8, length, get_or, signed_decimal, w64, ⊤, codes, if◌then◌else◌, and_parts, cases_Bool, cases_lt, eqb-true, or_cases, IsUtf8-append, IsUtf8-encode, IsUtf8-nil, encode_ascii, inside_one, Token, ends_word, depth, members_depth, json_tokens, items_tokens, members_tokens, HasNumbers, IsUtf8-are_ascii, IsUtf8-quoted, are_ascii, Data, number, unsigned, negative, string, max_depth, of_json, read, compact_text, outline, print-outline, IsJsonLine, member_if, members_with, last_members, member, one_line, common_steps}
 use lib.Utf8.{encode, encodes, scalar, scalars}
-use Rattle.json.specs.Token.{Token}
-use Rattle.json.specs.Json as json
 use Rattle.json.specs.Json.{Json, Items, Members, document, if_last, value}
-use Rattle.json.specs.Word.{ends_word}
 use Rattle.json.specs.Lex.{token, comma, colon, lex, between, fresh, after_value, begins_colon, punctuate, tokens}
 use Rattle.json.specs.Print.{ends, print, quoted, ArePrintable}
-use Rattle.json.specs.Tree.{depth, members_depth, json_tokens, items_tokens, members_tokens, HasNumbers}
 use Rattle.json.proofs.Nesting.{value-depth}
 use Rattle.json.proofs.Numbered.{ArePrintableOrBad-tokens, value-HasNumbers}
 use Rattle.json.proofs.Printed.Decimals.{IsNumber-decimal, IsNumber-signed_decimal}
-use Rattle.json.proofs.Printed.Utf8.{IsUtf8-are_ascii, IsUtf8-quoted, are_ascii}
 use Rattle.json.proofs.Printed.Trees.{ArePrintable-json_tokens, value-json_tokens}
 use Rattle.json.proofs.Unique.Spelling.{value-json_tokens_back}
-use Rattle.serde_json.specs.Data.{Data, number, unsigned, negative, string}
-use Rattle.serde_json.specs.Read.{max_depth, of_json, read}
-use Rattle.serde_json.specs.Written.{compact_text, outline}
-use Rattle.serde_json.proofs.Texts.{print-outline}
-use Rattle.lsp_replay.specs.laws.JsonLines.{IsJsonLine, member_if, members_with}
-use Rattle.lsp_replay.specs.Trace.{last_members, member, one_line}
 use Rattle.lsp_replay.proofs.JsonLines.PrintedLemmas.{ended, lex-printed, lex-quoted, place, punctuate-printed}
 use Rattle.lsp_replay.proofs.JsonLines.StringLemmas.{are_visible, stays_text, then_some, without}
 use Rattle.lsp_replay.proofs.JsonLines.PlainLemmas.{IsPlain, one_visible, quoted_plain, visible-append, visible_compact, visible_quoted, plain_decimal, plain_signed, utf8_plain}
 use Rattle.lsp_replay.proofs.JsonLines.WithinLemmas.{kept, punctuate-then, same_lexemes}
-use Rattle.std.proofs.lemmas.Grind.{common_steps}
+use Rattle.json.specs.Json as json
 
 -- ---- the last token of a value
 
@@ -246,12 +230,7 @@ an_integer z h = a_compact (number (negative z)) (IsNumber-signed_decimal z h.sf
 
 -- JSON without line breaks
 pub a_text : (text : List ℕ) (j : Json) → are_visible text ≡ true → IsUtf8 text → IsJson text j → IsValue text j
-a_text text j h u is = record {
-  shallow = is.shallow;
-  utf8 = u;
-  text = within_text text j is;
-  one = unbroken text h;
-}
+a_text text j h u is = record { shallow = is.shallow; utf8 = u; text = within_text text j is; one = unbroken text h }
 
 -- JSON on one line
 pub a_body : (text : List ℕ) (j : Json) → IsUtf8 text → IsJson text j → IsValue (one_line text) j
@@ -272,8 +251,7 @@ abbrev pub EndsLine : List ℕ → Type 0
 EndsLine line = line ≡ one_line line ++ codes "\n"
 
 line_before : (front rest : List ℕ) → one_line front ≡ front → EndsLine rest → EndsLine (front ++ rest)
-line_before front rest e h =
-    grind (arith, common_steps, append_assoc, one_line-append)
+line_before front rest e h = grind (arith, common_steps, append_assoc, one_line-append)
 
 pub record AreMembers (bytes : List ℕ) (ms : Members) : Type 0 where
   pub shallow : members_depth ms ≤ max_depth
@@ -314,11 +292,9 @@ IsFront front name = (front ≡ 44 ∷ (quoted name ++ 58 ∷ [])) × (are_ascii
 
 front_then : (c : ℕ) (front name rest : List ℕ) → front ≡ c ∷ (quoted name ++ 58 ∷ [])
     → front ++ rest ≡ c ∷ (quoted name ++ 58 ∷ rest)
-front_then c front name rest is =
-    ap (λ l. l ++ rest) is ∙ ap (λ l. c ∷ l) (append_assoc (quoted name) (58 ∷ []) rest)
+front_then c front name rest is = ap (λ l. l ++ rest) is ∙ ap (λ l. c ∷ l) (append_assoc (quoted name) (58 ∷ []) rest)
 
-front_visible : (c : ℕ) (front name : List ℕ) → 32 ≤ c → front ≡ c ∷ (quoted name ++ 58 ∷ [])
-    → one_line front ≡ front
+front_visible : (c : ℕ) (front name : List ℕ) → 32 ≤ c → front ≡ c ∷ (quoted name ++ 58 ∷ []) → one_line front ≡ front
 front_visible c front name l is =
     ap one_line is ∙ unbroken (c ∷ (quoted name ++ 58 ∷ [])) (one_visible c (quoted name ++ 58 ∷ []) l
     (name_visible name)) ∙ sym is

@@ -1,16 +1,12 @@
 -- JSON within a longer text: its lexemes and its tokens are there what they are alone, without its line breaks too.
-use Rattle.std.proofs.Common.{◌≡◌, ◌⊎◌, inl, inr, ℕ, zero, suc, ◌+◌, ◌<◌, ◌≤◌, Bool, true, false, cond, ◌||◌, ◌==◌, List, [], ◌∷◌, ◌++◌, length, Option, Some, None, refl, sym, ap, ap₂, ◌∙◌, subst, arith, append_assoc, length-append}
-use Rattle.std.specs.Prelude.{if◌then◌else◌}
-use Rattle.std.proofs.lemmas.Bool.{cases_Bool, eqb-true}
+use Rattle.lsp_replay.proofs.Prelude.{◌≡◌, ◌⊎◌, inl, inr, ℕ, zero, suc, ◌+◌, ◌<◌, ◌≤◌, Bool, true, false, cond, ◌||◌, ◌==◌, List, [], ◌∷◌, ◌++◌, length, Option, Some, None, refl, sym, ap, ap₂, ◌∙◌, subst, arith, append_assoc, length-append, if◌then◌else◌, cases_Bool, eqb-true, content, plain, common_steps}
 use Rattle.json.specs.Token.{Token, begin_object, end_object, begin_array, end_array, key, string, number, boolean, null, bad}
-use Rattle.json.specs.Text.{content, plain}
 use Rattle.json.specs.Word.{after_number, ends_word, is_operator, is_space, word}
 use Rattle.json.specs.Lex.{Class, quote, backslash, operator, space, other, class, Lexeme, token, comma, colon, operator_lexeme, string_token, Mode, between, in_string, lex, lex_byte, Place, fresh, after_value, after_comma, after_key, begins_colon, may_begin, may_close, if_allowed, place_token, punctuate}
 use Rattle.json.specs.Print.{ends, token_text, IsPrintable, ArePrintable}
 use Rattle.lsp_replay.proofs.JsonLines.PrintedLemmas.{ended, lex-token_text, place, token_lexemes}
 use Rattle.lsp_replay.proofs.JsonLines.StringLemmas.{closed, without}
 use Rattle.lsp_replay.proofs.JsonLines.WordLemmas.{is_word, word_is}
-use Rattle.std.proofs.lemmas.Grind.{common_steps}
 
 -- ---- the place after a lexeme
 
@@ -57,8 +53,7 @@ word_placed p (boolean v) b k w h = (allowed (may_begin p) (boolean v) k after_v
 word_placed p null b k w h = (allowed (may_begin p) null k after_value h).1
 word_placed p bad b k w h = absurd (cc)
 
-later : (p : Place) (l : Lexeme) (ls : List Lexeme) → ArePrintable (punctuate p (l ∷ ls))
-    → Goes (λ q. punctuate q ls)
+later : (p : Place) (l : Lexeme) (ls : List Lexeme) → ArePrintable (punctuate p (l ∷ ls)) → Goes (λ q. punctuate q ls)
 unfolding punctuate
 later p (token t) ls h = (placed p t (begins_colon ls) (λ q. punctuate q ls) h).1
 later fresh comma ls h = no_bad h
@@ -105,16 +100,14 @@ quote_by false false false true h = absurd (cc)
 quote_by false false false false h = absurd (cc)
 
 quote_is : (x : ℕ) → class x ≡ quote → 32 ≤ x
-quote_is x e =
-    grind (arith, common_steps, eqb-true, quote_by)
+quote_is x e = grind (arith, common_steps, eqb-true, quote_by)
 
 module _ (drops : ℕ → Bool) (breaks : (x : ℕ) → drops x ≡ true → (x ≡ 10) ⊎ (x ≡ 13)) where
   pub kept : (x : ℕ) → 32 ≤ x → drops x ≡ false
   kept x l = grind (arith, common_steps, cases_Bool, inl, inr)
 
   -- a first byte that ends a word
-  ends_by : (q b o s : Bool) (x : ℕ) (xs : List ℕ) (k : Mode → List Lexeme)
-      → ArePrintable (punctuate after_value
+  ends_by : (q b o s : Bool) (x : ℕ) (xs : List ℕ) (k : Mode → List Lexeme) → ArePrintable (punctuate after_value
       (lex_byte between (cond q quote (cond b backslash (cond o operator (cond s space other)))) x xs k))
       → (o || s) ≡ true
   unfolding punctuate

@@ -1,16 +1,8 @@
 -- A number, `true`, `false` or `null` at the front of a text. No line break is in it.
-use Rattle.std.proofs.Common.{◌≡◌, ◌⊎◌, inl, inr, ℕ, suc, ◌+◌, ◌-◌, ◌≤◌, Bool, true, false, cond, ◌&&◌, ◌||◌, ◌==◌, List, [], ◌∷◌, ◌++◌, length, drop, Option, Some, None, option_and_then, refl, sym, ap, ◌∙◌, subst, arith, append_assoc, length-append, take_at}
-use Rattle.std.specs.Prelude.{if◌then◌else◌, nat_eq, ⊤}
-use Rattle.std.specs.Char.{is_ascii_digit}
-use Rattle.std.specs.List.{prefix_len, starts_with}
-use Rattle.std.proofs.lemmas.Bool.{and_parts, cases_Bool, eqb-true, leb-true, or_cases}
-use Rattle.std.proofs.lemmas.Bool.Decides.{Decides-eqb}
-use Rattle.std.proofs.lemmas.Slice.Eq.{starts_is}
+use Rattle.lsp_replay.proofs.Prelude.{◌≡◌, ◌⊎◌, inl, inr, ℕ, suc, ◌+◌, ◌-◌, ◌≤◌, Bool, true, false, cond, ◌&&◌, ◌||◌, ◌==◌, List, [], ◌∷◌, ◌++◌, length, drop, Option, Some, None, option_and_then, refl, sym, ap, ◌∙◌, subst, arith, append_assoc, length-append, take_at, if◌then◌else◌, nat_eq, ⊤, is_ascii_digit, prefix_len, starts_with, and_parts, cases_Bool, eqb-true, leb-true, or_cases, Decides-eqb, starts_is, IsPrintable, token_text, common_steps}
 use Rattle.json.specs.Token.{Token, begin_object, end_object, begin_array, end_array, key, string, number, boolean, null, bad}
 use Rattle.json.specs.Word.{after_digits, after_exponent, after_fraction, after_minus, after_number, after_sign, after_whole, ends_word, head, literal, number_before, word}
-use Rattle.json.specs.Print.{IsPrintable, token_text}
 use Rattle.lsp_replay.proofs.JsonLines.StringLemmas.{are_visible, stays_text, without}
-use Rattle.std.proofs.lemmas.Grind.{common_steps}
 
 -- a word at the front of a text
 pub record Word (drops : ℕ → Bool) (text : List ℕ) (t : Token) : Type 0 where
@@ -153,8 +145,7 @@ module _ (drops : ℕ → Bool) (kept : (x : ℕ) → 32 ≤ x → drops x ≡ f
   cut : (text : List ℕ) (o : Option (List ℕ)) → Leaves text o → IsPrintable (number_before text o)
       → IsWord text (number_before text o)
   cut text None h p = absurd p
-  cut text (Some rest) h p =
-      grind (arith, common_steps, length-append, take_at, unless_bad)
+  cut text (Some rest) h p = grind (arith, common_steps, length-append, take_at, unless_bad)
 
   named : (text : List ℕ) (t : Token) → is_word t ≡ true → are_visible (token_text t) ≡ true
       → IsPrintable (literal (token_text t) t text) → IsWord text (literal (token_text t) t text)

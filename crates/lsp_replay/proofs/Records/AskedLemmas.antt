@@ -1,27 +1,9 @@
 -- What a body asks is as the types hold it: its texts are UTF-8, and its numbers fit.
-use Rattle.std.proofs.Common.{◌≡◌, ℕ, ℤ, pos, negsuc, ◌<◌, ◌^◌, Bool, true, false, ◌||◌, List, [], ◌∷◌, map, Option, Some, None, option_map, option_and_then, FitsSigned, IsUtf8, bytes_eq, codes, refl, arith}
-use Rattle.std.specs.Prelude.{⊤, if◌then◌else◌, nat_lt, int_lt}
+use Rattle.lsp_replay.proofs.Prelude.{◌≡◌, ℕ, ℤ, pos, negsuc, ◌<◌, ◌^◌, Bool, true, false, ◌||◌, List, [], ◌∷◌, map, Option, Some, None, option_map, option_and_then, FitsSigned, IsUtf8, bytes_eq, codes, refl, arith, ⊤, if◌then◌else◌, nat_lt, int_lt, option_map_or, match_ordering, is_utf8, Ordering, Less, Equal, Greater, cond_both, ltb-true, nat_tests, IsUtf8-from_is_utf8, scalars-chars, get_member, get, as_object, as_str, as_array, as_i64, read, member_at, text_in, array_in, each_of, whole_in, IdData, whole, text, OutcomeData, Reading, MessageData, id_in, json_of, message_of, reading, DocumentItem, ContentChangeData, ChangeData, open_of, open_by, change_of, change_by, document_in, document_and_changes, content_change_in, version_in, version_from, IsProperId, IncomingData, not_json, not_a_message, response, initialize, shutdown, other_request, exit, did_open, did_change, did_close, other_notification, incoming_by, incoming_of, content_change_from_data, AreTexts, common_steps}
 use Rattle.std.specs.Int.{w32}
-use Rattle.std.specs.Option.{option_map_or}
-use Rattle.std.specs.Ordering.{match_ordering}
-use Rattle.std.specs.Str.{is_utf8}
-use Rattle.std.proofs.Common.{Ordering, Less, Equal, Greater}
-use Rattle.std.proofs.lemmas.Bool.{cond_both, ltb-true}
-use Rattle.std.proofs.lemmas.Bool.Decides.{nat_tests}
-use Rattle.std.proofs.lemmas.Str.{IsUtf8-from_is_utf8, scalars-chars}
 use Rattle.serde_json.specs.Data.{Num, unsigned, negative, float, Data, null, boolean, number, string, array, object, Items, no_items, item, Members, no_members, member}
-use Rattle.serde_json.specs.Find.{get_member, get, as_object, as_str, as_array, as_i64}
-use Rattle.serde_json.specs.Read.{read}
-use Rattle.lsp_message.specs.Values.{member_at, text_in, array_in, each_of, whole_in}
-use Rattle.lsp_message.specs.Message as msg
-use Rattle.lsp_message.specs.Message.{IdData, whole, text, OutcomeData, Reading, MessageData, id_in, json_of, message_of, reading}
-use Rattle.lsp_message.specs.Params.{DocumentItem, ContentChangeData, ChangeData, open_of, open_by, change_of, change_by, document_in, document_and_changes, content_change_in, version_in, version_from}
-use Rattle.lsp_message.specs.laws.Sent.{IsProperId}
-use Rattle.lsp_server.specs.Incoming.{IncomingData, not_json, not_a_message, response, initialize, shutdown, other_request, exit, did_open, did_change, did_close, other_notification, incoming_by, incoming_of}
-use Rattle.lsp_server.specs.Step.{content_change_from_data}
-use Rattle.lsp_store.specs.Message.{AreTexts}
 use Rattle.lsp_replay.proofs.Records.ReadLemmas.{OnSome, on_then, NumFits, IsHeld, ItemsAreHeld, MembersAreHeld, read_held}
-use Rattle.std.proofs.lemmas.Grind.{common_steps}
+use Rattle.lsp_message.specs.Message as msg
 
 -- ---- members of a value
 
@@ -33,8 +15,7 @@ held_ordered Greater a b c p q r = r
 
 pub held_member : (name : List ℕ) (ms : Members) → MembersAreHeld ms → OnSome IsHeld (get_member name ms)
 held_member name no_members received = tt
-held_member name (member l e ms) received =
-    grind (arith, common_steps, held_ordered, (held_member name ms received.1))
+held_member name (member l e ms) received = grind (arith, common_steps, held_ordered, (held_member name ms received.1))
 
 pub held_get : (name : List ℕ) (d : Data) → IsHeld d → OnSome IsHeld (get name d)
 held_get name null received = tt
@@ -149,8 +130,7 @@ version_proper true found has = has
 version_proper false found has = tt
 
 value_proper : (d : Data) → IsHeld d → IsProperReading (message_of d)
-value_proper d received =
-    grind (arith, common_steps, found_or, codes, version_proper, row_proper, held_get)
+value_proper d received = grind (arith, common_steps, found_or, codes, version_proper, row_proper, held_get)
 
 pub value_held : (body : List ℕ) → OnSome IsHeld (json_of body)
 value_held body = by (is_utf8 body) refl
@@ -182,8 +162,7 @@ document_held params received =
     (held_at (codes "textDocument") params received)
 
 open_held : (ms : Members) → MembersAreHeld ms → OnSome IsTextOpened (open_by ms)
-open_held ms received =
-    grind (arith, common_steps, on_then, codes, held_text, held_member, any)
+open_held ms received = grind (arith, common_steps, on_then, codes, held_text, held_member, any)
 
 opened_held : (params : Option Data) → OnSome IsHeld params → OnSome IsTextOpened (open_of params)
 opened_held params received = on_then MembersAreHeld IsTextOpened open_by open_held (document_in params)
@@ -197,13 +176,11 @@ AreEditsHeld [] = ⊤
 AreEditsHeld (e ∷ es) = IsEditHeld e × AreEditsHeld es
 
 edit_held : (d : Data) → IsHeld d → OnSome IsEditHeld (content_change_in d)
-edit_held d received =
-    grind (arith, common_steps, on_then, codes, any, held_text, held_member, object_held)
+edit_held d received = grind (arith, common_steps, on_then, codes, any, held_text, held_member, object_held)
 
 edits_held : (ds : Items) → ItemsAreHeld ds → OnSome AreEditsHeld (each_of content_change_in ds)
 edits_held no_items received = tt
-edits_held (item d ds) received =
-    grind (arith, common_steps, on_then, edit_held, (edits_held ds received.1))
+edits_held (item d ds) received = grind (arith, common_steps, on_then, edit_held, (edits_held ds received.1))
 
 texts_of_edits : (es : List ContentChangeData) → AreEditsHeld es → AreTexts (map content_change_from_data es)
 texts_of_edits [] received = tt
@@ -269,8 +246,7 @@ either_asked true x y p q = p
 either_asked false x y p q = q
 
 asked_message : (m : MessageData) → IsProperMessage m → IsProperIncoming (incoming_by m)
-asked_message (msg.request id method params) proper =
-    grind (arith, common_steps, either_asked, bytes_eq, codes)
+asked_message (msg.request id method params) proper = grind (arith, common_steps, either_asked, bytes_eq, codes)
 asked_message (msg.notification method params) proper =
     either_asked (bytes_eq method (codes "exit")) exit _ tt
     (either_asked (bytes_eq method (codes "textDocument/didOpen")) (did_open (open_of params)) _

@@ -1,28 +1,14 @@
 -- A record that is read once is judged as one that is judged from its bytes.
-use Rattle.std.proofs.Common.{◌≡◌, ◌⊎◌, inl, inr, ℕ, Bool, true, false, List, Option, Some, None, refl, sym, ap, ◌∙◌}
-use Rattle.std.specs.Prelude.{◌&&◌, is_none, if◌then◌else◌}
-use Rattle.lsp_log.specs.declared.record.Version.{Version}
-use Rattle.lsp_log.specs.declared.record.Head.{Head}
-use Rattle.lsp_log.specs.declared.record.Sender.{Sender}
-use Rattle.lsp_log.specs.declared.record.Sender.TheVariants.{Client, Server}
-use Rattle.lsp_message.specs.Message.{IdData, reading}
-use Rattle.lsp_message.specs.Params.{ChangeData}
-use Rattle.lsp_server.specs.declared.phase.Phase.{Phase}
-use Rattle.lsp_server.specs.declared.phase.Phase.TheVariants.{New, Running, Down, Ended}
-use Rattle.lsp_server.specs.Answer.{changed, reply, dropped, ignored, already_ended, refused, exits}
-use Rattle.lsp_server.specs.Incoming.{incoming_of, did_change}
-use Rattle.lsp_server.specs.Step.{ServerData}
-use Rattle.lsp_replay.specs.Commands.{canonical_change_body, canonical_if, change_in}
-use Rattle.lsp_replay.specs.Session.{Session, Verdict, answered, recorded, bad, encoding_for, is_running, judge_client, judge_from, judge_server}
+use Rattle.lsp_replay.proofs.Prelude.{◌≡◌, ◌⊎◌, inl, inr, ℕ, Bool, true, false, List, Option, Some, None, refl, sym, ap, ◌∙◌, ◌&&◌, is_none, if◌then◌else◌, Version, Head, Sender, Client, Server, IdData, reading, ChangeData, Phase, New, Running, Down, Ended, changed, reply, dropped, ignored, already_ended, refused, exits, incoming_of, did_change, ServerData, canonical_change_body, canonical_if, change_in, Session, Verdict, answered, recorded, bad, encoding_for, is_running, judge_client, judge_from, judge_server, accepted_if, accepted_of, received_of}
 use Rattle.lsp_replay.specs.inside.Bodies.{BodyData, IsReceived, from_client, from_server, body_read, change_of, judge_read}
-use Rattle.lsp_replay.specs.inside.Taken.{accepted_if, accepted_of, received_of}
 use Rattle.lsp_replay.proofs.Canonical.CanonicalLogLemmas.{heard_as}
 use Rattle.lsp_replay.proofs.Records.JudgeLemmas.{asks_change}
 use Rattle.lsp_replay.proofs.Squash.JoiningLemmas.{early, idle}
 
 -- ---- a record is judged as its bytes are
 
-judged_of : (s : Session) (version : Version) (side : Sender) (body : List ℕ) → judge_read s (body_read version side body)
+judged_of : (s : Session) (version : Version) (side : Sender) (body : List ℕ)
+    → judge_read s (body_read version side body)
     ≡ judge_from s version side body
 judged_of s version Client body = refl
 judged_of s version Server body = refl
@@ -71,11 +57,7 @@ module _ (s : Session) (read : BodyData) (never : (p : ChangeData) → IsReceive
       by true e None is = refl
       by true e (Some p) is =
           let both = both_true (is_running s.server.phase) (is_none s.expected) e in
-          absurd (never p (record {
-            is = is;
-            running = runs s.server.phase both.0;
-            known = unknown s.expected both.1;
-          }))
+          absurd (never p (record { is = is; running = runs s.server.phase both.0; known = unknown s.expected both.1 }))
 
 -- ---- a change that is accepted
 

@@ -1,25 +1,5 @@
 -- Which records are accepted changes, and what becomes of them.
-use Rattle.std.proofs.Common.{◌≡◌, ◌≢◌, ◌⊎◌, inl, inr, ℕ, ◌≤◌, Bool, true, false, List, ◌++◌, length, Option, Some, None, refl, sym, ap, ◌∙◌, subst, nat_lt}
-use Rattle.std.specs.Prelude.{if◌then◌else◌, Err}
-use Rattle.std.proofs.lemmas.Bool.{ltb-false}
-use Rattle.lsp_message.specs.Message.{IdData, reading}
-use Rattle.lsp_message.specs.Params.{ChangeData}
-use Rattle.lsp_server.specs.declared.phase.Phase.{Phase}
-use Rattle.lsp_server.specs.declared.phase.Phase.TheVariants.{New, Running, Down, Ended}
-use Rattle.lsp_server.specs.Answer.{AnswerData, Sent, reply, changed, dropped, ignored, already_ended, refused, exits}
-use Rattle.lsp_server.specs.Incoming.{incoming_of, did_change}
-use Rattle.lsp_server.specs.Step.{ServerData}
-use Rattle.lsp_log.specs.declared.record.Version.{Version}
-use Rattle.lsp_log.specs.declared.record.Sender.{Sender}
-use Rattle.lsp_log.specs.declared.record.Sender.TheVariants.{Client, Server}
-use Rattle.lsp_log.specs.Log.{Record}
-use Rattle.lsp_stream.specs.declared.fault.EngineFault.TheVariants.{BadLog, BodyTooLong}
-use Rattle.lsp_stream.specs.Ports.{one_more}
-use Rattle.lsp_frame.specs.Frame.{frame}
-use Rattle.lsp_replay.specs.Commands.{change_in, canonical_if, canonical_change_body}
-use Rattle.lsp_replay.specs.inside.Joining.{refusal_of, server_after}
-use Rattle.lsp_replay.specs.Session.{Session, Verdict, answered, recorded, bad, Judged, judge, judge_from, judge_client, counted, encoding_for}
-use Rattle.lsp_replay.specs.inside.Squashed.{OpenSeries, change_output, faulty, step_if}
+use Rattle.lsp_replay.proofs.Prelude.{◌≡◌, ◌≢◌, ◌⊎◌, inl, inr, ℕ, ◌≤◌, Bool, true, false, List, ◌++◌, length, Option, Some, None, refl, sym, ap, ◌∙◌, subst, nat_lt, if◌then◌else◌, Err, ltb-false, IdData, reading, ChangeData, Phase, New, Running, Down, Ended, AnswerData, Sent, reply, changed, dropped, ignored, already_ended, refused, exits, incoming_of, did_change, ServerData, Version, Sender, Client, Server, Record, BadLog, BodyTooLong, one_more, frame, change_in, canonical_if, canonical_change_body, refusal_of, server_after, Session, Verdict, answered, recorded, bad, Judged, judge, judge_from, judge_client, counted, encoding_for, OpenSeries, change_output, faulty, step_if}
 use Rattle.lsp_replay.proofs.Records.AskedLemmas.{IsProperAsked, IsProperIncoming, asked_proper}
 use Rattle.lsp_replay.proofs.Squash.JoiningLemmas.{running_accepted}
 use Rattle.lsp_replay.proofs.Records.JudgeLemmas.{asks_change}
@@ -74,8 +54,7 @@ kind_of server r front series (Some p) (answered changed) e =
 
 -- neither is bad
 pub not_bad_of : (server : ServerData) (r : Record) (front : List ℕ) (series : Option OpenSeries) (change : Option
-    ChangeData)
-    (verdict : Verdict) → (step_if server r front series change verdict).end ≡ None → verdict ≢ bad
+    ChangeData) (verdict : Verdict) → (step_if server r front series change verdict).end ≡ None → verdict ≢ bad
 not_bad_of server r front series None bad e = absurd (let wrong : Some (Err (BadLog r.head.place)) ≡ None = e in cc)
 not_bad_of server r front series (Some p) bad e = absurd (let wrong : Some (Err (BadLog r.head.place)) ≡ None = e in cc)
 not_bad_of server r front series change recorded e = not_recorded

@@ -1,14 +1,7 @@
 -- The content of a JSON string is UTF-8, where the text is.
-use Rattle.std.proofs.Common.{◌≡◌, ℕ, zero, suc, ◌+◌, ◌<◌, ◌≤◌, true, false, cond, ◌&&◌, ◌==◌, nat_lt, nat_le, List, [], ◌∷◌, ◌++◌, length, take, drop, get_or, Option, Some, None, option_and_then, IsUtf8, refl, sym, ap, ◌∙◌, subst, arith, append_assoc}
-use Rattle.std.specs.Prelude.{⊤}
-use Rattle.std.proofs.lemmas.Bool.{and_parts, ltb-true, leb-true, eqb-true, cond_both}
-use Rattle.std.proofs.lemmas.Bool.Decides.{nat_tests}
-use Rattle.std.proofs.lemmas.List.{length-append, append-nil}
-use Rattle.std.proofs.lemmas.Str.{IsUtf8-append, IsUtf8-encode, IsUtf8-take, IsUtf8-drop, IsCharBoundary-before_ascii, IsCharBoundary-after_ascii, encode_ascii}
+use Rattle.lsp_replay.proofs.Prelude.{◌≡◌, ℕ, zero, suc, ◌+◌, ◌<◌, ◌≤◌, true, false, cond, ◌&&◌, ◌==◌, nat_lt, nat_le, List, [], ◌∷◌, ◌++◌, length, take, drop, get_or, Option, Some, None, option_and_then, IsUtf8, refl, sym, ap, ◌∙◌, subst, arith, append_assoc, ⊤, and_parts, ltb-true, leb-true, eqb-true, cond_both, nat_tests, length-append, append-nil, IsUtf8-append, IsUtf8-encode, IsUtf8-take, IsUtf8-drop, IsCharBoundary-before_ascii, IsCharBoundary-after_ascii, encode_ascii, encode_utf8, digit_value, common_steps}
 use Rattle.std.proofs.Math.Utf8.{scalar, low_scalar}
-use Rattle.std.specs.Char.{encode_utf8, digit_value}
 use Rattle.json.specs.Text.{code_unit, short_escape, is_high_surrogate, is_low_surrogate, surrogate_pair, plain, after_backslash, after_u, after_high, prepend, content}
-use Rattle.std.proofs.lemmas.Grind.{common_steps}
 
 pub tail_utf8 : (x : ℕ) (xs : List ℕ) → x < 128 → IsUtf8 (x ∷ xs) → IsUtf8 xs
 tail_utf8 x xs small u = IsUtf8-drop (x ∷ xs) 1 u (IsCharBoundary-after_ascii (x ∷ xs) 0 u (omega arith) small)
@@ -79,8 +72,7 @@ is_byte x n c rest small also good =
 
 short_ascii : (x : ℕ) → ShortAt x (short_escape x)
 unfolding short_escape
-short_ascii x =
-    grind (arith, common_steps, cond_both, nat_tests, is_byte)
+short_ascii x = grind (arith, common_steps, cond_both, nat_tests, is_byte)
 
 -- four hex digits are ASCII, and spell no more than 16 bits
 record AreHex (a b c d u : ℕ) : Type 0 where
@@ -138,12 +130,10 @@ module _ (n : ℕ) (shorter : GoodUpTo n) where
       → GoodText (option_and_then
       (λ l. cond (is_low_surrogate l) (prepend (encode_utf8 (surrogate_pair high l)) (content plain zs)) None) found)
   after_low high zs is small text None = tt
-  after_low high zs is small text (Some l) =
-      grind (arith, common_steps, cond_both, encoded)
+  after_low high zs is small text (Some l) = grind (arith, common_steps, cond_both, encoded)
 
   behind_hex : (a b c d : ℕ) (zs : List ℕ) (found : Option ℕ) → HexAt a b c d found → IsUtf8 (a ∷ b ∷ c ∷ d ∷ zs)
-      → (P : Option ℕ → Type 0) → P None
-      → ((u : ℕ) → u < 65536 → IsUtf8 zs → P (Some u)) → P found
+      → (P : Option ℕ → Type 0) → P None → ((u : ℕ) → u < 65536 → IsUtf8 zs → P (Some u)) → P found
   behind_hex a b c d zs None hex text P none some = none
   behind_hex a b c d zs (Some u) hex text P none some =
       some u hex.small

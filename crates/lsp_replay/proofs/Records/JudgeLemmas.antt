@@ -1,30 +1,12 @@
 -- What becomes of a record is told by its body, its side and its log's version; the canonical body of an accepted
 -- change is judged as the
 -- change was.
-use Rattle.std.proofs.Common.{◌≡◌, ℕ, ◌≤◌, Bool, true, false, List, length, Option, Some, None, refl, sym, ap, ◌∙◌, subst, arith}
-use Rattle.std.specs.Prelude.{if◌then◌else◌}
-use Rattle.lsp_frame.specs.Limits.{LimitsData, AreInRange}
-use Rattle.lsp_text.specs.declared.encoding.Encoding.{Encoding}
-use Rattle.lsp_message.specs.Message.{IdData, reading}
-use Rattle.lsp_message.specs.Params.{ChangeData}
-use Rattle.lsp_server.specs.Answer.{AnswerData, Sent, reply, changed, dropped, ignored, already_ended, refused, exits, as_sent}
-use Rattle.lsp_server.specs.Incoming.{IncomingData, not_json, not_a_message, response, initialize, shutdown, other_request, exit, did_open, did_change, did_close, other_notification, incoming_of}
+use Rattle.lsp_replay.proofs.Prelude.{◌≡◌, ℕ, ◌≤◌, Bool, true, false, List, length, Option, Some, None, refl, sym, ap, ◌∙◌, subst, arith, if◌then◌else◌, LimitsData, AreInRange, Encoding, IdData, reading, ChangeData, AnswerData, Sent, reply, changed, dropped, ignored, already_ended, refused, exits, as_sent, IncomingData, not_json, not_a_message, response, initialize, shutdown, other_request, exit, did_open, did_change, did_close, other_notification, incoming_of, Version, One, Two, Sender, Client, Server, Head, Record, Session, Verdict, answered, recorded, bad, Judged, judged, judge, judge_from, judge_client, judge_server, encoding_for, handled, is_ended, is_early, expected_of, one_more, change_in, canonical_if, canonical_of_record, canonical_change_body, judge_at, common_steps}
 use Rattle.lsp_server.specs.Step.{ServerData, Step, step_on, with_encoding}
-use Rattle.lsp_log.specs.declared.record.Version.{Version}
-use Rattle.lsp_log.specs.declared.record.Version.TheVariants.{One, Two}
-use Rattle.lsp_log.specs.declared.record.Sender.{Sender}
-use Rattle.lsp_log.specs.declared.record.Sender.TheVariants.{Client, Server}
-use Rattle.lsp_log.specs.declared.record.Head.{Head}
-use Rattle.lsp_log.specs.Log.{Record}
-use Rattle.lsp_replay.specs.Session.{Session, Verdict, answered, recorded, bad, Judged, judged, judge, judge_from, judge_client, judge_server, encoding_for, handled, is_ended, is_early, expected_of}
-use Rattle.lsp_stream.specs.Ports.{one_more}
-use Rattle.lsp_replay.specs.Commands.{change_in, canonical_if, canonical_of_record, canonical_change_body}
-use Rattle.lsp_replay.specs.inside.Session.{judge_at}
 use Rattle.lsp_replay.proofs.Canonical.CanonicalLogLemmas.{accepted, heard_has_none}
 use Rattle.lsp_replay.proofs.Records.AskedLemmas.{IsProperIncoming, asked_proper}
 use Rattle.lsp_replay.proofs.Records.StateLemmas.{IsHeldState, step_on_held}
 use Rattle.lsp_replay.proofs.Canonical.SettledLemmas.{IsSettledChange, settled_change}
-use Rattle.std.proofs.lemmas.Grind.{common_steps}
 
 -- ---- what holds of a session whatever is judged
 
@@ -33,8 +15,7 @@ both P true x y p q = p
 both P false x y p q = q
 
 module _ (P : Judged → Type 0) (s : Session) where
-  pub of_server : P (judged recorded s) → P (judged bad s)
-      → ((encoding : Encoding)
+  pub of_server : P (judged recorded s) → P (judged bad s) → ((encoding : Encoding)
       → P (judged recorded (record s { server = with_encoding s.server encoding; expected = None })))
       → (announced : Option (Option Encoding)) → P (judge_server s announced)
   of_server stays refuses goes None = stays
@@ -44,8 +25,7 @@ module _ (P : Judged → Type 0) (s : Session) where
   pub of_incoming : (version : Version) (m : IncomingData) → P (judged bad s)
       → P (handled s version m (step_on s.server m).state (as_sent (step_on s.server m).answer))
       → P (judge_client s version m)
-  of_incoming version m refuses goes =
-      grind (arith, common_steps)
+  of_incoming version m refuses goes = grind (arith, common_steps)
 
 from_held : (limits : LimitsData) (s : Session) (version : Version) (side : Sender) (body : List ℕ)
     → IsHeldState limits s.server → IsHeldState limits (judge_from s version side body).session.server
@@ -110,8 +90,7 @@ asks_change (other_notification method) p e = no_change (other_notification meth
 
 case_of : (server : ServerData) (m : IncomingData) (verdict : Verdict) (body : List ℕ)
     → canonical_if server (change_in m) verdict ≡ Some body → IsNormalCase server m verdict body
-case_of server m verdict body e =
-    grind (arith, common_steps, by_change, asks_change)
+case_of server m verdict body e = grind (arith, common_steps, by_change, asks_change)
 
 -- ---- the canonical body is judged as the change was
 
@@ -123,8 +102,7 @@ expects_same Two params expected = refl
 handled_same : (s : Session) (version : Version) (params others : Option ChangeData) (server : ServerData)
     (answer : AnswerData Sent)
     → handled s version (did_change params) server answer ≡ handled s version (did_change others) server answer
-handled_same s version params others server answer =
-    grind (arith, common_steps, expects_same)
+handled_same s version params others server answer = grind (arith, common_steps, expects_same)
 
 again_incoming : (s : Session) (version : Version) (p again : ChangeData) → step_on s.server (did_change (Some again))
     ≡ step_on s.server (did_change (Some p))
@@ -175,8 +153,7 @@ module _ (limits : LimitsData) (ranges : AreInRange limits) where
       ≡ Some again → length again ≤ limits.max_body → IsJudgedAgain s version side body again
   again_from s version Client body again received canonical_log fits =
       again_client s version body again received canonical_log fits
-  again_from s version Server body again received canonical_log fits =
-      grind (arith, common_steps, heard_has_none)
+  again_from s version Server body again received canonical_log fits = grind (arith, common_steps, heard_has_none)
 
   pub judged_again : (s : Session) (head : Head) (body again : List ℕ) → IsHeldState limits s.server
       → canonical_of_record s body (judge_at s head body).verdict ≡ Some again → length again ≤ limits.max_body

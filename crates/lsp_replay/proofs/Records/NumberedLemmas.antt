@@ -1,16 +1,5 @@
 -- What becomes of a record doesn't depend on how many records and messages came before it.
-use Rattle.std.proofs.Common.{◌≡◌, ℕ, Bool, true, false, List, Option, Some, None, refl, sym, ap, ◌∙◌, subst}
-use Rattle.std.specs.Prelude.{if◌then◌else◌}
-use Rattle.lsp_text.specs.declared.encoding.Encoding.{Encoding}
-use Rattle.lsp_message.specs.Message.{reading}
-use Rattle.lsp_server.specs.Answer.{as_sent}
-use Rattle.lsp_server.specs.Incoming.{IncomingData, incoming_of}
-use Rattle.lsp_server.specs.Step.{step_on}
-use Rattle.lsp_log.specs.declared.record.Version.{Version}
-use Rattle.lsp_log.specs.declared.record.Sender.{Sender}
-use Rattle.lsp_log.specs.declared.record.Sender.TheVariants.{Client, Server}
-use Rattle.lsp_log.specs.Log.{Record}
-use Rattle.lsp_replay.specs.Session.{Session, bad, Judged, counted, judged, judge, judge_from, judge_client, judge_server, encoding_for, handled, is_ended, is_early}
+use Rattle.lsp_replay.proofs.Prelude.{◌≡◌, ℕ, Bool, true, false, List, Option, Some, None, refl, sym, ap, ◌∙◌, subst, if◌then◌else◌, Encoding, reading, as_sent, IncomingData, incoming_of, step_on, Version, Sender, Client, Server, Record, Session, bad, Judged, counted, judged, judge, judge_from, judge_client, judge_server, encoding_for, handled, is_ended, is_early}
 
 abbrev pub numbered : ℕ → ℕ → Session → Session
 numbered records messages s = record {

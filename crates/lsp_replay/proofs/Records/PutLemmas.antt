@@ -1,11 +1,5 @@
 -- The table of documents with another text and version of one of them.
-use Rattle.std.proofs.Common.{◌≡◌, ℕ, ℤ, true, false, List, [], ◌∷◌, Some, None, bytes_eq, refl, ap, ⊎_elim}
-use Rattle.std.specs.Prelude.{if◌then◌else◌}
-use Rattle.std.proofs.lemmas.Bool.{cases_Bool}
-use Rattle.std.specs.Str.{chars}
-use Rattle.lsp_edit.specs.Batch.{ContentChange, meaning}
-use Rattle.lsp_message.specs.Params.{DocumentItem}
-use Rattle.lsp_store.specs.Table.{after_change, entry_at, meant_text}
+use Rattle.lsp_replay.proofs.Prelude.{◌≡◌, ℕ, ℤ, true, false, List, [], ◌∷◌, Some, None, bytes_eq, refl, ap, ⊎_elim, if◌then◌else◌, cases_Bool, chars, ContentChange, meaning, DocumentItem, after_change, entry_at, meant_text}
 
 abbrev pub put : List DocumentItem → List ℕ → ℤ → List ℕ → List DocumentItem
 put [] uri version text = []
@@ -16,8 +10,7 @@ put (entry ∷ table) uri version text =
     } ∷ table else entry ∷ put table uri version text
 
 pub change_puts : (units : ℕ → ℕ) (table : List DocumentItem) (uri : List ℕ) (version : ℤ) (batch : List ContentChange)
-    (entry : DocumentItem) → entry_at table uri ≡ Some entry
-    → after_change units table uri version batch
+    (entry : DocumentItem) → entry_at table uri ≡ Some entry → after_change units table uri version batch
     ≡ put table uri version (meant_text entry.text (meaning units (chars entry.text) batch))
 change_puts units [] uri version batch entry found = refl
 change_puts units (first ∷ table) uri version batch entry found =

@@ -1,19 +1,11 @@
 -- The texts of a JSON value are UTF-8, where the text that it was read from is.
 -- ---- tokens
-use Rattle.std.proofs.Common.{◌≡◌, ℕ, zero, suc, ◌<◌, Bool, true, false, ◌&&◌, List, [], ◌∷◌, length, Option, Some, None, option_map, option_and_then, IsUtf8, subst, arith, Ordering, Less, Equal, Greater, FitsSigned, ◌≤◌, ◌^◌, nat_lt, nat_le}
-use Rattle.std.specs.Prelude.{⊤, if◌then◌else◌, pos, Float}
-use Rattle.std.specs.Int.{w64}
-use Rattle.std.proofs.Math.IntN.{neg_ℤ}
-use Rattle.std.specs.Ordering.{match_ordering}
-use Rattle.std.proofs.lemmas.Bool.{cond_both, and_parts, ltb-true, leb-true}
-use Rattle.json.specs.Token.{Token}
-use Rattle.json.specs.Lex.{tokens}
-use Rattle.json.specs.Json as json
+use Rattle.lsp_replay.proofs.Prelude.{◌≡◌, ℕ, zero, suc, ◌<◌, Bool, true, false, ◌&&◌, List, [], ◌∷◌, length, Option, Some, None, option_map, option_and_then, IsUtf8, subst, arith, Ordering, Less, Equal, Greater, FitsSigned, ◌≤◌, ◌^◌, nat_lt, nat_le, ⊤, if◌then◌else◌, pos, Float, w64, neg_ℤ, match_ordering, cond_both, and_parts, ltb-true, leb-true, Token, tokens, common_steps}
 use Rattle.json.specs.Json.{Parse, parse_map, after_end_array, read_key, items_step, members_step, items, members, value_with, value, if_last}
 use Rattle.serde_json.specs.Data.{Num, unsigned, negative, float, Data, null, boolean, number, string, array, object, Items, no_items, item, Members, no_members, member, put}
 use Rattle.serde_json.specs.Read.{number_of, of_json, of_items, of_members, max_depth, read}
 use Rattle.lsp_replay.proofs.Records.TokenLemmas.{AllText, text_tokens}
-use Rattle.std.proofs.lemmas.Grind.{common_steps}
+use Rattle.json.specs.Json as json
 
 abbrev mutual
   JsonText : json.Json → Type 0
@@ -196,26 +188,13 @@ a_float false x = record { fits = tt }
 
 a_natural : (whole finite : Bool) (n : ℕ) (x : Float) → HasNum (if whole && nat_lt n (2 ^ 64) then Some (unsigned n)
     else if finite then Some (float x) else None)
-a_natural whole finite n x =
-    grind (arith, common_steps, cond_both, nat_lt, a_float)
+a_natural whole finite n x = grind (arith, common_steps, cond_both, nat_lt, a_float)
 
 a_negative : (whole finite : Bool) (n : ℕ) (x : Float)
     → HasNum (if whole && nat_lt 0 n && nat_le n (2 ^ 63) then Some (negative (neg_ℤ (pos n))) else if finite then
     Some (float x) else None)
 a_negative whole finite n x =
-    grind (
-      arith,
-      common_steps,
-      cond_both,
-      nat_lt,
-      nat_le,
-      neg_ℤ,
-      and_parts,
-      fits_negative,
-      ltb-true,
-      leb-true,
-      a_float,
-    )
+    grind (arith, common_steps, cond_both, nat_lt, nat_le, neg_ℤ, and_parts, fits_negative, ltb-true, leb-true, a_float)
 
 either_num : (minus : Bool) (a b : Option Num) → HasNum a → HasNum b → HasNum (if minus then a else b)
 either_num true a b p q = p

@@ -1,17 +1,5 @@
 -- What a server holds: texts in UTF-8, and within its limit.
-use Rattle.std.proofs.Common.{◌≡◌, ◌≤◌, Bool, true, false, List, map, length, Option, Some, None, refl}
-use Rattle.std.specs.Prelude.{if◌then◌else◌, nat_lt, nat_le}
-use Rattle.std.proofs.lemmas.Bool.{ltb-false}
-use Rattle.lsp_frame.specs.Limits.{LimitsData}
-use Rattle.lsp_text.specs.Units.{units_in}
-use Rattle.lsp_message.specs.Params.{DocumentItem, ChangeData}
-use Rattle.lsp_store.specs.Table.{Refusal, already_open, too_many_documents, text_too_long, after_close, is_taken, open_refusal, change_refusal, close_refusal, unless_refused}
-use Rattle.lsp_store.specs.laws.Tables.{AllWithin}
-use Rattle.lsp_store.proofs.WithinLemmas.{within_end, within_change, within_close}
-use Rattle.lsp_server.specs.declared.phase.Phase.{Phase}
-use Rattle.lsp_server.specs.declared.phase.Phase.TheVariants.{New, Running, Down, Ended}
-use Rattle.lsp_server.specs.Incoming.{IncomingData, not_json, not_a_message, response, initialize, shutdown, other_request, exit, did_open, did_change, did_close, other_notification}
-use Rattle.lsp_server.specs.Step.{ServerData, step_in, step_on, result_step, content_change_from_data, session_encoding}
+use Rattle.lsp_replay.proofs.Prelude.{◌≡◌, ◌≤◌, Bool, true, false, List, map, length, Option, Some, None, refl, if◌then◌else◌, nat_lt, nat_le, ltb-false, LimitsData, units_in, DocumentItem, ChangeData, Refusal, already_open, too_many_documents, text_too_long, after_close, is_taken, open_refusal, change_refusal, close_refusal, unless_refused, AllWithin, within_end, within_change, within_close, Phase, New, Running, Down, Ended, IncomingData, not_json, not_a_message, response, initialize, shutdown, other_request, exit, did_open, did_change, did_close, other_notification, ServerData, step_in, step_on, result_step, content_change_from_data, session_encoding}
 use Rattle.lsp_replay.proofs.Records.ReadLemmas.{OnSome}
 use Rattle.lsp_replay.proofs.Records.AskedLemmas.{IsProperAsked, IsTextOpened, IsProperIncoming}
 

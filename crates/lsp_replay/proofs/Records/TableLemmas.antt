@@ -1,24 +1,7 @@
 -- A record that isn't an accepted one about a document leaves that document as it is.
-use Rattle.std.proofs.Common.{◌≡◌, ℕ, Bool, true, false, List, [], ◌∷◌, ◌++◌, map, Option, Some, None, bytes_eq, refl, sym, ap, ◌∙◌}
-use Rattle.std.specs.Prelude.{ℤ, ◌&&◌, if◌then◌else◌}
-use Rattle.std.proofs.lemmas.Slice.Eq.{bytes_eq-Decides}
-use Rattle.lsp_text.specs.Units.{units_in}
-use Rattle.lsp_edit.specs.Batch.{ContentChange}
-use Rattle.lsp_message.specs.Message.{reading}
-use Rattle.lsp_message.specs.Params.{DocumentItem}
+use Rattle.lsp_replay.proofs.Prelude.{◌≡◌, ℕ, Bool, true, false, List, [], ◌∷◌, ◌++◌, map, Option, Some, None, bytes_eq, refl, sym, ap, ◌∙◌, ℤ, ◌&&◌, if◌then◌else◌, bytes_eq-Decides, units_in, ContentChange, reading, DocumentItem, as_sent, Phase, New, Running, Down, Ended, IncomingData, incoming_of, not_json, not_a_message, response, initialize, shutdown, other_request, exit, did_open, did_change, did_close, other_notification, Sender, Client, Server, Version, Record, Session, Judged, answered, bad, has_changed, judged, handled, is_ended, is_early, judge, judge_from, judge_client, encoding_for, uri_of, is_document}
 use Rattle.lsp_store.specs.Table.{Refusal, entry_at, changed, after_open, after_change, after_close, close_refusal, change_refusal, open_refusal, unless_refused}
-use Rattle.lsp_server.specs.Answer.{as_sent}
-use Rattle.lsp_server.specs.declared.phase.Phase.{Phase}
-use Rattle.lsp_server.specs.declared.phase.Phase.TheVariants.{New, Running, Down, Ended}
-use Rattle.lsp_server.specs.Incoming.{IncomingData, incoming_of, not_json, not_a_message, response, initialize, shutdown, other_request, exit, did_open, did_change, did_close, other_notification}
 use Rattle.lsp_server.specs.Step.{ServerData, Step, step_in, step_on, result_step, content_change_from_data, session_encoding}
-use Rattle.lsp_log.specs.declared.record.Sender.{Sender}
-use Rattle.lsp_log.specs.declared.record.Sender.TheVariants.{Client, Server}
-use Rattle.lsp_log.specs.declared.record.Version.{Version}
-use Rattle.lsp_log.specs.Log.{Record}
-use Rattle.lsp_replay.specs.Session.{Session, Judged, answered, bad, has_changed, judged, handled, is_ended, is_early, judge, judge_from, judge_client, encoding_for}
-use Rattle.lsp_replay.specs.Lines.{uri_of}
-use Rattle.lsp_replay.specs.laws.Traced.{is_document}
 use Rattle.lsp_replay.proofs.Reports.KeptLemmas.{heard_table}
 
 -- ---- another document

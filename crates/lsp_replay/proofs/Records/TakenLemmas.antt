@@ -1,56 +1,21 @@
 -- A change that a running server receives: what becomes of it by its plan, or by why it is refused.
-use Rattle.std.proofs.Common.{arith, ◌≡◌, ◌≢◌, ◌<◌, ◌≤◌, length, ℕ, ℤ, List, map, Option, Some, None, option_map, Result, Ok, Err, IfOk, IfErr, OnOk, refl, sym, ap, ap₂, ◌∙◌, subst}
-use Rattle.std.proofs.lemmas.List.{length-append}
+use Rattle.lsp_replay.proofs.Prelude.{arith, ◌≡◌, ◌≢◌, ◌<◌, ◌≤◌, length, ℕ, ℤ, List, map, Option, Some, None, option_map, Result, Ok, Err, IfOk, IfErr, OnOk, refl, sym, ap, ap₂, ◌∙◌, subst, length-append, LimitsData, Version, Head, reading, ChangeData, DocumentItem, StoreFault, refusal_fault, IsBodyOfPlan, IsMessageFault, IsMessageOfPlan, IsPlanOf, IsPlanOn, canonical_body, ContentChange, HasReached, IsSquashAfter, IsSquashOfPlan, SquashData, squash_of, squash_under, units_in, Encoding, Store, Running, changed, refused, did_change, incoming_of, IsNotObeyed, IsPlanOfChange, IsPlannedAs, after_commit, store_of, answer_view, ServerData, content_change_from_data, session_encoding, step_on, one_more, One, change_view, Taken, Appended, Body, TooLong as BodyIsTooLong, Canonical, canonical_change_body, canonical_of_record, change_in, Session, Judged, Verdict, answered, counted, judge_client, judged, IsBegun, IsChangeWriting, IsFramed, IsJoined, IsLonger, IsOpenAfter, IsOpenIn, IsWriting, refusal_of, server_after, judge_at, IsChangeWitnessed, IsHeard, IsShown, IsTaken, IsTakenAs, accepted_if, accepted_of, ranged_read, received_of, IsAppended, verdict_view, common_steps}
 use Rattle.std.specs.declared.alloc.AllocError.{AllocError}
-use Rattle.lsp_frame.specs.Limits.{LimitsData}
-use Rattle.lsp_log.specs.declared.record.Version.{Version}
-use Rattle.lsp_log.specs.declared.record.Head.{Head}
-use Rattle.lsp_message.specs.Message.{reading}
-use Rattle.lsp_message.specs.Params.{ChangeData, DocumentItem}
-use Rattle.lsp_store.specs.declared.fault.StoreFault.{StoreFault}
 use Rattle.lsp_store.specs.declared.fault.StoreFault.TheVariants.{NoMemory}
 use Rattle.lsp_store.specs.declared.store.plan.Plan.{Plan}
-use Rattle.lsp_store.specs.Faults.{refusal_fault}
 use Rattle.lsp_store.specs.Opened.{StoreData}
-use Rattle.lsp_store.specs.Plan.{IsBodyOfPlan, IsMessageFault, IsMessageOfPlan, IsPlanOf, IsPlanOn}
-use Rattle.lsp_store.specs.Message.{canonical_body}
-use Rattle.lsp_edit.specs.Batch.{ContentChange}
-use Rattle.lsp_store.specs.Squash.{HasReached, IsSquashAfter, IsSquashOfPlan, SquashData, squash_of, squash_under}
 use Rattle.lsp_store.specs.Table.{Refusal, changed as changed_entry, entry_at}
-use Rattle.lsp_text.specs.Units.{units_in}
-use Rattle.lsp_text.specs.declared.encoding.Encoding.{Encoding}
 use Rattle.lsp_server.specs.declared.answer.Answer.{Answer}
 use Rattle.lsp_server.specs.declared.answer.Answer.TheVariants.{Changed, Dropped, Exit, Ignored, Refused, Reply}
-use Rattle.lsp_server.specs.declared.answer.Refusal.TheVariants.{Store}
 use Rattle.lsp_server.specs.declared.planned.PlannedChange.{PlannedChange}
-use Rattle.lsp_server.specs.declared.phase.Phase.TheVariants.{Running}
-use Rattle.lsp_server.specs.Answer.{changed, refused}
-use Rattle.lsp_server.specs.Incoming.{did_change, incoming_of}
-use Rattle.lsp_server.specs.Planned.{IsNotObeyed, IsPlanOfChange, IsPlannedAs, after_commit, store_of}
-use Rattle.lsp_server.specs.Seen.{answer_view}
-use Rattle.lsp_server.specs.Step.{ServerData, content_change_from_data, session_encoding, step_on}
-use Rattle.lsp_stream.specs.Ports.{one_more}
-use Rattle.lsp_log.specs.declared.record.Version.TheVariants.{One}
-use Rattle.lsp_message.specs.Seen.{change_view}
-use Rattle.lsp_replay.specs.declared.session.Taken.{Taken}
-use Rattle.lsp_replay.specs.declared.session.canonical.Appended.{Appended}
-use Rattle.lsp_replay.specs.declared.session.canonical.Appended.TheVariants.{Body, TooLong as BodyIsTooLong}
-use Rattle.lsp_replay.specs.declared.session.canonical.Canonical.{Canonical}
 use Rattle.lsp_replay.specs.declared.session.joining.Joiner.{Joiner}
 use Rattle.lsp_replay.specs.declared.session.joining.Writing.{Writing}
 use Rattle.lsp_replay.specs.declared.session.joining.Writing.TheVariants.{TooLong, Continues, Begins}
-use Rattle.lsp_replay.specs.Commands.{canonical_change_body, canonical_of_record, change_in}
-use Rattle.lsp_replay.specs.Session.{Session, Judged, Verdict, answered, counted, judge_client, judged}
 use Rattle.lsp_replay.specs.inside.Bodies.{BodyData, IsChangeTaken, IsReceived, change_of, judge_read}
-use Rattle.lsp_replay.specs.inside.Joining.{IsBegun, IsChangeWriting, IsFramed, IsJoined, IsLonger, IsOpenAfter, IsOpenIn, IsWriting, refusal_of, server_after}
-use Rattle.lsp_replay.specs.inside.Session.{judge_at}
-use Rattle.lsp_replay.specs.inside.Taken.{IsChangeWitnessed, IsHeard, IsShown, IsTaken, IsTakenAs, accepted_if, accepted_of, ranged_read, received_of}
-use Rattle.lsp_replay.specs.inside.Verdicts.{IsAppended, verdict_view}
 use Rattle.lsp_replay.proofs.Records.BodyLemmas.{accepted_is, accepted_read, asked_in, body_of, canonical_is, judged_at, not_accepted, not_received, received_is}
 use Rattle.lsp_replay.proofs.Canonical.CanonicalLogLemmas.{over, within}
 use Rattle.lsp_replay.proofs.Records.ChangeLemmas.{done_session}
 use Rattle.lsp_replay.proofs.Squash.JoiningLemmas.{begun_open, is_begun, is_longer, longer_open, running_accepted, running_leaves, same_entry}
-use Rattle.std.proofs.lemmas.Grind.{common_steps}
 
 -- ---- what a running server answers to a change
 
@@ -74,8 +39,7 @@ is_changed (Exit status) e = absurd (cc)
 -- An answer in place of a plan is a refusal.
 pub answered_some : (server : ServerData) (p : ChangeData) → server.phase ≡ Running → (a : Answer)
     → IsNotObeyed server (step_on server (did_change (Some p))) a → refusal_of server p ≢ None
-answered_some server p running a why =
-    grind (arith, common_steps, is_changed, step_accepted)
+answered_some server p running a why = grind (arith, common_steps, is_changed, step_accepted)
 
 -- What the server planned, as a session sees its server.
 module _ {inside server : ServerData} (same : inside ≡ server) (p : ChangeData) {planned found : PlannedChange}
@@ -86,12 +50,11 @@ module _ {inside server : ServerData} (same : inside ≡ server) (p : ChangeData
 
 module _ (s : Session) (p : ChangeData) (running : s.server.phase ≡ Running) (known : s.expected ≡ None) where
   -- A plan that was applied is the change.
-  committed_in : (plan : Plan) → IsPlanOfChange s.server p plan → (new : Session)
-      → new ≡ record s {
-        server = after_commit s.server plan;
-        records = one_more s.records;
-        messages = one_more s.messages;
-      } → IsChangeTaken s p (answered changed) new
+  committed_in : (plan : Plan) → IsPlanOfChange s.server p plan → (new : Session) → new ≡ record s {
+    server = after_commit s.server plan;
+    records = one_more s.records;
+    messages = one_more s.messages;
+  } → IsChangeTaken s p (answered changed) new
   committed_in plan q new is = record {
     judged = λ version. sym (running_accepted s version p running known q.accepted);
     session = grind (arith, common_steps, done_session);
@@ -115,8 +78,7 @@ module _ (s : Session) (p : ChangeData) (running : s.server.phase ≡ Running) (
       → new ≡ record s { records = one_more s.records; messages = one_more s.messages; refusals = one_more s.refusals }
       → IsChangeTaken s p (answered (answer_view a)) new
   refused_for a why None is new new_is = absurd (answered_some s.server p running a why is)
-  refused_for a why (Some refusal) is new new_is =
-      grind (arith, common_steps, step_refused, refused_by)
+  refused_for a why (Some refusal) is new new_is = grind (arith, common_steps, step_refused, refused_by)
 
   pub refused_taken : (a : Answer) → IsNotObeyed s.server (step_on s.server (did_change (Some p))) a → (t : Session)
       → t ≡ s → (records : ℕ) → records ≡ one_more t.records
@@ -143,10 +105,8 @@ module _ {s : Session} {read : BodyData} {p : ChangeData} (received : IsReceived
     shown_by : {verdict : Verdict} → IsChangeWitnessed Same HasSeen s new p verdict → (refusal : Option Refusal)
         → refusal_of s.server p ≡ refusal
         → IsShown Same HasSeen s new (accepted_if (Some p) (judge_client s version (did_change (Some p))).verdict)
-    shown_by w None is =
-        grind (arith, common_steps, running_accepted)
-    shown_by w (Some refusal) is =
-        grind (arith, common_steps, refused_by)
+    shown_by w None is = grind (arith, common_steps, running_accepted)
+    shown_by w (Some refusal) is = grind (arith, common_steps, refused_by)
 
     -- whatever record this was read of
     pub change_taken : {taken : Taken} → IsChangeWitnessed Same HasSeen s new p (verdict_view taken.verdict)
@@ -171,19 +131,12 @@ module _ {s new : Session} {p : ChangeData} {verdict : Verdict} (running : s.ser
       → IsChangeWitnessed Same HasSeen s new p verdict
   accepted_witnessed may seen = record {
     taken = v;
-    accepted = λ is. (
-      seen,
-      ap (λ (u : Session). u.server) (v.session One) ∙ running_leaves s One p running known may,
-    );
+    accepted = λ is. (seen, ap (λ (u : Session). u.server) (v.session One) ∙ running_leaves s One p running known may);
     refused = λ is. absurd (is may);
   }
 
   pub refused_witnessed : refusal_of s.server p ≢ None → Same → IsChangeWitnessed Same HasSeen s new p verdict
-  refused_witnessed some same = record {
-    taken = v;
-    accepted = λ may. absurd (some may);
-    refused = λ is. same;
-  }
+  refused_witnessed some same = record { taken = v; accepted = λ may. absurd (some may); refused = λ is. same }
 
 -- ---- any other record
 
@@ -219,8 +172,7 @@ module _ (s new : Session) (head : Head) (body : List ℕ) (before after : Canon
     pub seen_written : IsShown (after ≡ before) HasBody s new (accepted_of s head body)
         → IsAppended s.server.config.limits.max_body (canonical_of_record s body (judge_at s head body).verdict)
         after.appended before.bytes.items after.bytes.items
-    seen_written shown =
-        grind (arith, common_steps, canonical_is, body_seen)
+    seen_written shown = grind (arith, common_steps, canonical_is, body_seen)
 
 -- the room before it stays
 pub room_kept : (max_body : ℕ) (canonical : Option (List ℕ)) (appended : Option Appended) (old new : List ℕ) (room : ℕ)
@@ -262,8 +214,7 @@ module _ {s new : Session} {series : Option SquashData} {head : Head} {body : Li
 
     seen_by : (a : Option ChangeData) → accepted_of s head body ≡ a → IsShown (after ≡ before) HasJoined s new a
         → IsWriting s.server series change verdict after.writing
-    seen_by None none same =
-        grind (arith, common_steps, canonical_is, body_of)
+    seen_by None none same = grind (arith, common_steps, canonical_is, body_of)
     seen_by (Some p) is seen =
         let both = accepted_is change verdict p is in
         joined_writing p both.0 both.1 after.writing
@@ -295,8 +246,7 @@ module _ {s new : Session} {series : Option SquashData} {head : Head} {body : Li
         → after.writing ≡ Some w → IsOpenAfter new.server w
     open_seen None same w is =
         let wrong : None ≡ Some w = sym (ap (λ (j : Joiner). j.writing) (same ∙ begins)) ∙ is in absurd (cc)
-    open_seen (Some p) seen w is =
-        grind (arith, common_steps, open_by)
+    open_seen (Some p) seen w is = grind (arith, common_steps, open_by)
 
     pub seen_open : (w : Writing) → after.writing ≡ Some w → IsOpenAfter new.server w
     seen_open w written = open_seen (accepted_of s head body) is.shown w written
@@ -312,10 +262,8 @@ pub message_is : {T : Type 0} (message : Result T StoreFault) (out : Result (Opt
     → IfOk message (λ m. out ≡ Ok (Some m))
     → IfErr message (λ fault. IfOk out (λ m. (fault ≢ NoMemory) × (m ≡ None))) → (made : T) → out ≡ Ok (Some made)
     → message ≡ Ok made
-message_is (Ok m) out ok error made is =
-    grind (arith, common_steps)
-message_is (Err fault) out ok error made is =
-    grind (arith, common_steps)
+message_is (Ok m) out ok error made is = grind (arith, common_steps)
+message_is (Err fault) out ok error made is = grind (arith, common_steps)
 
 module _ {T : Type 0} (Q : Type 0) where
   pub message_on : (message : Result T StoreFault) (out : Result (Option T) AllocError)
@@ -333,10 +281,8 @@ module _ {T : Type 0} (Q : StoreFault → Type 0) where
   pub message_none : (message : Result T StoreFault) (out : Result (Option T) AllocError)
       → IfOk message (λ m. out ≡ Ok (Some m)) → IfErr message (λ fault. IfOk out (λ m. (fault ≢ NoMemory) × (m ≡ None)))
       → out ≡ Ok None → IfErr message Q → IsRefusedMessage Q
-  message_none (Ok m) out ok error is q =
-      grind (arith, common_steps)
-  message_none (Err fault) out ok error is q =
-      grind (arith, common_steps)
+  message_none (Ok m) out ok error is q = grind (arith, common_steps)
+  message_none (Err fault) out ok error is q = grind (arith, common_steps)
 
 -- ---- what is read from the plan of an accepted change
 
@@ -378,8 +324,7 @@ module _ (server : ServerData) (p : ChangeData) {plan : Plan} (q : IsPlanOfChang
       → IsAppended store.limits.max_body (Some (canonical_body (units_in encoding) store.table uri version batch))
       (Some a) old new)
       → IsAppended server.config.limits.max_body (Some (canonical_change_body server p)) (Some a) old new
-  plan_written a old new appended =
-      grind (arith, common_steps, plan_at)
+  plan_written a old new appended = grind (arith, common_steps, plan_at)
 
   pub plan_framed : (bytes : List ℕ) → IsMessageOfPlan store plan bytes → IsFramed server p bytes
   plan_framed bytes message =
@@ -398,8 +343,7 @@ module _ (server : ServerData) (p : ChangeData) {plan : Plan} (q : IsPlanOfChang
   pub plan_begun : {limits : LimitsData} {encoding : Encoding} {document : DocumentItem} {before next : SquashData}
       → limits ≡ store.limits → encoding ≡ session_encoding server
       → ((on : IsPlanOn store plan) → document ≡ on.entry) → before ≡ squash_of limits encoding document
-      → IsSquashOfPlan store plan before next
-      → IsBegun server p next × IsOpenIn (server_after server p) next
+      → IsSquashOfPlan store plan before next → IsBegun server p next × IsOpenIn (server_after server p) next
   plan_begun {encoding = encoding} {document = document} {before = before} {next = next}
       limits_is encoding_is document_is begun added =
       let same_limits : store.limits ≡ server.config.limits = ap (λ (d : StoreData). d.limits) same in
@@ -418,8 +362,7 @@ module _ (server : ServerData) (p : ChangeData) {plan : Plan} (q : IsPlanOfChang
   -- the open series, if it is of the same document, and the batches with it
   module _ {squash : SquashData} (at : IsOpenIn server squash) (uri : p.uri ≡ squash.uri) where
     pub plan_reached : (on : IsPlanOn store plan) → HasReached squash on.entry
-    plan_reached on =
-        grind (arith, common_steps, same_entry, on_same)
+    plan_reached on = grind (arith, common_steps, same_entry, on_same)
 
     pub plan_longer : (next : SquashData) → IsSquashOfPlan store plan squash next
         → IsLonger (Some squash) p next × IsOpenIn (server_after server p) next
@@ -438,13 +381,11 @@ module _ (store : StoreData) (plan : Plan) where
       → IsPlanOf store uri version encoding batch plan → IsBodyOfPlan store plan old new
       → IsAppended store.limits.max_body (Some (canonical_body (units_in encoding) store.table uri version batch))
       (Some Body) old new
-  body_appended old new uri version encoding batch q body =
-      grind (arith, common_steps)
+  body_appended old new uri version encoding batch q body = grind (arith, common_steps)
 
   pub body_too_long : (fault : StoreFault) → fault ≢ NoMemory → IsMessageFault store plan fault
       → (uri : List ℕ) (version : ℤ) (encoding : Encoding) (batch : List ContentChange)
-      → IsPlanOf store uri version encoding
-      batch plan
+      → IsPlanOf store uri version encoding batch plan
       → store.limits.max_body < length (canonical_body (units_in encoding) store.table uri version batch)
   body_too_long fault other why uri version encoding batch q =
       (over store.limits _ _ fault q.accepted other (why uri version encoding batch q)).0

@@ -1,15 +1,9 @@
 -- The tokens of a text that is UTF-8 have texts that are.
-use Rattle.std.proofs.Common.{◌≡◌, ℕ, Bool, true, false, cond, ◌&&◌, ◌==◌, List, [], ◌∷◌, ◌++◌, length, Option, Some, None, IsUtf8, refl, ap, subst, arith, take, drop, ◌-◌, nat_eq}
-use Rattle.std.specs.Prelude.{⊤}
-use Rattle.std.specs.List.{starts_with}
-use Rattle.std.proofs.lemmas.Bool.{eqb-true}
-use Rattle.json.specs.Text.{content, plain}
-use Rattle.json.specs.Token.{Token}
+use Rattle.lsp_replay.proofs.Prelude.{◌≡◌, ℕ, Bool, true, false, cond, ◌&&◌, ◌==◌, List, [], ◌∷◌, ◌++◌, length, Option, Some, None, IsUtf8, refl, ap, subst, arith, take, drop, ◌-◌, nat_eq, ⊤, starts_with, eqb-true, content, plain, Token, common_steps}
 use Rattle.json.specs.Word.{word, head, literal, number_before, ends_word, after_number}
 use Rattle.json.specs.Ascii.{true_text, false_text, null_text}
 use Rattle.json.specs.Lex.{Lexeme, token, comma, colon, Class, quote, backslash, operator, space, other, class, operator_lexeme, string_token, Mode, between, in_word, in_string, in_escape, lex_byte, lex, Place, fresh, after_value, after_comma, after_key, begins_colon, may_begin, may_close, if_allowed, place_token, punctuate, tokens}
 use Rattle.lsp_replay.proofs.Records.ContentLemmas.{GoodText, content_utf8, behind_ascii}
-use Rattle.std.proofs.lemmas.Grind.{common_steps}
 
 abbrev HasText : Token → Type 0
 HasText Token.begin_object = ⊤

@@ -1,35 +1,12 @@
 -- What `compare` has learned after a record, by what was read of it.
-use Rattle.std.proofs.Common.{◌≡◌, ◌≢◌, ◌≤◌, ℕ, List, [], ◌∷◌, ◌++◌, length, map, Option, Some, None, refl, sym, ap, ◌∙◌, append_assoc, append-nil}
-use Rattle.std.specs.Prelude.{Result, Ok, Err, slice_range}
-use Rattle.line_diff.specs.Compared.{ComparisonData}
+use Rattle.lsp_replay.proofs.Prelude.{◌≡◌, ◌≢◌, ◌≤◌, ℕ, List, [], ◌∷◌, ◌++◌, length, map, Option, Some, None, refl, sym, ap, ◌∙◌, append_assoc, append-nil, Result, Ok, Err, slice_range, ComparisonData, Range, Change, Fault, ends_of, content_change, places_at, Sender, Client, Server, Version, Record, reading, content_change_view, incoming_of, ServerData, written_first, writes, comparing, comparing_after, if_ends_so, learned, listed, splice_at, splice_of, splices_after, splices_from, splices_in, uri_of, left_by, replaced_by, Session, Verdict, bad, judge, BodyData, body_read}
 use Rattle.line_diff.specs.declared.owners.Splice.{Splice}
-use Rattle.lsp_text.specs.declared.position.Range.{Range}
-use Rattle.lsp_edit.specs.declared.change.Change.{Change}
-use Rattle.lsp_edit.specs.Batch.{Fault, ends_of}
-use Rattle.lsp_edit.specs.Edited.{content_change}
-use Rattle.lsp_edit.specs.Faults.{places_at}
-use Rattle.lsp_log.specs.declared.record.Sender.{Sender}
-use Rattle.lsp_log.specs.declared.record.Sender.TheVariants.{Client, Server}
-use Rattle.lsp_log.specs.declared.record.Version.{Version}
-use Rattle.lsp_log.specs.Log.{Record}
-use Rattle.lsp_message.specs.Message.{reading}
-use Rattle.lsp_message.specs.Seen.{content_change_view}
-use Rattle.lsp_server.specs.Incoming.{incoming_of}
-use Rattle.lsp_server.specs.Step.{ServerData}
-use Rattle.lsp_replay.specs.RunOutput.{written_first}
-use Rattle.lsp_replay.specs.Commands.{writes}
-use Rattle.lsp_replay.specs.Compared.{comparing, comparing_after, if_ends_so, learned, listed, splice_at, splice_of, splices_after, splices_from, splices_in}
-use Rattle.lsp_replay.specs.Lines.{uri_of}
-use Rattle.lsp_replay.specs.Notes.{left_by, replaced_by}
-use Rattle.lsp_replay.specs.Session.{Session, Verdict, bad, judge}
-use Rattle.lsp_replay.specs.inside.Bodies.{BodyData, body_read}
 use Rattle.lsp_replay.specs.inside.Compared.{compared_in, ending_read, splices_read}
 use Rattle.lsp_replay.proofs.Records.OutputLemmas.{output_after, unless_not}
 
 -- ---- which parts changes replace
 
-pub no_splice : (units : ℕ → ℕ) (text : List ℕ) (range : Range) (len : ℕ)
-    → replaced_by units text (Some range) ≡ None
+pub no_splice : (units : ℕ → ℕ) (text : List ℕ) (range : Range) (len : ℕ) → replaced_by units text (Some range) ≡ None
     → None ≡ splice_at len (places_at 0 text (ends_of units text range))
 no_splice units text range len none = by (ends_of units text range) refl
   where
@@ -65,8 +42,7 @@ module _ (units : ℕ → ℕ) (all : List Splice) (change : Change) (rest more 
 -- ---- what is known after a record
 
 module _ (c : ComparisonData) (s : ServerData) (body : List ℕ) (verdict : Verdict) (t : Session) where
-  learned_is : (version : Version) (side : Sender)
-      → learned (splices_read c.ending s (body_read version side body))
+  learned_is : (version : Version) (side : Sender) → learned (splices_read c.ending s (body_read version side body))
       (ending_read c.ending (body_read version side body)) verdict t c
       ≡ learned (splices_in c.ending s (incoming_of (reading body)))
       (if_ends_so c.ending (uri_of side (incoming_of (reading body)))) verdict t c

@@ -1,16 +1,5 @@
 -- A line of `check --explain`, as it is written.
-use Rattle.std.proofs.Common.{◌≡◌, ℕ, List, [], ◌++◌, refl, ap, ◌∙◌}
-use Rattle.lsp_frame.specs.Limits.{LimitsData}
-use Rattle.lsp_message.specs.Message.{reading}
-use Rattle.lsp_server.specs.Incoming.{incoming_of}
-use Rattle.lsp_log.specs.Log.{Record}
-use Rattle.lsp_replay.specs.declared.commands.explained.Listing.{Listing}
-use Rattle.lsp_replay.specs.declared.facts.Facts.{Facts}
-use Rattle.lsp_replay.specs.Explained.{explained_line, listed_notes, seen_in}
-use Rattle.lsp_replay.specs.Lines.{Known, uri_of}
-use Rattle.lsp_replay.specs.Notes.{notes_of}
-use Rattle.lsp_replay.specs.Session.{Session, judge}
-use Rattle.lsp_replay.specs.inside.Facts.{AreFacts, explained_by}
+use Rattle.lsp_replay.proofs.Prelude.{◌≡◌, ℕ, List, [], ◌++◌, refl, ap, ◌∙◌, LimitsData, reading, incoming_of, Record, Listing, Facts, explained_line, listed_notes, seen_in, Known, uri_of, notes_of, Session, judge, AreFacts, explained_by}
 use Rattle.lsp_replay.proofs.Reports.ReasonLemmas.{listed_at}
 
 pub line_is : (listing : Listing) (known : Known) (s : Session) (r : Record) (limits : LimitsData)

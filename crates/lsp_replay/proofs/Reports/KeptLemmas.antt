@@ -1,23 +1,6 @@
 -- The last text of a document, over one more record.
-use Rattle.std.proofs.Common.{◌≡◌, ◌⊎◌, inl, inr, ℕ, Bool, true, false, List, [], ◌∷◌, ◌++◌, map, Option, Some, None, option_map, bytes_eq, refl, sym, ap, ◌∙◌}
-use Rattle.std.specs.Prelude.{if◌then◌else◌, ℤ}
-use Rattle.std.proofs.lemmas.Slice.Eq.{bytes_eq-Decides}
-use Rattle.lsp_text.specs.Units.{units_in}
-use Rattle.lsp_text.specs.declared.encoding.Encoding.{Encoding}
-use Rattle.lsp_edit.specs.Batch.{ContentChange}
-use Rattle.lsp_message.specs.Message.{reading}
-use Rattle.lsp_message.specs.Params.{DocumentItem, CloseData}
+use Rattle.lsp_replay.proofs.Prelude.{◌≡◌, ◌⊎◌, inl, inr, ℕ, Bool, true, false, List, [], ◌∷◌, ◌++◌, map, Option, Some, None, option_map, bytes_eq, refl, sym, ap, ◌∙◌, if◌then◌else◌, ℤ, bytes_eq-Decides, units_in, Encoding, ContentChange, reading, DocumentItem, CloseData, as_sent, Phase, New, Running, Down, Ended, IncomingData, not_json, not_a_message, response, initialize, shutdown, other_request, exit, did_open, did_change, did_close, other_notification, ServerData, step_in, step_on, result_step, content_change_from_data, session_encoding, Version, Session, bad, judged, counted, handled, is_ended, is_early, judge_client, judge_server, encoding_for, last_text, last_text_in, BodyData, from_client, from_server, judge_read, closed_by, kept_after, text_at, text_closed}
 use Rattle.lsp_store.specs.Table.{Refusal, entry_at, changed, after_open, after_change, after_close, close_refusal, change_refusal, open_refusal, unless_refused}
-use Rattle.lsp_server.specs.Answer.{as_sent}
-use Rattle.lsp_server.specs.declared.phase.Phase.{Phase}
-use Rattle.lsp_server.specs.declared.phase.Phase.TheVariants.{New, Running, Down, Ended}
-use Rattle.lsp_server.specs.Incoming.{IncomingData, not_json, not_a_message, response, initialize, shutdown, other_request, exit, did_open, did_change, did_close, other_notification}
-use Rattle.lsp_server.specs.Step.{ServerData, step_in, step_on, result_step, content_change_from_data, session_encoding}
-use Rattle.lsp_log.specs.declared.record.Version.{Version}
-use Rattle.lsp_replay.specs.Session.{Session, bad, judged, counted, handled, is_ended, is_early, judge_client, judge_server, encoding_for}
-use Rattle.lsp_replay.specs.Parts.{last_text, last_text_in}
-use Rattle.lsp_replay.specs.inside.Bodies.{BodyData, from_client, from_server, judge_read}
-use Rattle.lsp_replay.specs.inside.Kept.{closed_by, kept_after, text_at, text_closed}
 
 -- ---- a document that isn't open afterwards was not open before
 

@@ -1,10 +1,5 @@
 -- The members of a line, as they are written one after another.
-use Rattle.std.proofs.Common.{◌≡◌, ◌∷◌, ◌++◌, ℕ, List, [], Option, ap, ◌∙◌, append_assoc}
-use Rattle.std.specs.Prelude.{Result, Ok, Err, OnOk, codes, decimal, option_map}
-use Rattle.lsp_server.specs.Incoming.{IncomingData}
-use Rattle.lsp_log.specs.declared.record.Head.{Head}
-use Rattle.lsp_replay.specs.Lines.{uri_of}
-use Rattle.lsp_replay.specs.Trace.{first_members, id_json, id_of, json_string, last_members, member, method_of, side_word}
+use Rattle.lsp_replay.proofs.Prelude.{◌≡◌, ◌∷◌, ◌++◌, ℕ, List, [], Option, ap, ◌∙◌, append_assoc, Result, Ok, Err, OnOk, codes, decimal, option_map, IncomingData, Head, uri_of, first_members, id_json, id_of, json_string, last_members, member, method_of, side_word}
 
 pub on_ok : {A E P Q : Type 0} (r : Result A E) → (P → Q) → OnOk r P → OnOk r Q
 on_ok (Ok a) then p = then p
@@ -63,16 +58,11 @@ last_parts old a w q r l n v c t b e = simp append_assoc
 
 pub last_is : (word : List ℕ) (reason last notes version canonical shown body : Option (List ℕ))
     (old one two three four five six seven eight nine : List ℕ)
-    → one ≡ old ++ codes ",\"word\":\"" ++ word ++ codes "\""
-    → two ≡ one ++ member (codes ",\"reason\":") reason
-    → three ≡ two ++ member (codes ",\"last\":") last
-    → four ≡ three ++ member (codes ",\"notes\":") notes
-    → five ≡ four ++ member (codes ",\"version\":") version
-    → six ≡ five ++ member (codes ",\"canonical\":") canonical
-    → seven ≡ six ++ member (codes ",\"text\":") shown
-    → eight ≡ seven ++ member (codes ",\"body\":") body
-    → nine ≡ eight ++ codes "}\n"
-    → nine ≡ old ++ (codes ",\"word\":\"" ++ word ++ codes "\"" ++ last_members (
+    → one ≡ old ++ codes ",\"word\":\"" ++ word ++ codes "\"" → two ≡ one ++ member (codes ",\"reason\":") reason
+    → three ≡ two ++ member (codes ",\"last\":") last → four ≡ three ++ member (codes ",\"notes\":") notes
+    → five ≡ four ++ member (codes ",\"version\":") version → six ≡ five ++ member (codes ",\"canonical\":") canonical
+    → seven ≡ six ++ member (codes ",\"text\":") shown → eight ≡ seven ++ member (codes ",\"body\":") body
+    → nine ≡ eight ++ codes "}\n" → nine ≡ old ++ (codes ",\"word\":\"" ++ word ++ codes "\"" ++ last_members (
     (codes ",\"reason\":", reason) ∷ (codes ",\"last\":", last) ∷ (codes ",\"notes\":", notes)
     ∷ (codes ",\"version\":", version) ∷ (codes ",\"canonical\":", canonical) ∷ (codes ",\"text\":", shown)
     ∷ (codes ",\"body\":", body) ∷ []))
@@ -95,8 +85,7 @@ last_is word reason last notes version canonical shown body old one two three fo
 
 -- ---- a whole line: the members between those that other commands have too
 
-pub line_parts : (a d o p f s q m i u w k z r l n v c t b e : List ℕ)
-    → (a ++ d ++ o ++ p ++ f ++ s ++ q ++ m ++ i ++ u)
+pub line_parts : (a d o p f s q m i u w k z r l n v c t b e : List ℕ) → (a ++ d ++ o ++ p ++ f ++ s ++ q ++ m ++ i ++ u)
     ++ (w ++ k ++ z ++ (r ++ (l ++ (n ++ (v ++ (c ++ (t ++ (b ++ e))))))))
     ≡ a ++ d ++ (o ++ p ++ f ++ s ++ q ++ m ++ i) ++ u ++ w ++ k ++ z ++ (r ++ l ++ n ++ v ++ c) ++ t ++ (b ++ e)
 line_parts a d o p f s q m i u w k z r l n v c t b e = simp append_assoc

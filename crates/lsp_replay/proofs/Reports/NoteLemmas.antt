@@ -1,36 +1,18 @@
 -- What is noted of a message.
-use Rattle.std.proofs.Common.{◌≡◌, ℕ, suc, ◌+◌, ◌-◌, ◌<◌, ◌≤◌, ⊎_elim, Bool, true, false, List, [], ◌∷◌, ◌++◌, length, map, Option, Some, None, refl, sym, ap, ap₂, ◌∙◌, arith, append_assoc, append-nil, option_map, encode_utf8_all, get_or, le-leb, nat_lt, string_bytes, string_len}
-use Rattle.std.specs.Prelude.{Result, Ok, Err, flat_map, slice_range}
+use Rattle.lsp_replay.proofs.Prelude.{◌≡◌, ℕ, suc, ◌+◌, ◌-◌, ◌<◌, ◌≤◌, ⊎_elim, Bool, true, false, List, [], ◌∷◌, ◌++◌, length, map, Option, Some, None, refl, sym, ap, ap₂, ◌∙◌, arith, append_assoc, append-nil, option_map, encode_utf8_all, get_or, le-leb, nat_lt, string_bytes, string_len, Result, Ok, Err, flat_map, slice_range, replace_range, le-ltb, lt-ltb, bytes_eq-Decides, IsUtf8-string_bytes, encodes-chars, Position, Range, Change, ContentChange, Fault, InsideStart, InsideStop, Reversed, meaning, ends_of, content_change, fault_at, places_at, alone, batch_fault_of, text_within, EditFault, content_change_view, content_change_from_data, Note, Terms, batch_notes, change_notes, left_by, note_words, notes_after, notes_from, replaced_by, taken_as, common_steps}
 use Rattle.std.specs.Result.{result_ok}
-use Rattle.std.specs.List.{replace_range}
 use Rattle.std.specs.Str.{IsCharBoundary, IsUtf8, bytes_eq, chars}
-use Rattle.std.proofs.lemmas.Bool.{le-ltb, lt-ltb}
-use Rattle.std.proofs.lemmas.Slice.Eq.{bytes_eq-Decides}
-use Rattle.std.proofs.lemmas.Str.{IsUtf8-string_bytes, encodes-chars}
 use Rattle.lsp_text.specs.Positions.{denoted, exact_position}
 use Rattle.lsp_text.specs.Text.{place_of}
-use Rattle.lsp_text.specs.declared.position.Position.{Position}
-use Rattle.lsp_text.specs.declared.position.Range.{Range}
 use Rattle.lsp_text.proofs.Positions.PositionLemmas.{denoted_whole}
 use Rattle.lsp_text.proofs.Positions.ResolveLemmas.{chars_part}
 use Rattle.lsp_buffer.proofs.Changes.ChangeLemmas.{replaced_length}
-use Rattle.lsp_edit.specs.declared.change.Change.{Change}
 use Rattle.lsp_edit.specs.Items.{New, text_of}
-use Rattle.lsp_edit.specs.Batch.{ContentChange, Fault, InsideStart, InsideStop, Reversed, meaning, ends_of}
-use Rattle.lsp_edit.specs.Edited.{content_change}
-use Rattle.lsp_edit.specs.Faults.{fault_at, places_at}
-use Rattle.lsp_edit.specs.Indexed.{alone, batch_fault_of, text_within}
-use Rattle.lsp_edit.specs.declared.fault.EditFault.{EditFault}
 use Rattle.lsp_edit.specs.declared.indexed.fault.BatchFault.{BatchFault}
 use Rattle.lsp_edit.specs.declared.indexed.fault.BatchFault.TheVariants.{NoMemory}
 use Rattle.lsp_edit.proofs.Composing.AppliedLemmas.{ends_told}
 use Rattle.lsp_edit.proofs.Deltas.InPlaceLemmas.{range_fault, range_too_long, range_within}
 use Rattle.lsp_edit.proofs.Parts.CutLemmas.{text_of-new}
-use Rattle.lsp_message.specs.Seen.{content_change_view}
-use Rattle.lsp_server.specs.Step.{content_change_from_data}
-use Rattle.lsp_replay.specs.declared.notes.Note.{Note}
-use Rattle.lsp_replay.specs.Notes.{Terms, batch_notes, change_notes, left_by, note_words, notes_after, notes_from, replaced_by, taken_as}
-use Rattle.std.proofs.lemmas.Grind.{common_steps}
 
 -- ---- a position
 
@@ -85,8 +67,7 @@ same_chars a b utf8_a utf8_b = by (bytes_eq (chars a) (chars b)) (bytes_eq a b) 
         let bytes : a ≡ b = sym (encodes-chars a utf8_a) ∙ ap encode_utf8_all same ∙ encodes-chars b utf8_b in
         let equal : bytes_eq a b ≡ true = (bytes_eq-Decides a b).1 bytes in
         absurd (cc)
-    by false true p q =
-        grind (arith, common_steps, bytes_eq-Decides)
+    by false true p q = grind (arith, common_steps, bytes_eq-Decides)
 
 -- ---- the changes of a message
 
@@ -97,13 +78,11 @@ long_text change = ap length (encodes-chars (string_bytes change.text) (IsUtf8-s
 
 module _ (units : ℕ → ℕ) (text : List ℕ) (change : Change) where
   pub nothing_left : 1073741824 < string_len change.text → left_by units text (content_change change) ≡ None
-  nothing_left long =
-      grind (arith, common_steps, nat_lt, encode_utf8_all, string_bytes, lt-ltb, long_text)
+  nothing_left long = grind (arith, common_steps, nat_lt, encode_utf8_all, string_bytes, lt-ltb, long_text)
 
   left_of : string_len change.text ≤ 1073741824 → left_by units text (content_change change)
       ≡ result_ok (text_within 1073741824 text (meaning units (chars text) (content_change change ∷ [])))
-  left_of fits =
-      grind (arith, common_steps, nat_lt, encode_utf8_all, string_bytes, le-ltb, long_text)
+  left_of fits = grind (arith, common_steps, nat_lt, encode_utf8_all, string_bytes, le-ltb, long_text)
 
   -- a whole text is what is left
   pub all_left : (new : List ℕ) → string_len change.text ≤ 1073741824 → change.range ≡ None
@@ -126,7 +105,8 @@ module _ (units : ℕ → ℕ) (text : List ℕ) (change : Change) where
 
 -- ---- a range and its text
 
-module _ (units : ℕ → ℕ) (text : List ℕ) (utf8 : IsUtf8 text) (range : Range) (new : List ℕ) (new_utf8 : IsUtf8 new) where
+module _ (units : ℕ → ℕ) (text : List ℕ) (utf8 : IsUtf8 text) (range : Range) (new : List ℕ)
+    (new_utf8 : IsUtf8 new) where
   no_memory : (number : ℕ) (why : Fault) → batch_fault_of (fault_at number why) ≡ NoMemory → ⊥
   no_memory number InsideStart is = absurd (cc)
   no_memory number InsideStop is = absurd (cc)
@@ -186,8 +166,7 @@ one_change terms text change =
 
 pub one_noted : (terms : Terms) (text : List ℕ) (changes : List Change) (change : Change) → length changes ≡ 1
     → change ≡ get_or changes 0 change → batch_notes terms text (map content_change changes)
-    ≡ change_notes terms (chars text)
-    0 (content_change change)
+    ≡ change_notes terms (chars text) 0 (content_change change)
 one_noted terms text [] change one is = absurd (omega (arith, one))
 one_noted terms text (first ∷ []) change one is =
     one_change terms text (content_change first) ∙ ap (λ (c : Change). change_notes terms (chars text) 0
@@ -205,14 +184,11 @@ module _ (terms : Terms) (all : List Note) (index : ℕ) (change : Change) (rest
     (pushed : next ≡ notes ++ change_notes terms (chars left) index (content_change change)) where
   here : next ++ notes_after (λ (text : List ℕ). notes_from terms (suc index) text (map content_change more))
       (left_by terms.units left (content_change change)) ≡ all
-  here =
-      grind (arith, common_steps, append_assoc)
+  here = grind (arith, common_steps, append_assoc)
 
   pub noting_on : (text : List ℕ) → left_by terms.units left (content_change change) ≡ Some text
-      → length text ≤ 1073741824
-      → Noting terms all (index + 1) more text next
-  noting_on text leaves size =
-      grind (arith, common_steps)
+      → length text ≤ 1073741824 → Noting terms all (index + 1) more text next
+  noting_on text leaves size = grind (arith, common_steps)
 
   pub noting_ends : left_by terms.units left (content_change change) ≡ None → next ≡ all
   noting_ends leaves = sym (append-nil next) ∙ (rw leaves at here)
@@ -226,5 +202,4 @@ Writing all between rest buffer = buffer ++ flat_map (λ note. between ++ note_w
 pub writing_on : (all between buffer one two : List ℕ) (note : Note) (rest more : List Note) → rest ≡ note ∷ more
     → Writing all between rest buffer → one ≡ buffer ++ between → two ≡ one ++ note_words note
     → Writing all between more two
-writing_on all between buffer one two note rest more is writing first second =
-    grind (arith, common_steps, append_assoc)
+writing_on all between buffer one two note rest more is writing first second = grind (arith, common_steps, append_assoc)

@@ -1,18 +1,5 @@
 -- The document that a record opens, by what was read of it, and the list of all.
-use Rattle.std.proofs.Common.{◌≡◌, ◌≢◌, ◌∷◌, ◌++◌, ℕ, List, [], Option, refl, ap, ◌∙◌, append_assoc}
-use Rattle.std.specs.Prelude.{Result, Ok, Err, OnOk}
-use Rattle.lsp_message.specs.Message.{reading}
-use Rattle.lsp_server.specs.Incoming.{incoming_of}
-use Rattle.lsp_log.specs.declared.record.Sender.{Sender}
-use Rattle.lsp_log.specs.declared.record.Sender.TheVariants.{Client, Server}
-use Rattle.lsp_log.specs.declared.record.Version.{Version}
-use Rattle.lsp_log.specs.Log.{Record}
-use Rattle.lsp_replay.specs.RunOutput.{written_first}
-use Rattle.lsp_replay.specs.Session.{Session, Verdict, bad, judge}
-use Rattle.lsp_replay.specs.Commands.{writes}
-use Rattle.lsp_replay.specs.Openings.{OpeningsData, listing_openings, opened_if, opened_in, openings_after, uri_opened}
-use Rattle.lsp_replay.specs.inside.Bodies.{body_read}
-use Rattle.lsp_replay.specs.inside.Openings.{listed_in, open_read}
+use Rattle.lsp_replay.proofs.Prelude.{◌≡◌, ◌≢◌, ◌∷◌, ◌++◌, ℕ, List, [], Option, refl, ap, ◌∙◌, append_assoc, Result, Ok, Err, OnOk, reading, incoming_of, Sender, Client, Server, Version, Record, written_first, Session, Verdict, bad, judge, writes, OpeningsData, listing_openings, opened_if, opened_in, openings_after, uri_opened, body_read, listed_in, open_read}
 use Rattle.lsp_replay.proofs.Records.OutputLemmas.{output_after, unless_not}
 
 read_as : (version : Version) (side : Sender) (body : List ℕ)

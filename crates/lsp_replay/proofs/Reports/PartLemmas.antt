@@ -1,19 +1,5 @@
 -- What `replay` of a part gives for a record, and over all records.
-use Rattle.std.proofs.Common.{◌≡◌, ◌≢◌, ℕ, Bool, true, false, List, [], ◌∷◌, Option, Some, None, bytes_eq, refl, sym, ap, ◌∙◌}
-use Rattle.std.specs.Prelude.{Ok, not, ◌&&◌, ◌||◌, if◌then◌else◌}
-use Rattle.line_diff.specs.Compared.{ends_so}
-use Rattle.lsp_message.specs.Params.{DocumentItem}
-use Rattle.lsp_replay.specs.declared.outcome.Outcome.{Outcome}
-use Rattle.lsp_log.specs.Log.{Record}
-use Rattle.lsp_replay.specs.RunOutput.{RunOutput, written_first, stopped}
-use Rattle.lsp_replay.specs.Session.{Session, Judged, Verdict, bad, counted, judge, session_outcome}
-use Rattle.lsp_replay.specs.Commands.{RecordOutput, writes, ends, followed_by}
-use Rattle.lsp_replay.specs.Openings.{opened_if, opened_in}
-use Rattle.lsp_replay.specs.Parts.{Found, PartData, found_after, found_if, is_last, is_named, last_text_in, only, part_bytes, part_outcome, part_step, refreshed, replaying_part, text_found, with_ending}
-use Rattle.lsp_replay.specs.inside.Bodies.{BodyData, body_read}
-use Rattle.lsp_replay.specs.inside.Kept.{closed_by, kept_after}
-use Rattle.lsp_replay.specs.inside.Openings.{open_read}
-use Rattle.lsp_replay.specs.inside.Parts.{replayed_in}
+use Rattle.lsp_replay.proofs.Prelude.{◌≡◌, ◌≢◌, ℕ, Bool, true, false, List, [], ◌∷◌, Option, Some, None, bytes_eq, refl, sym, ap, ◌∙◌, Ok, not, ◌&&◌, ◌||◌, if◌then◌else◌, ends_so, DocumentItem, Outcome, Record, RunOutput, written_first, stopped, Session, Judged, Verdict, bad, counted, judge, session_outcome, RecordOutput, writes, ends, followed_by, opened_if, opened_in, Found, PartData, found_after, found_if, is_last, is_named, last_text_in, only, part_bytes, part_outcome, part_step, refreshed, replaying_part, text_found, with_ending, BodyData, body_read, closed_by, kept_after, open_read, replayed_in}
 use Rattle.lsp_replay.proofs.Records.BodyLemmas.{judged_at}
 use Rattle.lsp_replay.proofs.Records.OutputLemmas.{output_after, unless_not}
 use Rattle.lsp_replay.proofs.Reports.KeptLemmas.{kept_over}

@@ -1,14 +1,5 @@
 -- `replay` gives nothing before the end of the input.
-use Rattle.std.proofs.Common.{◌≡◌, ℕ, List, [], ◌∷◌, ◌++◌, Option, Some, None, refl, ap, ◌∙◌}
-use Rattle.std.specs.Prelude.{Result}
-use Rattle.lsp_replay.specs.declared.outcome.Outcome.{Outcome}
-use Rattle.lsp_stream.specs.declared.fault.EngineFault.{EngineFault}
-use Rattle.lsp_log.specs.Log.{Record}
-use Rattle.lsp_replay.specs.RunOutput.{RunOutput}
-use Rattle.lsp_replay.specs.Session.{Session, Verdict, answered, recorded, bad, judge, opened}
-use Rattle.lsp_replay.specs.Commands.{writes, followed_by, unless_bad, replaying, log_config}
-use Rattle.lsp_replay.specs.inside.Commands.{run_output_in}
-use Rattle.lsp_replay.specs.laws.Written.{ReportLaw}
+use Rattle.lsp_replay.proofs.Prelude.{◌≡◌, ℕ, List, [], ◌∷◌, ◌++◌, Option, Some, None, refl, ap, ◌∙◌, Result, Outcome, EngineFault, Record, RunOutput, Session, Verdict, answered, recorded, bad, judge, opened, writes, followed_by, unless_bad, replaying, log_config, run_output_in, ReportLaw}
 
 quiet_gives : (r : Record) (verdict : Verdict) → (unless_bad r verdict (writes [])).out ≡ []
 quiet_gives r (answered answer) = refl

@@ -1,28 +1,5 @@
 -- The reason of a record, by the change that a running server received: a change that isn't received isn't refused.
-use Rattle.std.proofs.Common.{◌≡◌, ◌⊎◌, inl, inr, ℕ, Bool, true, false, List, Option, Some, None, refl, sym, ap, ◌∙◌, subst, ⊎_elim}
-use Rattle.std.specs.Prelude.{⊤, ◌&&◌, is_none, if◌then◌else◌}
-use Rattle.lsp_frame.specs.Limits.{LimitsData}
-use Rattle.lsp_message.specs.Message.{IdData, Reading, reading}
-use Rattle.lsp_message.specs.Params.{ChangeData}
-use Rattle.lsp_server.specs.declared.phase.Phase.{Phase}
-use Rattle.lsp_server.specs.declared.phase.Phase.TheVariants.{New, Running, Down, Ended}
-use Rattle.lsp_server.specs.Answer.{already_ended, changed, dropped, exits, ignored, refused, reply}
-use Rattle.lsp_server.specs.Incoming.{IncomingData, did_change, incoming_of}
-use Rattle.lsp_log.specs.declared.record.Head.{Head}
-use Rattle.lsp_log.specs.declared.record.Sender.{Sender}
-use Rattle.lsp_log.specs.declared.record.Sender.TheVariants.{Client, Server}
-use Rattle.lsp_log.specs.declared.record.Version.{Version}
-use Rattle.lsp_replay.specs.Commands.{change_in}
-use Rattle.lsp_replay.specs.declared.commands.explained.Listing.{Listing}
-use Rattle.lsp_replay.specs.declared.notes.Note.{Note}
-use Rattle.lsp_replay.specs.Explained.{Seen, listed_line}
-use Rattle.lsp_replay.specs.Lines.{is_strict_refusal}
-use Rattle.lsp_replay.specs.Session.{Session, Verdict, answered, recorded, bad, encoding_for, is_running, judge_client, judge_from, judge_server}
-use Rattle.lsp_replay.specs.Trace.{reason_json}
-use Rattle.lsp_replay.specs.inside.Bodies.{body_read}
-use Rattle.lsp_replay.specs.inside.Facts.{reason_of}
-use Rattle.lsp_replay.specs.inside.Session.{judge_at}
-use Rattle.lsp_replay.specs.inside.Taken.{received_of}
+use Rattle.lsp_replay.proofs.Prelude.{◌≡◌, ◌⊎◌, inl, inr, ℕ, Bool, true, false, List, Option, Some, None, refl, sym, ap, ◌∙◌, subst, ⊎_elim, ⊤, ◌&&◌, is_none, if◌then◌else◌, LimitsData, IdData, Reading, reading, ChangeData, Phase, New, Running, Down, Ended, already_ended, changed, dropped, exits, ignored, refused, reply, IncomingData, did_change, incoming_of, Head, Sender, Client, Server, Version, change_in, Listing, Note, Seen, listed_line, is_strict_refusal, Session, Verdict, answered, recorded, bad, encoding_for, is_running, judge_client, judge_from, judge_server, reason_json, body_read, reason_of, judge_at, received_of}
 use Rattle.lsp_replay.proofs.Canonical.CanonicalLogLemmas.{heard_as}
 use Rattle.lsp_replay.proofs.Records.JudgeLemmas.{asks_change}
 
@@ -95,8 +72,7 @@ module _ (s : Session) (body : List ℕ) where
           (quiet_in s version p Ended is expected waits (idle_ended expected)))
 
       by : (change : Option ChangeData) → change_in m ≡ change → Received version Client
-      by None is =
-          inl (if_none (change_in m) (is_running s.server.phase && is_none s.expected) is ∙ sym is)
+      by None is = inl (if_none (change_in m) (is_running s.server.phase && is_none s.expected) is ∙ sym is)
       by (Some p) is = state p (asks_change m p is) s.server.phase refl s.expected refl
 
 -- What goes by the change only where a verdict has a reason goes by the change that was received.

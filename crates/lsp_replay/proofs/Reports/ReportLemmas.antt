@@ -1,11 +1,6 @@
 -- The report of the documents from an index on.
-use Rattle.std.proofs.Common.{◌≡◌, ◌+◌, ◌-◌, ◌<◌, ◌++◌, ℕ, List, length, refl, arith}
-use Rattle.std.specs.Prelude.{Some}
-use Rattle.std.specs.List.{slice_get}
-use Rattle.std.proofs.lemmas.List.{drop_more}
+use Rattle.lsp_replay.proofs.Prelude.{◌≡◌, ◌+◌, ◌-◌, ◌<◌, ◌++◌, ℕ, List, length, refl, arith, Some, slice_get, drop_more, DocumentItem, document_line, report_from}
 use Rattle.std.proofs.lemmas.Option.{slice_get_within, get_or_from_slice_get}
-use Rattle.lsp_message.specs.Params.{DocumentItem}
-use Rattle.lsp_replay.specs.Commands.{document_line, report_from}
 
 -- a document's line, and then those behind it
 pub report_goes_on : (index : ℕ) (table : List DocumentItem) (entry : DocumentItem) → slice_get table index ≡ Some entry

@@ -1,11 +1,6 @@
 -- The line in which two texts differ first.
-use Rattle.std.proofs.Common.{◌≡◌, ℕ, suc, Bool, ◌+◌, ◌<◌, ◌≤◌, List, [], ◌∷◌, length, drop, refl, ap, ap₂, ◌∙◌, add-one}
-use Rattle.std.specs.Prelude.{if◌then◌else◌, slice_index}
-use Rattle.std.proofs.Math.Seq.{drop-cons}
-use Rattle.std.proofs.lemmas.Bool.{eq-eqb}
-use Rattle.std.proofs.lemmas.List.{drop_all}
+use Rattle.lsp_replay.proofs.Prelude.{◌≡◌, ℕ, suc, Bool, ◌+◌, ◌<◌, ◌≤◌, List, [], ◌∷◌, length, drop, refl, ap, ap₂, ◌∙◌, add-one, if◌then◌else◌, slice_index, drop-cons, eq-eqb, drop_all, differing_line}
 use Rattle.line_diff.specs.Lines.{ends_line}
-use Rattle.lsp_replay.specs.Notes.{differing_line}
 
 no_more : (line : ℕ) (text : List ℕ) → differing_line line text [] ≡ line
 no_more line [] = refl
@@ -24,8 +19,7 @@ over_byte ends line byte other text others same is = rw (eq-eqb byte other same,
 
 -- Both texts have the same byte at an index.
 pub goes_on : (ends : Bool) (line next : ℕ) (text other : List ℕ) → next < length text → next < length other
-    → slice_index text next ≡ slice_index other next
-    → ends_line (slice_index text next) (drop (suc next) text) ≡ ends
+    → slice_index text next ≡ slice_index other next → ends_line (slice_index text next) (drop (suc next) text) ≡ ends
     → differing_line line (drop next text) (drop next other)
     ≡ differing_line (if ends then line + 1 else line) (drop (next + 1) text) (drop (next + 1) other)
 goes_on ends line next text other within within_other same is =

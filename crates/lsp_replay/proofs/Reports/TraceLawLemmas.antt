@@ -1,28 +1,6 @@
 -- `trace` beside `check` and `replay`.
-use Rattle.std.proofs.Common.{◌≡◌, ℕ, Bool, true, false, List, [], ◌∷◌, ◌++◌, Option, Some, None, refl, sym, ap, ◌∙◌}
-use Rattle.std.specs.Prelude.{Err, ◌&&◌, codes, decimal, flat_map, if◌then◌else◌, option_map}
+use Rattle.lsp_replay.proofs.Prelude.{◌≡◌, ℕ, Bool, true, false, List, [], ◌∷◌, ◌++◌, Option, Some, None, refl, sym, ap, ◌∙◌, Err, ◌&&◌, codes, decimal, flat_map, if◌then◌else◌, option_map, bytes_eq-Decides, reading, DocumentItem, ErrorCode, ParseError, InvalidRequest, MethodNotFound, InvalidParams, ServerNotInitialized, entry_at, reply, changed, dropped, ignored, refused, exits, already_ended, IncomingData, incoming_of, BadLog, Record, Details, RunOutput, written_first, canonical_of_record, check_line, checking, code_word, followed_by, log_config, replaying, report_from, unless_bad, verdict_word, writes, run_output_in, Session, Verdict, answered, has_changed, recorded, bad, opened, Judged, judge, Known, known_after, nothing_known, uri_of, lines_in, is_renamed, last_in, notes_of, body_json, document_after, first_members, id_json, id_of, is_json, json_string, last_members, member, method_of, notes_json, reason_json, side_word, text_json, trace_line, tracing, version_json, within, Line, TraceLaw, checked_line, is_document, traced_line, written_text}
 use Rattle.std.specs.Str.{bytes_eq}
-use Rattle.std.proofs.lemmas.Slice.Eq.{bytes_eq-Decides}
-use Rattle.lsp_message.specs.Message.{reading}
-use Rattle.lsp_message.specs.Params.{DocumentItem}
-use Rattle.lsp_message.specs.declared.outgoing.ErrorCode.{ErrorCode}
-use Rattle.lsp_message.specs.declared.outgoing.ErrorCode.TheVariants.{ParseError, InvalidRequest, MethodNotFound, InvalidParams, ServerNotInitialized}
-use Rattle.lsp_store.specs.Table.{entry_at}
-use Rattle.lsp_server.specs.Answer.{reply, changed, dropped, ignored, refused, exits, already_ended}
-use Rattle.lsp_server.specs.Incoming.{IncomingData, incoming_of}
-use Rattle.lsp_stream.specs.declared.fault.EngineFault.TheVariants.{BadLog}
-use Rattle.lsp_log.specs.Log.{Record}
-use Rattle.lsp_replay.specs.declared.commands.traced.Details.{Details}
-use Rattle.lsp_replay.specs.RunOutput.{RunOutput, written_first}
-use Rattle.lsp_replay.specs.Commands.{canonical_of_record, check_line, checking, code_word, followed_by, log_config, replaying, report_from, unless_bad, verdict_word, writes}
-use Rattle.lsp_replay.specs.inside.Commands.{run_output_in}
-use Rattle.lsp_replay.specs.Session.{Session, Verdict, answered, has_changed, recorded, bad, opened, Judged, judge}
-use Rattle.lsp_replay.specs.Lines.{Known, known_after, nothing_known, uri_of}
-use Rattle.lsp_replay.specs.inside.Lines.{lines_in}
-use Rattle.lsp_replay.specs.Lines.{is_renamed, last_in}
-use Rattle.lsp_replay.specs.Notes.{notes_of}
-use Rattle.lsp_replay.specs.Trace.{body_json, document_after, first_members, id_json, id_of, is_json, json_string, last_members, member, method_of, notes_json, reason_json, side_word, text_json, trace_line, tracing, version_json, within}
-use Rattle.lsp_replay.specs.laws.Traced.{Line, TraceLaw, checked_line, is_document, traced_line, written_text}
 use Rattle.lsp_replay.proofs.Reports.MemberLemmas.{line_parts}
 use Rattle.lsp_replay.proofs.Records.TableLemmas.{record_keeps}
 
@@ -87,10 +65,7 @@ module _ (details : Details) (known : Known) (s : Session) (r : Record) (m : Inc
       ∷ (codes ",\"last\":", option_map decimal (last_in known uri j.verdict))
       ∷ (codes ",\"notes\":", notes_json (notes_of s known.ranged r.body j.verdict))
       ∷ (codes ",\"version\":", version_json document)
-      ∷ (
-        codes ",\"canonical\":",
-        within s.server.config.limits.max_body (canonical_of_record s r.body j.verdict),
-      )
+      ∷ (codes ",\"canonical\":", within s.server.config.limits.max_body (canonical_of_record s r.body j.verdict))
       ∷ (codes ",\"text\":", t) ∷ (codes ",\"body\":", body_json (details.bodies && is_json m) r.body) ∷ [])))
       (text_member (details.texts && has_changed j.verdict) document)
       ∙ line_parts (codes "{\"number\":") (decimal j.session.records) (codes ",\"offset\":") (decimal r.head.place)
@@ -135,8 +110,7 @@ text_in table uri = option_map (λ (entry : DocumentItem). entry.text) (entry_at
 
 -- the text in the line of an accepted record about the document
 text_there : (asked here : Bool) (table : List DocumentItem) (uri : List ℕ) (other : Option (List ℕ)) → asked ≡ true
-    → (here && is_document uri other) ≡ true
-    → text_if (asked && here) (document_after table other) ≡ text_in table uri
+    → (here && is_document uri other) ≡ true → text_if (asked && here) (document_after table other) ≡ text_in table uri
 text_there asked false table uri other is both = absurd (let wrong : false ≡ true = both in cc)
 text_there asked true table uri None is both = absurd (let wrong : false ≡ true = both in cc)
 text_there asked true table uri (Some other) is both =

@@ -1,27 +1,5 @@
 -- A line of `trace`, as it is written.
-use Rattle.std.proofs.Common.{◌≡◌, ℕ, Bool, true, false, List, [], ◌++◌, length, le-ltb, lt-ltb, Option, Some, None, refl, sym, ap, ◌∙◌, subst}
-use Rattle.std.specs.Prelude.{if◌then◌else◌}
-use Rattle.lsp_text.specs.declared.encoding.Encoding.{Encoding}
-use Rattle.lsp_message.specs.Message.{reading}
-use Rattle.lsp_server.specs.Answer.{as_sent}
-use Rattle.lsp_server.specs.Incoming.{IncomingData, incoming_of}
-use Rattle.lsp_server.specs.Step.{step_on}
-use Rattle.lsp_stream.specs.Ports.{one_more}
-use Rattle.lsp_log.specs.declared.record.Version.{Version}
-use Rattle.lsp_log.specs.declared.record.Sender.{Sender}
-use Rattle.lsp_log.specs.declared.record.Sender.TheVariants.{Client, Server}
-use Rattle.lsp_log.specs.Log.{Record}
-use Rattle.lsp_replay.specs.declared.commands.traced.Details.{Details}
-use Rattle.lsp_replay.specs.declared.facts.Facts.{Facts}
-use Rattle.lsp_replay.specs.declared.session.canonical.Appended.{Appended}
-use Rattle.lsp_replay.specs.declared.session.canonical.Appended.TheVariants.{Body, TooLong}
-use Rattle.lsp_replay.specs.declared.session.canonical.Canonical.{Canonical}
-use Rattle.lsp_replay.specs.Commands.{canonical_of_record}
-use Rattle.lsp_replay.specs.Lines.{Known, is_renamed, uri_of}
-use Rattle.lsp_replay.specs.Session.{Session, bad, Judged, judged, judge, judge_from, judge_client, judge_server, encoding_for, handled, is_ended, is_early}
-use Rattle.lsp_replay.specs.Trace.{first_members, is_json, trace_line, within}
-use Rattle.lsp_replay.specs.inside.Facts.{AreFacts, canonical_json, members_by}
-use Rattle.lsp_replay.specs.inside.Verdicts.{IsAppended}
+use Rattle.lsp_replay.proofs.Prelude.{◌≡◌, ℕ, Bool, true, false, List, [], ◌++◌, length, le-ltb, lt-ltb, Option, Some, None, refl, sym, ap, ◌∙◌, subst, if◌then◌else◌, Encoding, reading, as_sent, IncomingData, incoming_of, step_on, one_more, Version, Sender, Client, Server, Record, Details, Facts, Appended, Body, TooLong, Canonical, canonical_of_record, Known, is_renamed, uri_of, Session, bad, Judged, judged, judge, judge_from, judge_client, judge_server, encoding_for, handled, is_ended, is_early, first_members, is_json, trace_line, within, AreFacts, canonical_json, members_by, IsAppended}
 use Rattle.lsp_replay.proofs.Reports.ReasonLemmas.{reason_at}
 
 -- ---- one record more was judged

@@ -1,26 +1,7 @@
 -- What a run wrote where its input is cut, and where a write failed.
-use Rattle.std.proofs.Common.{◌≡◌, ℕ, List, [], ◌∷◌, ◌++◌, length, Bool, true, ◌<◌, Option, Some, None, Result, Ok, Err, refl, sym, ◌∙◌, ap, subst, arith, append_assoc, append-nil, inl, inr}
-use Rattle.std.proofs.lemmas.List.{length-append}
-use Rattle.std.specs.Prelude.{◌⊎◌, MatchOption, OnOk, OnErr, IfOk, IfErr}
-use Rattle.std.specs.Io.KnownBytes.{Appends}
-use Rattle.std.proofs.KnownBytes.{Appends-trans, Appends-nil}
-use Rattle.lsp_replay.specs.declared.outcome.Outcome.{Outcome}
-use Rattle.lsp_stream.specs.declared.fault.EngineFault.{EngineFault}
-use Rattle.lsp_stream.specs.declared.fault.EngineFault.TheVariants.{Read, Write, Frame, Truncated, BodyTooLong, NoMemory, TooManyTurns, BadLog}
-use Rattle.lsp_log.specs.declared.splitter.Splitter.{Splitter}
-use Rattle.lsp_stream.specs.Turns.{AppendsFront, AppendsShort}
-use Rattle.lsp_log.specs.Log.{LogRules, Record, Log, HasNoRecord, IsCut, IsUndecided, mark_of}
-use Rattle.lsp_log.specs.Splitting.{IsReady, log_at, buffered_of}
-use Rattle.lsp_log.specs.Opening.{IsUnfinished}
-use Rattle.lsp_log.specs.laws.Logs.{RestLaw}
+use Rattle.lsp_replay.proofs.Prelude.{◌≡◌, ℕ, List, [], ◌∷◌, ◌++◌, length, Bool, true, ◌<◌, Option, Some, None, Result, Ok, Err, refl, sym, ◌∙◌, ap, subst, arith, append_assoc, append-nil, inl, inr, length-append, ◌⊎◌, MatchOption, OnOk, OnErr, IfOk, IfErr, Appends, Appends-trans, Appends-nil, Outcome, EngineFault, Read, Write, Frame, Truncated, BodyTooLong, NoMemory, TooManyTurns, BadLog, Splitter, AppendsFront, AppendsShort, LogRules, Record, Log, HasNoRecord, IsCut, IsUndecided, mark_of, IsReady, log_at, buffered_of, IsUnfinished, RestLaw, RunOutput, written_first, after, last_of, Reached, AtEnd, BrokenAtEnd, RanOutAtEnd, IsHandleFault, IsLastFault, IsEndFault, IsProgress, common_steps}
 use Rattle.lsp_log.proofs.SplitLemmas.{frame_len}
-use Rattle.lsp_replay.specs.RunOutput.{RunOutput, written_first}
-use Rattle.lsp_replay.specs.inside.RunOutput.{after}
-use Rattle.lsp_replay.specs.Engine.{last_of}
-use Rattle.lsp_replay.specs.inside.Engine.{Reached, AtEnd, BrokenAtEnd, RanOutAtEnd}
-use Rattle.lsp_replay.specs.inside.Progress.{IsHandleFault, IsLastFault, IsEndFault, IsProgress}
 use Rattle.lsp_replay.proofs.Runs.WroteRecordLemmas.{IsQuiet, went_so_far}
-use Rattle.std.proofs.lemmas.Grind.{common_steps}
 
 pub empty_rest : (max_body : ℕ) (log : Log) → log.rest ≡ [] → HasNoRecord max_body log
 empty_rest max_body log nothing side raw body more is_frame_of e =
@@ -69,8 +50,7 @@ module _ (log_rules : LogRules) (run_output : List Record → RunOutput) (receiv
   went_last : (s : Splitter) (now : List Record → RunOutput) (received_now : Option (List ℕ))
       (w : IsProgress log_rules run_output received input [] s now received_now)
       → last_of run_output (log_at s w.records []) ≡ (now []).last s.line_due
-  went_last s now received_now w =
-      grind (arith, common_steps, went_whole)
+  went_last s now received_now w = grind (arith, common_steps, went_whole)
 
   went_out : (s : Splitter) (now : List Record → RunOutput) (received_now : Option (List ℕ)) → IsQuiet now
       → (w : IsProgress log_rules run_output received input [] s now received_now) → (run_output w.records).out ≡ w.out
@@ -143,8 +123,7 @@ module _ (log_rules : LogRules) (run_output : List Record → RunOutput) (receiv
       → IsQuiet now → Appends received_now received_new []
       → IsProgress log_rules run_output received input [] s now received_now → Reached log_rules run_output input
       received received_new (λ _. Unit {0})
-  went_whole_records s now received_now received_new quiet nothing w =
-      grind (arith, common_steps, went_so_far)
+  went_whole_records s now received_now received_new quiet nothing w = grind (arith, common_steps, went_so_far)
 
 -- Bytes that are short of some bytes are short of more.
 pub still_short : (unflushed : Bool) (some more : List ℕ) → (0 < length some) ⊎ (unflushed ≡ true)
@@ -183,8 +162,7 @@ record_out old new r out (Some outcome) is silent = ap (λ (c : RunOutput). c.ou
 pub write_fault : (unflushed : Bool) (old new : List Record → RunOutput) (received_old received_new : Option (List ℕ))
     (r : Record) (bytes out : List ℕ) (end : Option Outcome) (fault : EngineFault)
     → ((more : List Record) → old (r ∷ more) ≡ after out end (new more)) → (new []).out ≡ [] → bytes ≡ out
-    → (fault ≡ Write) ⊎ (fault ≡ TooManyTurns)
-    → AppendsFront received_old received_new bytes
+    → (fault ≡ Write) ⊎ (fault ≡ TooManyTurns) → AppendsFront received_old received_new bytes
     → (fault ≡ TooManyTurns → AppendsShort unflushed received_old received_new bytes)
     → IsHandleFault old unflushed received_old received_new r fault
 write_fault unflushed old new received_old received_new r bytes out end fault writes silent is (inl at) front short =

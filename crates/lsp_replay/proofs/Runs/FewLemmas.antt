@@ -1,12 +1,5 @@
 -- How many calls a run made, by how many the reader and the writer had left.
-use Rattle.std.proofs.Common.{◌≡◌, false, Result, Ok, Err, ap, arith}
-use Rattle.std.specs.Prelude.{◌≢◌, IfErr, OnOk}
-use Rattle.lsp_replay.specs.declared.outcome.Outcome.{Outcome}
-use Rattle.lsp_stream.specs.declared.fault.EngineFault.{EngineFault}
-use Rattle.lsp_stream.specs.declared.fault.EngineFault.TheVariants.{Write}
-use Rattle.lsp_stream.specs.Ports.{FewReads, FewWrites, Ports, ReaderState, WriterState}
-use Rattle.lsp_replay.specs.Engine.{FewCalls}
-use Rattle.std.proofs.lemmas.Grind.{common_steps}
+use Rattle.lsp_replay.proofs.Prelude.{◌≡◌, false, Result, Ok, Err, ap, arith, ◌≢◌, IfErr, OnOk, Outcome, EngineFault, Write, FewReads, FewWrites, Ports, ReaderState, WriterState, FewCalls, common_steps}
 
 -- more reads, where the last one wasn't at the end
 pub more_reads : (before mid after : ReaderState) → FewReads before mid → mid.ended ≡ false → FewReads mid after
@@ -16,8 +9,7 @@ more_reads before mid after few goes_on more = record {
   not_ended = λ still. omega (arith, few.not_ended goes_on, more.not_ended still);
 }
 
-pub more_writes : (before mid after : WriterState) → FewWrites before mid → FewWrites mid after
-    → FewWrites before after
+pub more_writes : (before mid after : WriterState) → FewWrites before mid → FewWrites mid after → FewWrites before after
 more_writes before mid after few more = omega (arith, few, more)
 
 -- when a fault came
@@ -42,5 +34,4 @@ pub few_result : (before after : Ports) (mid : WriterState) (r : Result Outcome 
     → IfErr r (λ fault. fault ≢ Write → FewWrites mid after.writer) → FewCalls before after r
 few_result before after mid (Ok outcome) reads writes ok error =
     few_ok before after outcome reads (more_writes before.writer mid after.writer writes ok)
-few_result before after mid (Err fault) reads writes ok error =
-    grind (arith, common_steps, few_fault, more_writes)
+few_result before after mid (Err fault) reads writes ok error = grind (arith, common_steps, few_fault, more_writes)

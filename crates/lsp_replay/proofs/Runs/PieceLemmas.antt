@@ -1,30 +1,8 @@
 -- A run between two reads, and its end.
-use Rattle.std.proofs.Common.{◌≡◌, ℕ, ◌+◌, ◌-◌, ◌<◌, ◌≤◌, ◌^◌, Bool, true, false, List, [], ◌∷◌, ◌++◌, length, take, drop, Option, Result, Ok, Err, refl, sym, ◌∙◌, ap, subst, arith, append_assoc, append-nil, inl, inr, ◌⊎◌, ◌||◌}
-use Rattle.std.specs.Prelude.{min, nat_eq, IfOk, IfErr}
-use Rattle.std.proofs.lemmas.List.{length-append, length-take, drop-take, take-append-drop}
-use Rattle.std.specs.Io.KnownBytes.{Consumes, Appends, Keeps}
-use Rattle.std.proofs.KnownBytes.{Appends-nil, Consumes-trans, Consumes-kept}
-use Rattle.lsp_frame.specs.Faults.{place_after}
-use Rattle.lsp_frame.specs.Frame.{IsFrameOf}
-use Rattle.lsp_frame.specs.Header.{lines_bytes}
+use Rattle.lsp_replay.proofs.Prelude.{◌≡◌, ℕ, ◌+◌, ◌-◌, ◌<◌, ◌≤◌, ◌^◌, Bool, true, false, List, [], ◌∷◌, ◌++◌, length, take, drop, Option, Result, Ok, Err, refl, sym, ◌∙◌, ap, subst, arith, append_assoc, append-nil, inl, inr, ◌⊎◌, ◌||◌, min, nat_eq, IfOk, IfErr, length-append, length-take, drop-take, take-append-drop, Consumes, Appends, Keeps, Appends-nil, Consumes-trans, Consumes-kept, place_after, IsFrameOf, lines_bytes, Outcome, EngineFault, Read, Write, Frame, Truncated, BodyTooLong, NoMemory, TooManyTurns, BadLog, Version, One, Two, Splitter, LogRules, Record, IsVersion, IsUndecided, line_of, version_line, together, record_bytes, IsLineFront, IsBelowLine, IsUnfinished, IsReady, IsOpen, IsAfter, buffered_of, RestLaw, RunOutput, PortState, WroteRecords, IsPieceFault, Reached, Stopped, AtEnd, Ran, IsRunFault, IsProgress, Runs, IsEndFault, common_steps}
 use Rattle.lsp_frame.proofs.FrameLemmas.{or-true}
-use Rattle.lsp_replay.specs.declared.outcome.Outcome.{Outcome}
-use Rattle.lsp_stream.specs.declared.fault.EngineFault.{EngineFault}
-use Rattle.lsp_stream.specs.declared.fault.EngineFault.TheVariants.{Read, Write, Frame, Truncated, BodyTooLong, NoMemory, TooManyTurns, BadLog}
-use Rattle.lsp_log.specs.declared.record.Version.{Version}
-use Rattle.lsp_log.specs.declared.record.Version.TheVariants.{One, Two}
-use Rattle.lsp_log.specs.declared.splitter.Splitter.{Splitter}
-use Rattle.lsp_log.specs.Log.{LogRules, Record, IsVersion, IsUndecided, line_of, version_line, together, record_bytes}
-use Rattle.lsp_log.specs.Opening.{IsLineFront, IsBelowLine, IsUnfinished}
-use Rattle.lsp_log.specs.Splitting.{IsReady, IsOpen, IsAfter, buffered_of}
-use Rattle.lsp_log.specs.laws.Logs.{RestLaw}
-use Rattle.lsp_replay.specs.RunOutput.{RunOutput}
-use Rattle.lsp_replay.specs.Engine.{PortState, WroteRecords}
-use Rattle.lsp_replay.specs.inside.Engine.{IsPieceFault, Reached, Stopped, AtEnd, Ran, IsRunFault}
-use Rattle.lsp_replay.specs.inside.Progress.{IsProgress, Runs, IsEndFault}
 use Rattle.lsp_replay.proofs.Runs.EngineLemmas.{went_read}
 use Rattle.lsp_replay.proofs.Runs.WroteRecordLemmas.{IsQuiet}
-use Rattle.std.proofs.lemmas.Grind.{common_steps}
 
 together_more : (version : Version) (rs : List Record) (rest more : List ℕ) → together version rs (rest ++ more)
     ≡ together version rs rest ++ more
@@ -83,8 +61,7 @@ module _ (log_rules : LogRules) (run_output : List Record → RunOutput) (left r
   -- at the start
   pub runs_at_start : (left_now : Option (List ℕ)) (ended : Bool) (len place size : ℕ) (buf : List ℕ) (s : Splitter)
       (version : Version) → len ≤ length buf → len < 2 ^ 64 → size ≡ length (line_of version) → place ≡ len → s.version
-      ≡ version
-      → Consumes left left_now (take len buf)
+      ≡ version → Consumes left left_now (take len buf)
       → ((more : List ℕ) → (ended ≡ true → more ≡ []) → IsVersion log_rules.versions version (take len buf ++ more))
       → length (line_of version) ≤ len → take len buf ≡ line_of version ++ drop (length (line_of version))
       (take len buf)
@@ -206,8 +183,7 @@ module _ (log_rules : LogRules) (run_output : List Record → RunOutput) (left r
 
   pub ran_to_end : (left_now : Option (List ℕ)) (ended : Bool) (state : PortState) (place : ℕ) (s : Splitter)
       (now : List Record → RunOutput) (received_now received_new : Option (List ℕ)) (outcome : Outcome) → state.ended
-      ≡ true
-      → ((input : List ℕ) → IsProgress log_rules run_output received input [] s now received_now
+      ≡ true → ((input : List ℕ) → IsProgress log_rules run_output received input [] s now received_now
       → AtEnd log_rules run_output input received received_new outcome)
       → Runs log_rules run_output left received left_now ended place [] s now received_now
       → Ran log_rules run_output state left left_now received received_new (Ok outcome)
@@ -252,8 +228,7 @@ module _ (log_rules : LogRules) (run_output : List Record → RunOutput) (left r
 
   pub ran_into_end_fault : (left_now : Option (List ℕ)) (ended : Bool) (state : PortState) (place : ℕ) (s : Splitter)
       (now : List Record → RunOutput) (received_now received_new : Option (List ℕ)) (fault : EngineFault) → state.ended
-      ≡ true
-      → ((input : List ℕ) → IsProgress log_rules run_output received input [] s now received_now
+      ≡ true → ((input : List ℕ) → IsProgress log_rules run_output received input [] s now received_now
       → IsEndFault log_rules run_output state.unflushed input received received_new place fault)
       → Runs log_rules run_output left received left_now ended place [] s now received_now
       → Ran log_rules run_output state left left_now received received_new (Err fault)
@@ -272,8 +247,7 @@ module _ (log_rules : LogRules) (run_output : List Record → RunOutput) (left r
       received_new fault
   read_fault state input received_new fault (inl is) failed not_ended reached =
       subst (IsRunFault log_rules run_output state input received received_new) (sym is) (failed is, reached)
-  read_fault state input received_new fault (inr is) failed not_ended reached =
-      grind (arith, common_steps, inr)
+  read_fault state input received_new fault (inr is) failed not_ended reached = grind (arith, common_steps, inr)
 
   pub ran_unread : (left_now left_new : Option (List ℕ)) (ended : Bool) (state : PortState) (place : ℕ) (s : Splitter)
       (now : List Record → RunOutput) (received_now : Option (List ℕ)) (fault : EngineFault) → RestLaw → IsReady s

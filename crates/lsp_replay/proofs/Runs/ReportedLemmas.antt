@@ -1,19 +1,6 @@
 -- The statement of a run case by case says the same as the one by its output and a cause.
-use Rattle.std.proofs.Common.{◌≡◌, ◌⊎◌, inl, inr, ℕ, ◌<◌, Bool, true, false, List, [], ◌∷◌, ◌++◌, length, Option, Some, None, refl, sym, ap, ◌∙◌, append_assoc, append-nil, arith}
-use Rattle.std.specs.Prelude.{Result, Ok, Err}
-use Rattle.std.specs.Io.KnownBytes.{Appends}
-use Rattle.lsp_frame.specs.declared.fault.FrameFault.{FrameFault}
-use Rattle.lsp_frame.proofs.WrittenLemmas.{written_is_frame}
-use Rattle.lsp_replay.specs.declared.outcome.Outcome.{Outcome}
-use Rattle.lsp_stream.specs.declared.fault.EngineFault.{EngineFault}
-use Rattle.lsp_stream.specs.declared.fault.EngineFault.TheVariants.{Read, Write, Frame, Truncated, BodyTooLong, NoMemory, TooManyTurns, BadLog}
-use Rattle.lsp_log.specs.Log.{LogRules, Record, Log, IsMalformed, IsBadMark}
-use Rattle.lsp_replay.specs.RunOutput.{RunOutput}
-use Rattle.lsp_replay.specs.Engine.{PortState, all_of, last_of}
-use Rattle.lsp_replay.specs.AllRecords.{IsCause, IsObserved, is_cut_off, last_if}
-use Rattle.lsp_replay.specs.inside.AllRecords.{EndedBy, IsFaultReported, IsFirstPart, IsRunReport, IsShort, Passed}
+use Rattle.lsp_replay.proofs.Prelude.{◌≡◌, ◌⊎◌, inl, inr, ℕ, ◌<◌, Bool, true, false, List, [], ◌∷◌, ◌++◌, length, Option, Some, None, refl, sym, ap, ◌∙◌, append_assoc, append-nil, arith, Result, Ok, Err, Appends, FrameFault, written_is_frame, Outcome, EngineFault, Read, Write, Frame, Truncated, BodyTooLong, NoMemory, TooManyTurns, BadLog, LogRules, Record, Log, IsMalformed, IsBadMark, RunOutput, PortState, all_of, last_of, IsCause, IsObserved, is_cut_off, last_if, EndedBy, IsFaultReported, IsFirstPart, IsRunReport, IsShort, Passed, common_steps}
 use Rattle.lsp_replay.proofs.Runs.EngineLemmas.{still_short}
-use Rattle.std.proofs.lemmas.Grind.{common_steps}
 
 -- ---- is the output at the end due?
 
@@ -116,29 +103,25 @@ module _ (log_rules : LogRules) (run_output : List Record → RunOutput) (state 
   of_end : (result : Result Outcome EngineFault) (answer : Result Outcome EngineFault)
       → EndedBy run_output old new answer all → (output.stop ≡ Some answer → Cause output.out [] result)
       → Reported result
-  of_end result answer ended cause =
-      grind (arith, common_steps, of_records, stopped_none)
+  of_end result answer ended cause = grind (arith, common_steps, of_records, stopped_none)
 
   of_passed : (result : Result Outcome EngineFault) → (all.rest ≡ [] → ⊥) → Passed run_output old new all
       → (output.stop ≡ None → Cause output.out [] result) → Reported result
-  of_passed result some passed cause =
-      grind (arith, common_steps, of_records, rest_none)
+  of_passed result some passed cause = grind (arith, common_steps, of_records, rest_none)
 
   of_first_part : (result : Result Outcome EngineFault) → is_cut_off result ≡ true
       → ((written left : List ℕ) → Cause written left result) → IsFirstPart run_output state.ended old new all
       → Reported result
   of_first_part result cut cause (inl front) =
       of_front result cut front.0 front.1 front.2 front.3 (cause front.0 (front.1 ++ at_end))
-  of_first_part result cut cause (inr at) =
-      grind (arith, common_steps, of_all)
+  of_first_part result cut cause (inr at) = grind (arith, common_steps, of_all)
 
   -- a turn was needed
   still_needed : (left more : List ℕ) → (0 < length left) ⊎ (state.unflushed ≡ true)
       → (0 < length (left ++ more)) ⊎ (state.unflushed ≡ true)
   still_needed left more short = still_short state.unflushed left more short
 
-  needs : (written left : List ℕ) → (0 < length left) ⊎ (state.unflushed ≡ true)
-      → Cause written left (Err TooManyTurns)
+  needs : (written left : List ℕ) → (0 < length left) ⊎ (state.unflushed ≡ true) → Cause written left (Err TooManyTurns)
   needs written left (inl long) = inl long
   needs written left (inr unflushed) = inr (inl unflushed)
 
@@ -146,16 +129,14 @@ module _ (log_rules : LogRules) (run_output : List Record → RunOutput) (state 
   of_short (inl short) =
       of_front (Err TooManyTurns) refl short.0 short.1 short.2 short.3
       (needs short.0 (short.1 ++ at_end) (still_needed short.1 at_end short.4))
-  of_short (inr (inl at)) =
-      grind (arith, common_steps, of_all)
+  of_short (inr (inl at)) = grind (arith, common_steps, of_all)
   of_short (inr (inr at)) =
       of_front (Err TooManyTurns) refl output.out [] (sym (append-nil output.out)) at.2.wrote
       (inr (inr (at.0, refl, at.2.continues, at.1)))
 
   of_fault : (fault : EngineFault) → IsFaultReported log_rules run_output state input old new all fault
       → Reported (Err fault)
-  of_fault Read r =
-      grind (arith, common_steps, of_records, open_none)
+  of_fault Read r = grind (arith, common_steps, of_records, open_none)
   of_fault Write r = of_first_part (Err Write) refl (λ written left. tt) r
   of_fault (Frame fault) r =
       of_passed (Err (Frame fault)) (malformed_some log_rules.max_body input fault all r.0) r.1 (λ on. (on, r.0))

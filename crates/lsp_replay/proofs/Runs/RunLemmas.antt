@@ -1,20 +1,6 @@
 -- The faults, the turns and the calls of a run.
-use Rattle.std.proofs.Common.{◌≡◌, ℕ, ◌≤◌, Bool, true, false, List, Option, Result, Ok, Err, refl, sym, ◌∙◌, ap, subst, arith, inl, inr, ◌⊎◌, ◌||◌, not}
-use Rattle.std.specs.Prelude.{◌≢◌, nat_eq, IfErr, OnOk}
-use Rattle.std.specs.Io.KnownBytes.{IsAtEnd}
-use Rattle.std.proofs.lemmas.Bool.{eqb-true}
-use Rattle.lsp_replay.specs.declared.outcome.Outcome.{Outcome}
-use Rattle.lsp_stream.specs.declared.fault.EngineFault.{EngineFault}
-use Rattle.lsp_stream.specs.declared.fault.EngineFault.TheVariants.{Read, Write, TooManyTurns}
-use Rattle.lsp_log.specs.Log.{LogRules, Record}
-use Rattle.lsp_replay.specs.RunOutput.{RunOutput}
-use Rattle.lsp_replay.specs.Engine.{Called, NonePassedOver}
-use Rattle.lsp_replay.specs.inside.Engine.{IsPieceFault}
-use Rattle.lsp_replay.specs.inside.Progress.{BothSpend}
-use Rattle.lsp_stream.specs.Ports.{Rose}
-use Rattle.lsp_stream.specs.Turns.{Spends, StaysWell, StaysFlushed}
+use Rattle.lsp_replay.proofs.Prelude.{◌≡◌, ℕ, ◌≤◌, Bool, true, false, List, Option, Result, Ok, Err, refl, sym, ◌∙◌, ap, subst, arith, inl, inr, ◌⊎◌, ◌||◌, not, ◌≢◌, nat_eq, IfErr, OnOk, IsAtEnd, eqb-true, Outcome, EngineFault, Read, Write, TooManyTurns, LogRules, Record, RunOutput, Called, NonePassedOver, IsPieceFault, BothSpend, Rose, Spends, StaysWell, StaysFlushed, common_steps}
 use Rattle.lsp_replay.proofs.Runs.PieceLemmas.{ended_not}
-use Rattle.std.proofs.lemmas.Grind.{common_steps}
 
 -- Which calls were made when a fault came.
 pub called_fault : (reads_old reads_new writes_old writes_new allowed turns : ℕ) (read_failed write_failed ended : Bool)

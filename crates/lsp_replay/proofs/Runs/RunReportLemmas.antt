@@ -1,29 +1,5 @@
 -- What an engine wrote and answered is told by all the records that are whole in the bytes that it read.
-use Rattle.std.proofs.Common.{◌≡◌, ◌≢◌, ◌⊎◌, inl, inr, ℕ, Bool, true, false, List, [], ◌∷◌, ◌++◌, drop, Option, Some, None, refl, sym, ap, ◌∙◌, subst, append_assoc, append-nil}
-use Rattle.std.specs.Prelude.{Result, Ok, Err, MatchResult}
-use Rattle.std.specs.Io.KnownBytes.{Appends}
-use Rattle.lsp_frame.specs.declared.fault.FrameFault.{FrameFault}
-use Rattle.lsp_replay.specs.declared.outcome.Outcome.{Outcome}
-use Rattle.lsp_stream.specs.declared.fault.EngineFault.{EngineFault}
-use Rattle.lsp_stream.specs.declared.fault.EngineFault.TheVariants.{Read, Write, Frame, Truncated, BodyTooLong, NoMemory, TooManyTurns, BadLog}
-use Rattle.lsp_log.specs.declared.record.Version.{Version}
-use Rattle.lsp_log.specs.declared.record.Version.TheVariants.{One, Two}
-use Rattle.lsp_log.specs.declared.record.Sender.{Sender}
-use Rattle.lsp_log.specs.declared.record.Sender.TheVariants.{Client, Server}
-use Rattle.lsp_stream.specs.Ports.{Ports}
-use Rattle.lsp_stream.specs.Turns.{AppendsFront, AppendsShort}
-use Rattle.lsp_log.specs.Log.{LogRules, Record, Log, IsVersion, IsReadAs, HasNoRecord, IsCut, IsMalformed, IsBadMark, mark_of}
-use Rattle.lsp_replay.specs.RunOutput.{RunOutput}
-use Rattle.lsp_replay.specs.Session.{Session, judge}
-use Rattle.lsp_replay.specs.Engine.{PortState, WroteRecords}
-use Rattle.lsp_replay.specs.inside.Engine.{IsLoopRun, Ran, Reached, Stopped, Broken, RanOut, RanOutAtEnd, AtEnd, BreaksAtEnd, IsRunFault, RefusesInput}
-use Rattle.lsp_replay.specs.Commands.{View, followed_by, output_in}
-use Rattle.lsp_replay.specs.Run.{IsEngineRun}
-use Rattle.lsp_replay.specs.AllRecords.{RanOver}
-use Rattle.lsp_replay.specs.inside.AllRecords.{EndedBy, Passed, PassedEnd, CutAtEnd, ShortAtEnd, IsFaultReported, IsRunReport}
-use Rattle.lsp_log.specs.Opening.{IsUnfinished}
-use Rattle.lsp_log.specs.laws.Logs.{IsFirstOf, FirstLaw, VersionLaw}
-use Rattle.lsp_log.proofs.UniqueLemmas.{first_byte}
+use Rattle.lsp_replay.proofs.Prelude.{◌≡◌, ◌≢◌, ◌⊎◌, inl, inr, ℕ, Bool, true, false, List, [], ◌∷◌, ◌++◌, drop, Option, Some, None, refl, sym, ap, ◌∙◌, subst, append_assoc, append-nil, Result, Ok, Err, MatchResult, Appends, FrameFault, Outcome, EngineFault, Read, Write, Frame, Truncated, BodyTooLong, NoMemory, TooManyTurns, BadLog, Version, One, Two, Sender, Client, Server, Ports, AppendsFront, AppendsShort, LogRules, Record, Log, IsVersion, IsReadAs, HasNoRecord, IsCut, IsMalformed, IsBadMark, mark_of, RunOutput, Session, judge, PortState, WroteRecords, IsLoopRun, Ran, Reached, Stopped, Broken, RanOut, RanOutAtEnd, AtEnd, BreaksAtEnd, IsRunFault, RefusesInput, View, followed_by, output_in, IsEngineRun, RanOver, EndedBy, Passed, PassedEnd, CutAtEnd, ShortAtEnd, IsFaultReported, IsRunReport, IsUnfinished, IsFirstOf, FirstLaw, VersionLaw, first_byte}
 use Rattle.lsp_replay.proofs.Runs.EngineLemmas.{empty_rest, still_short}
 use Rattle.lsp_replay.proofs.Runs.ReportedLemmas.{by_cause}
 
@@ -347,8 +323,7 @@ pub run_of : {State : Type 0} → FirstLaw → VersionLaw → (view : View State
     (in_parts : Bool) {log_rules : LogRules} {flushes : Bool} {max_turns : ℕ} {before after : Ports}
     {result : Result Outcome EngineFault}
     → IsLoopRun log_rules (output_in view state s) flushes max_turns before after result
-    → NoneCut in_parts log_rules (output_in view state s) before after result
-    → IsEngineRun (record {
+    → NoneCut in_parts log_rules (output_in view state s) before after result → IsEngineRun (record {
       log_rules = log_rules;
       run_output = output_in view state s;
       flushes = flushes;

@@ -1,23 +1,5 @@
 -- What an engine wrote where it came to the end of a log.
-use Rattle.std.proofs.Common.{◌≡◌, ◌≢◌, ℕ, Bool, true, false, List, [], ◌∷◌, ◌++◌, length, Option, Some, None, sym, subst, ◌∙◌, ⊎_elim, nat_lt, codes}
-use Rattle.std.specs.Prelude.{⊤, if◌then◌else◌, Result, Ok, Err, IfOk}
-use Rattle.std.specs.Io.KnownBytes.{Consumes}
-use Rattle.lsp_frame.specs.Frame.{frame}
-use Rattle.lsp_frame.specs.Limits.{AreInRange}
-use Rattle.lsp_replay.specs.declared.commands.Settings.{Settings}
-use Rattle.lsp_replay.specs.declared.outcome.Outcome.{Outcome}
-use Rattle.lsp_stream.specs.declared.fault.EngineFault.{EngineFault}
-use Rattle.lsp_stream.specs.declared.fault.EngineFault.TheVariants.{BodyTooLong}
-use Rattle.lsp_log.specs.Log.{LogRules, Record}
-use Rattle.lsp_replay.specs.RunOutput.{RunOutput}
-use Rattle.lsp_replay.specs.Session.{Session, Verdict, answered, recorded, bad, judge, opened}
-use Rattle.lsp_replay.specs.Engine.{PortState, all_of}
-use Rattle.lsp_replay.specs.inside.Engine.{Ran, AtEnd, Stopped}
-use Rattle.lsp_replay.specs.Commands.{RecordOutput, writes, ends, followed_by, unless_bad, normalising, written, canonical_of_record, front_of, canonical_output, converting, line_before, reply_record, as_log, as_converted, log_config, canonical_log, converted, report}
-use Rattle.lsp_replay.specs.inside.Commands.{run_output_in}
-use Rattle.lsp_replay.specs.laws.Written.{IsCanonicalLog, IsConverted, IsSquashed, Wrote}
-use Rattle.lsp_replay.specs.Squashed.{normalised, normalised_if, squashed}
-use Rattle.lsp_replay.specs.inside.Squashed.{squashed_steps}
+use Rattle.lsp_replay.proofs.Prelude.{◌≡◌, ◌≢◌, ℕ, Bool, true, false, List, [], ◌∷◌, ◌++◌, length, Option, Some, None, sym, subst, ◌∙◌, ⊎_elim, nat_lt, codes, ⊤, if◌then◌else◌, Result, Ok, Err, IfOk, Consumes, frame, AreInRange, Settings, Outcome, EngineFault, BodyTooLong, LogRules, Record, RunOutput, Session, Verdict, answered, recorded, bad, judge, opened, PortState, all_of, Ran, AtEnd, Stopped, RecordOutput, writes, ends, followed_by, unless_bad, normalising, written, canonical_of_record, front_of, canonical_output, converting, line_before, reply_record, as_log, as_converted, log_config, canonical_log, converted, report, run_output_in, IsCanonicalLog, IsConverted, IsSquashed, Wrote, normalised, normalised_if, squashed, squashed_steps}
 use Rattle.lsp_replay.proofs.Squash.SeriesLemmas.{squashed_is}
 use Rattle.lsp_replay.proofs.Squash.SquashedLemmas.{stops_alike}
 use Rattle.lsp_replay.proofs.Squash.SquashedLogLemmas.{squashed_law}

@@ -1,24 +1,7 @@
 -- What a run wrote, record by record.
-use Rattle.std.proofs.Common.{◌≡◌, ℕ, ◌+◌, ◌-◌, ◌≤◌, List, [], ◌∷◌, ◌++◌, length, take, drop, Bool, Option, Some, None, Result, Ok, Err, refl, sym, ◌∙◌, ap, subst, arith, append_assoc, append-nil, inl, inr}
-use Rattle.std.proofs.lemmas.List.{drop-drop}
+use Rattle.lsp_replay.proofs.Prelude.{◌≡◌, ℕ, ◌+◌, ◌-◌, ◌≤◌, List, [], ◌∷◌, ◌++◌, length, take, drop, Bool, Option, Some, None, Result, Ok, Err, refl, sym, ◌∙◌, ap, subst, arith, append_assoc, append-nil, inl, inr, drop-drop, MatchOption, Appends, Appends-trans, IsFrameOf, Outcome, EngineFault, Read, Write, Frame, Truncated, BodyTooLong, NoMemory, TooManyTurns, BadLog, Head, Splitter, AppendsFront, AppendsShort, LogRules, Record, Log, IsReadAs, IsFed, IsAfter, IsSplitFault, log_at, record_head, record_at, BufferedLaw, RunOutput, written_first, IsPieceFault, Reached, Stopped, Broken, RanOut, common_steps}
 use Rattle.std.proofs.lemmas.Slice.{between_to_end}
-use Rattle.std.specs.Prelude.{MatchOption}
-use Rattle.std.specs.Io.KnownBytes.{Appends}
-use Rattle.std.proofs.KnownBytes.{Appends-trans}
-use Rattle.lsp_frame.specs.Frame.{IsFrameOf}
-use Rattle.lsp_replay.specs.declared.outcome.Outcome.{Outcome}
-use Rattle.lsp_stream.specs.declared.fault.EngineFault.{EngineFault}
-use Rattle.lsp_stream.specs.declared.fault.EngineFault.TheVariants.{Read, Write, Frame, Truncated, BodyTooLong, NoMemory, TooManyTurns, BadLog}
-use Rattle.lsp_log.specs.declared.record.Head.{Head}
-use Rattle.lsp_log.specs.declared.splitter.Splitter.{Splitter}
-use Rattle.lsp_stream.specs.Turns.{AppendsFront, AppendsShort}
-use Rattle.lsp_log.specs.Log.{LogRules, Record, Log, IsReadAs}
-use Rattle.lsp_log.specs.Splitting.{IsFed, IsAfter, IsSplitFault, log_at, record_head, record_at}
-use Rattle.lsp_log.specs.laws.Logs.{BufferedLaw}
-use Rattle.lsp_replay.specs.RunOutput.{RunOutput, written_first}
-use Rattle.lsp_replay.specs.inside.Engine.{IsPieceFault, Reached, Stopped, Broken, RanOut}
 use Rattle.lsp_replay.specs.inside.Progress.{Continues, Ends, IsHandled, IsHandleFault, IsProgress}
-use Rattle.std.proofs.lemmas.Grind.{common_steps}
 
 -- Without more records nothing more is written, and the run goes on.
 pub record IsQuiet (now : List Record → RunOutput) : Type 0 where
@@ -50,8 +33,7 @@ module _ (log_rules : LogRules) (run_output : List Record → RunOutput) (receiv
       (w : IsProgress log_rules run_output received input more s now received_now)
       → IsReadAs log_rules input log → log.records ≡ w.records ++ r ∷ [] → Ends now received_now received_new r answer
       → Stopped log_rules run_output input received received_new answer
-  went_to_end log more s now received_now received_new r answer w reads is ends =
-      grind (arith, common_steps)
+  went_to_end log more s now received_now received_new r answer w reads is ends = grind (arith, common_steps)
 
   -- nothing was written since
   pub went_so_far : (more : List ℕ) (s : Splitter) (now : List Record → RunOutput)
@@ -59,8 +41,7 @@ module _ (log_rules : LogRules) (run_output : List Record → RunOutput) (receiv
       (w : IsProgress log_rules run_output received input more s now received_now)
       → IsQuiet now → Appends received_now received_new [] → IsRest (log_at s w.records more)
       → Reached log_rules run_output input received received_new IsRest
-  went_so_far more s now received_now received_new IsRest w quiet nothing rest =
-      grind (arith, common_steps, append-nil)
+  went_so_far more s now received_now received_new IsRest w quiet nothing rest = grind (arith, common_steps, append-nil)
 
   broken_at : (log : Log) (more : List ℕ) (s : Splitter) (now : List Record → RunOutput)
       (received_now received_new : Option (List ℕ)) (r : Record)
@@ -195,8 +176,7 @@ module _ (log_rules : LogRules) (run_output : List Record → RunOutput) (receiv
   pub went_fed : (piece bytes : List ℕ) (at k : ℕ) (s n : Splitter) (now : List Record → RunOutput)
       (received_now : Option (List ℕ)) → at ≤ length piece → bytes ≡ take (length piece - at) (drop at piece)
       → ((records : List Record) → IsAfter log_rules input bytes records s → IsAfter log_rules input (drop k bytes)
-      records n)
-      → IsProgress log_rules run_output received input (drop at piece) s now received_now
+      records n) → IsProgress log_rules run_output received input (drop at piece) s now received_now
       → IsProgress log_rules run_output received input (drop (at + k) piece) n now received_now
   went_fed piece bytes at k s n now received_now within is fed w =
       grind (arith, common_steps, between_to_end, drop-drop)

@@ -1,27 +1,7 @@
 -- A change that begins a series.
-use Rattle.std.proofs.Common.{◌≡◌, ℕ, ◌≤◌, Bool, List, [], ◌∷◌, ◌++◌, map, length, Option, Some, None, refl, sym, ap, ap₂, ◌∙◌, subst, append_assoc, append-nil}
-use Rattle.std.specs.Str.{chars}
-use Rattle.lsp_frame.specs.Frame.{frame}
-use Rattle.lsp_frame.specs.Limits.{LimitsData, AreInRange}
-use Rattle.lsp_text.specs.Units.{units_in}
-use Rattle.lsp_edit.proofs.Composing.EditedLemmas.{plain_text}
-use Rattle.lsp_message.specs.Params.{DocumentItem, ChangeData}
-use Rattle.lsp_store.specs.Squash.{squash_of}
-use Rattle.lsp_store.specs.Table.{entry_at}
-use Rattle.lsp_server.specs.Step.{ServerData, content_change_from_data, session_encoding}
-use Rattle.lsp_log.specs.declared.record.Version.{Version}
-use Rattle.lsp_log.specs.declared.record.Sender.TheVariants.{Client}
-use Rattle.lsp_log.specs.Log.{Record, record_bytes, mark_of}
-use Rattle.lsp_log.specs.declared.record.Sender.{Sender}
-use Rattle.lsp_store.proofs.WithinLemmas.{within_at}
-use Rattle.lsp_store.proofs.GreaterLemmas.{MayChange, change_parts}
-use Rattle.lsp_store.specs.laws.Tables.{IsWithin}
+use Rattle.lsp_replay.proofs.Prelude.{◌≡◌, ℕ, ◌≤◌, Bool, List, [], ◌∷◌, ◌++◌, map, length, Option, Some, None, refl, sym, ap, ap₂, ◌∙◌, subst, append_assoc, append-nil, chars, frame, LimitsData, AreInRange, units_in, plain_text, DocumentItem, ChangeData, squash_of, entry_at, ServerData, content_change_from_data, session_encoding, Version, Client, Record, record_bytes, mark_of, Sender, within_at, MayChange, change_parts, IsWithin, front_of, line_if, canonical_change_body, server_after, Session, judge, OpenSeries, end_bytes, joined_by, squash_step}
 use Rattle.lsp_replay.proofs.Squash.JoiningLemmas.{uri_at}
 use Rattle.lsp_replay.proofs.Squash.SingleLemmas.{IsSingle, is_single, single_record}
-use Rattle.lsp_replay.specs.Commands.{front_of, line_if, canonical_change_body}
-use Rattle.lsp_replay.specs.inside.Joining.{server_after}
-use Rattle.lsp_replay.specs.Session.{Session, judge}
-use Rattle.lsp_replay.specs.inside.Squashed.{OpenSeries, end_bytes, joined_by, squash_step}
 use Rattle.lsp_replay.proofs.Records.ChangeLemmas.{IsAccepted, IsDone, is_done, proper_change, session_after}
 use Rattle.lsp_replay.proofs.Records.NumberedLemmas.{IsAlike, alike_both, numbered}
 use Rattle.lsp_replay.proofs.Squash.OpenSeriesLemmas.{IsOpenFrom, begins_from}

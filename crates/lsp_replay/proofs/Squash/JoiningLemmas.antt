@@ -1,24 +1,7 @@
 -- A change that is accepted is joined to the batches of the open series, or begins batches of its own.
-use Rattle.std.proofs.Common.{◌≡◌, ◌≢◌, ℕ, true, false, List, [], ◌∷◌, map, Option, Some, None, bytes_eq, refl, sym, ap, ◌∙◌, subst, ⊎_elim}
-use Rattle.std.proofs.lemmas.Bool.{cases_Bool}
-use Rattle.std.proofs.lemmas.Slice.Eq.{bytes_eq-Decides}
-use Rattle.lsp_text.specs.Units.{units_in}
-use Rattle.lsp_text.specs.declared.encoding.Encoding.{Encoding}
-use Rattle.lsp_message.specs.Message.{IdData}
-use Rattle.lsp_message.specs.Params.{DocumentItem, ChangeData}
-use Rattle.lsp_store.specs.Squash.{SquashData, HasReached, IsSquashAfter, squash_of}
+use Rattle.lsp_replay.proofs.Prelude.{◌≡◌, ◌≢◌, ℕ, true, false, List, [], ◌∷◌, map, Option, Some, None, bytes_eq, refl, sym, ap, ◌∙◌, subst, ⊎_elim, cases_Bool, bytes_eq-Decides, units_in, Encoding, IdData, DocumentItem, ChangeData, SquashData, HasReached, IsSquashAfter, squash_of, after_is, changed, Phase, New, Running, Down, Ended, did_change, ServerData, content_change_from_data, session_encoding, Version, Session, answered, judge_client, IsOpenIn, IsLonger, IsBegun, refusal_of, server_after, accepted_if}
 use Rattle.lsp_store.specs.Table.{changed as changed_entry, entry_at}
 use Rattle.lsp_store.proofs.LawLemmas.{found_changed}
-use Rattle.lsp_store.proofs.SquashLemmas.{after_is}
-use Rattle.lsp_server.specs.Answer.{changed}
-use Rattle.lsp_server.specs.declared.phase.Phase.{Phase}
-use Rattle.lsp_server.specs.declared.phase.Phase.TheVariants.{New, Running, Down, Ended}
-use Rattle.lsp_server.specs.Incoming.{did_change}
-use Rattle.lsp_server.specs.Step.{ServerData, content_change_from_data, session_encoding}
-use Rattle.lsp_log.specs.declared.record.Version.{Version}
-use Rattle.lsp_replay.specs.Session.{Session, answered, judge_client}
-use Rattle.lsp_replay.specs.inside.Joining.{IsOpenIn, IsLonger, IsBegun, refusal_of, server_after}
-use Rattle.lsp_replay.specs.inside.Taken.{accepted_if}
 
 -- ---- what a session makes of a change
 
@@ -40,8 +23,7 @@ not_same a b not =
 -- a change that is not accepted for the phase or for its encoding
 module _ (s : Session) (version : Version) (p : ChangeData) where
   idle_phase : (phase : Phase) → s.server.phase ≡ phase → phase ≢ Running → (expected : Option IdData) → s.expected
-      ≡ expected
-      → accepted_if (Some p) (judge_client s version (did_change (Some p))).verdict ≡ None
+      ≡ expected → accepted_if (Some p) (judge_client s version (did_change (Some p))).verdict ≡ None
   idle_phase New is idle None none = rw (is, none) refl
   idle_phase New is idle (Some id) some = rw (is, some) refl
   idle_phase Down is idle None none = rw (is, none) refl
@@ -54,16 +36,14 @@ module _ (s : Session) (version : Version) (p : ChangeData) where
   idle not = idle_phase s.server.phase refl not s.expected refl
 
   early_phase : (phase : Phase) → s.server.phase ≡ phase → (expected : Option IdData) → s.expected ≡ expected → expected
-      ≢ None
-      → accepted_if (Some p) (judge_client s version (did_change (Some p))).verdict ≡ None
+      ≢ None → accepted_if (Some p) (judge_client s version (did_change (Some p))).verdict ≡ None
   early_phase phase is None none some = absurd (some refl)
   early_phase New is (Some id) waits some = rw (is, waits) refl
   early_phase Down is (Some id) waits some = rw (is, waits) refl
   early_phase Ended is (Some id) waits some = rw is refl
   early_phase Running is (Some id) waits some = rw (is, waits) refl
 
-  pub early : s.expected ≢ None
-      → accepted_if (Some p) (judge_client s version (did_change (Some p))).verdict ≡ None
+  pub early : s.expected ≢ None → accepted_if (Some p) (judge_client s version (did_change (Some p))).verdict ≡ None
   early some = early_phase s.server.phase refl s.expected refl some
 
 -- ---- the batches that are open afterwards
@@ -84,11 +64,9 @@ module _ (server : ServerData) (p : ChangeData) (entry : DocumentItem)
     (found : entry_at server.table p.uri ≡ Some entry) where
   -- the document that is open then
   left : (squash next : SquashData) → squash.uri ≡ p.uri → squash.limits ≡ server.config.limits → squash.encoding
-      ≡ session_encoding server
-      → IsSquashAfter squash p.version (map content_change_from_data p.changes) next
+      ≡ session_encoding server → IsSquashAfter squash p.version (map content_change_from_data p.changes) next
       → HasReached next (changed_entry (units_in squash.encoding) entry p.version
-      (map content_change_from_data p.changes))
-      → IsOpenIn (server_after server p) next
+      (map content_change_from_data p.changes)) → IsOpenIn (server_after server p) next
   left squash next uri limits encoding adds reached = record {
     entry = changed_entry (units_in (session_encoding server)) entry p.version (map content_change_from_data p.changes);
     is_open =
@@ -105,8 +83,7 @@ module _ (server : ServerData) (p : ChangeData) (entry : DocumentItem)
   pub longer_open : (squash next : SquashData) → IsOpenIn server squash → p.uri ≡ squash.uri
       → IsSquashAfter squash p.version (map content_change_from_data p.changes) next
       → HasReached next (changed_entry (units_in squash.encoding) entry p.version
-      (map content_change_from_data p.changes))
-      → IsOpenIn (server_after server p) next
+      (map content_change_from_data p.changes)) → IsOpenIn (server_after server p) next
   longer_open squash next at same adds reached = left squash next (sym same) at.limits at.encoding adds reached
 
   pub is_longer : (squash next : SquashData) → p.uri ≡ squash.uri

@@ -1,22 +1,6 @@
 -- A change that goes on with the open series.
-use Rattle.std.proofs.Common.{◌≡◌, ℕ, ◌+◌, ◌≤◌, Bool, true, false, List, [], ◌∷◌, ◌++◌, length, Option, Some, None, refl, sym, ap, ap₂, ◌∙◌, subst, append_assoc, append-nil, bytes_eq}
-use Rattle.lsp_frame.specs.Frame.{frame}
-use Rattle.lsp_frame.specs.Limits.{LimitsData, AreInRange}
-use Rattle.lsp_message.specs.Params.{ChangeData}
-use Rattle.lsp_store.specs.Table.{entry_at}
-use Rattle.lsp_server.specs.Step.{ServerData, session_encoding}
-use Rattle.lsp_log.specs.declared.record.Version.{Version}
-use Rattle.lsp_log.specs.declared.record.Sender.TheVariants.{Client}
-use Rattle.lsp_log.specs.Log.{Record, IsRecord, together, record_bytes, mark_of}
-use Rattle.lsp_log.proofs.LogLemmas.{are_push, together_push}
-use Rattle.std.proofs.lemmas.Slice.Eq.{bytes_eq-Decides}
+use Rattle.lsp_replay.proofs.Prelude.{◌≡◌, ℕ, ◌+◌, ◌≤◌, Bool, true, false, List, [], ◌∷◌, ◌++◌, length, Option, Some, None, refl, sym, ap, ap₂, ◌∙◌, subst, append_assoc, append-nil, bytes_eq, frame, LimitsData, AreInRange, ChangeData, entry_at, ServerData, session_encoding, Version, Client, Record, IsRecord, together, record_bytes, mark_of, are_push, together_push, bytes_eq-Decides, written_first, replaying, front_of, line_if, canonical_change_body, run_output_in, server_after, Session, judge, OpenSeries, end_bytes, joined_by, longer, squash_step, squashed_in}
 use Rattle.lsp_replay.proofs.Squash.SingleLemmas.{IsSingle, is_single, single_record}
-use Rattle.lsp_replay.specs.RunOutput.{written_first}
-use Rattle.lsp_replay.specs.Commands.{replaying, front_of, line_if, canonical_change_body}
-use Rattle.lsp_replay.specs.inside.Commands.{run_output_in}
-use Rattle.lsp_replay.specs.inside.Joining.{server_after}
-use Rattle.lsp_replay.specs.Session.{Session, judge}
-use Rattle.lsp_replay.specs.inside.Squashed.{OpenSeries, end_bytes, joined_by, longer, squash_step, squashed_in}
 use Rattle.lsp_replay.proofs.Records.ChangeLemmas.{IsAccepted, IsDone, is_done, proper_change, session_after}
 use Rattle.lsp_replay.proofs.Records.NumberedLemmas.{IsAlike, alike_both, numbered}
 use Rattle.lsp_replay.proofs.Squash.OpenSeriesLemmas.{IsOpenFrom, goes_on_from, same_encoding, same_text}

@@ -1,34 +1,12 @@
 -- A run that is open: what its batches make together of the document before it is the document that is open now.
-use Rattle.std.proofs.Common.{◌≡◌, ℕ, ℤ, ◌≤◌, Bool, true, false, not, ◌&&◌, nat_lt, int_le, List, [], ◌∷◌, ◌++◌, map, length, bytes_eq, encode_utf8_all, IsUtf8, Some, None, Ok, refl, sym, ap, ◌∙◌, subst, arith, w32, FitsSigned}
-use Rattle.std.specs.Str.{chars}
-use Rattle.std.proofs.lemmas.Bool.{leb-false, lt-leb}
+use Rattle.lsp_replay.proofs.Prelude.{◌≡◌, ℕ, ℤ, ◌≤◌, Bool, true, false, not, ◌&&◌, nat_lt, int_le, List, [], ◌∷◌, ◌++◌, map, length, bytes_eq, encode_utf8_all, IsUtf8, Some, None, Ok, refl, sym, ap, ◌∙◌, subst, arith, w32, FitsSigned, chars, leb-false, lt-leb, bytes_eq-Decides, chars-encodes, scalars-chars, AreInRange, units_in, ContentChange, meaning, canonical, then_items, plain_text, bytes_left, DocumentItem, ChangeData, entry_at, is_stale, meant_text, AreTexts, SquashData, items_meant, squash_batch, squash_of, Accepts, accepted_parts, scalar-meaning, scalar-text, IsWithin, ServerData, content_change_from_data, session_encoding, refusal_of, server_after, joined_by, common_steps}
 use Rattle.std.proofs.Math.IntN.{pos, negsuc}
-use Rattle.std.proofs.lemmas.Slice.Eq.{bytes_eq-Decides}
-use Rattle.std.proofs.lemmas.Str.{chars-encodes, scalars-chars}
-use Rattle.lsp_frame.specs.Limits.{AreInRange}
-use Rattle.lsp_text.specs.Units.{units_in}
 use Rattle.lsp_edit.specs.Items.{Item, plain, text_of}
-use Rattle.lsp_edit.specs.Batch.{ContentChange, meaning}
-use Rattle.lsp_edit.specs.Canonical.{canonical}
-use Rattle.lsp_edit.specs.Compose.{then_items}
 use Rattle.lsp_edit.proofs.Batches.ComposeLemmas.{text_of-then, then_means}
-use Rattle.lsp_edit.proofs.Composing.EditedLemmas.{plain_text}
-use Rattle.lsp_edit.specs.Indexed.{bytes_left}
-use Rattle.lsp_message.specs.Params.{DocumentItem, ChangeData}
-use Rattle.lsp_store.specs.Table.{entry_at, is_stale, meant_text}
-use Rattle.lsp_store.specs.Message.{AreTexts}
-use Rattle.lsp_store.specs.Squash.{SquashData, items_meant, squash_batch, squash_of}
-use Rattle.lsp_store.proofs.Messages.MessageLemmas.{Accepts, accepted_parts}
-use Rattle.lsp_store.proofs.Messages.ScalarLemmas.{scalar-meaning, scalar-text}
-use Rattle.lsp_store.specs.laws.Tables.{IsWithin}
-use Rattle.lsp_server.specs.Step.{ServerData, content_change_from_data, session_encoding}
-use Rattle.lsp_replay.specs.inside.Joining.{refusal_of, server_after}
-use Rattle.lsp_replay.specs.inside.Squashed.{joined_by}
 use Rattle.lsp_replay.proofs.Records.AskedLemmas.{IsProperAsked}
 use Rattle.lsp_replay.proofs.Squash.JoiningLemmas.{uri_at}
 use Rattle.lsp_replay.proofs.Records.PutLemmas.{put, change_puts, put_at, put_twice}
 use Rattle.lsp_replay.proofs.Canonical.CanonicalChangeLemmas.{IsProperAt, IsCanonicalChange, canonical_change, is_canonical_change}
-use Rattle.std.proofs.lemmas.Grind.{common_steps}
 
 -- the squash with other items and another version
 abbrev pub with_items : SquashData → List Item → ℤ → SquashData
@@ -52,8 +30,7 @@ pub record IsOpenFrom (t : ServerData) (squash : SquashData) (now : ServerData) 
 -- ---- items
 
 plain_then : (units : ℕ → ℕ) (old : List ℕ) (batch : List ContentChange) (items : List Item)
-    → meaning units old batch ≡ Ok items
-    → then_items (plain old) items ≡ items
+    → meaning units old batch ≡ Ok items → then_items (plain old) items ≡ items
 plain_then units old batch items means =
     let on : meaning units (text_of old (plain old)) batch ≡ Ok items = ap (λ t. meaning units t batch) (plain_text old)
     ∙ means in
@@ -67,8 +44,7 @@ texts_more (change ∷ batch) more texts also = (texts.0, texts_more batch more 
 
 -- the characters of a text that a batch leaves
 left_chars : (units : ℕ → ℕ) (text : List ℕ) (batch : List ContentChange) (items : List Item) → IsUtf8 text
-    → AreTexts batch
-    → meaning units (chars text) batch ≡ Ok items
+    → AreTexts batch → meaning units (chars text) batch ≡ Ok items
     → chars (bytes_left text items) ≡ text_of (chars text) items
 left_chars units text batch items utf8 texts means =
     chars-encodes (text_of (chars text) items) (scalar-text (chars text) items (scalars-chars text utf8)
@@ -181,12 +157,10 @@ module _ (t : ServerData) (squash : SquashData) (now : ServerData) (from : IsOpe
       (map content_change_from_data p.changes))
       ≡ items_meant (meaning (units_in squash.encoding) (text_of (chars squash.text) squash.items)
       (map content_change_from_data p.changes))
-  items_in k e =
-      grind (arith, common_steps)
+  items_in k e = grind (arith, common_steps)
 
   longer_items : longer_squash.items ≡ then_items squash.items accepts_now.items
-  longer_items =
-      grind (arith, common_steps, items_in, means_now)
+  longer_items = grind (arith, common_steps, items_in, means_now)
 
   left_now : bytes_left reached_text accepts_now.items ≡ bytes_left from.entry.text longer_squash.items
   left_now =
@@ -228,8 +202,7 @@ module _ (t : ServerData) (squash : SquashData) (now : ServerData) (from : IsOpe
 
   pub same_text : (uri : List ℕ) (entry : DocumentItem) → uri ≡ squash.uri → entry_at now.table uri ≡ Some entry
       → text_of (chars squash.text) squash.items ≡ chars entry.text
-  same_text uri entry same found =
-      grind (arith, common_steps, put_at, left_chars)
+  same_text uri entry same found = grind (arith, common_steps, put_at, left_chars)
 
 -- ---- all batches of a run as one message
 

@@ -1,37 +1,11 @@
 -- The open series of a log that is squashed, and the records that are written of it.
-use Rattle.std.proofs.Common.{◌≡◌, ◌≢◌, ℕ, ◌≤◌, Bool, true, false, nat_lt, List, [], ◌∷◌, ◌++◌, length, Option, Some, None, refl, sym, ap, ◌∙◌, subst, arith, append_assoc, append-nil, bytes_eq}
-use Rattle.std.specs.Prelude.{if◌then◌else◌}
-use Rattle.std.proofs.lemmas.Bool.{ltb-false}
-use Rattle.lsp_frame.specs.Faults.{place_after}
-use Rattle.lsp_frame.specs.Frame.{frame}
-use Rattle.lsp_frame.specs.Limits.{LimitsData, AreInRange}
-use Rattle.lsp_frame.proofs.WrittenLemmas.{written_is_frame}
-use Rattle.lsp_message.specs.Message.{reading}
-use Rattle.lsp_message.specs.Params.{DocumentItem, ChangeData}
-use Rattle.lsp_store.specs.Message.{change_body}
-use Rattle.lsp_store.specs.Squash.{SquashData, squash_batch, squash_body, squash_of, squash_refusal}
-use Rattle.lsp_store.specs.Table.{Refusal, entry_at}
-use Rattle.lsp_server.specs.declared.phase.Phase.TheVariants.{Running}
-use Rattle.lsp_server.specs.Incoming.{incoming_of}
-use Rattle.lsp_server.specs.Answer.{changed}
-use Rattle.lsp_server.specs.Step.{ServerData, session_encoding}
-use Rattle.lsp_log.specs.declared.record.Version.{Version}
-use Rattle.lsp_log.specs.declared.record.Sender.TheVariants.{Client}
-use Rattle.lsp_log.specs.Log.{Record, AreRecords, together, mark_of}
-use Rattle.lsp_log.proofs.LogLemmas.{due_after}
-use Rattle.lsp_replay.specs.RunOutput.{written_first}
-use Rattle.lsp_replay.specs.Commands.{replaying, front_of, line_if, canonical_change_body}
-use Rattle.lsp_replay.specs.inside.Commands.{run_output_in}
-use Rattle.lsp_replay.specs.inside.Joining.{server_after}
-use Rattle.lsp_replay.specs.Session.{Session, answered, bad, judge}
-use Rattle.lsp_replay.specs.inside.Squashed.{OpenSeries, change_output, end_bytes, joined_by, longer, open_bytes, squash_step, squashed_in}
+use Rattle.lsp_replay.proofs.Prelude.{◌≡◌, ◌≢◌, ℕ, ◌≤◌, Bool, true, false, nat_lt, List, [], ◌∷◌, ◌++◌, length, Option, Some, None, refl, sym, ap, ◌∙◌, subst, arith, append_assoc, append-nil, bytes_eq, if◌then◌else◌, ltb-false, place_after, frame, LimitsData, AreInRange, written_is_frame, reading, DocumentItem, ChangeData, change_body, SquashData, squash_batch, squash_body, squash_of, squash_refusal, Refusal, entry_at, Running, incoming_of, changed, ServerData, session_encoding, Version, Client, Record, AreRecords, together, mark_of, due_after, written_first, replaying, front_of, line_if, canonical_change_body, run_output_in, server_after, Session, answered, bad, judge, OpenSeries, change_output, end_bytes, joined_by, longer, open_bytes, squash_step, squashed_in, common_steps}
 use Rattle.lsp_replay.proofs.Canonical.CanonicalChangeLemmas.{IsCanonicalChange, canonical_at, canonical_change}
 use Rattle.lsp_replay.proofs.Records.ChangeLemmas.{IsAccepted, IsDone, is_done}
 use Rattle.lsp_replay.proofs.Records.NumberedLemmas.{IsAlike, alike_both}
 use Rattle.lsp_replay.proofs.Squash.OpenSeriesLemmas.{IsOpenFrom, one_batch, one_message, one_joins}
 use Rattle.lsp_replay.proofs.Squash.SquashLawLemmas.{IsEnded, IsApart, NonEmpty, first_line, report_on, step_on}
 use Rattle.lsp_replay.proofs.Squash.SquashingLemmas.{step_changed}
-use Rattle.std.proofs.lemmas.Grind.{common_steps}
 
 -- The records that are written of an open series, if it isn't written as one message: they lead to the same series.
 pub record IsPending (max_body at : ℕ) (version : Version) (due : Bool) (s : Session) (series : OpenSeries) (t :
@@ -71,8 +45,7 @@ module _ (t : Session) (before : Option OpenSeries) (q : Record) (p : ChangeData
   its_single = its_front ++ frame (canonical_change_body t.server p)
 
   gives_change : squash_step t before q (judge t q) ≡ change_output t.server p its_front its_single before
-  gives_change =
-      grind (arith, common_steps, step_changed)
+  gives_change = grind (arith, common_steps, step_changed)
 
   -- it begins a series
   pub begun_step : (entry : DocumentItem) → entry_at t.server.table p.uri ≡ Some entry → IsApart before p.uri
@@ -98,8 +71,7 @@ module _ (t : Session) (before : Option OpenSeries) (q : Record) (p : ChangeData
   -- what stands in front of it
   pub front_is : (version : Version) → q.head.version ≡ version → its_front ≡ line_if q.head.line_due ++ mark_of version
       Client
-  front_is version of_version =
-      grind (arith, common_steps)
+  front_is version of_version = grind (arith, common_steps)
 
 -- ---- no series is open
 
@@ -130,8 +102,7 @@ module _ (limits : LimitsData) (ranges : AreInRange limits) (at : ℕ) (version 
     (series : OpenSeries) (t : Session) (before : Option OpenSeries) (limit : t.server.config.limits ≡ limits)
     (p : IsPending limits.max_body at version due s series t before) where
   in_singles : (refusal : Refusal) → squash_refusal series.squash ≡ Some refusal → IsEnded limits.max_body at version
-      due s
-      (Some series) t before
+      due s (Some series) t before
   in_singles refusal is = record {
     us = p.ss;
     last = p.last;

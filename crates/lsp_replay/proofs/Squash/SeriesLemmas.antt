@@ -1,26 +1,7 @@
 -- What `normalise` writes with squash: a series by its changes, and by the bytes that the code keeps of it.
-use Rattle.std.proofs.Common.{◌≡◌, ℕ, Bool, true, false, List, [], ◌∷◌, ◌++◌, map, length, nat_lt, bytes_eq, Option, Some, None, refl, sym, ap, ◌∙◌, append-nil}
-use Rattle.std.specs.Prelude.{if◌then◌else◌, flat_map, is_none, option_map, Err}
-use Rattle.std.proofs.lemmas.Grind.{flat_map-append}
-use Rattle.lsp_frame.specs.Frame.{frame}
-use Rattle.lsp_message.specs.Message.{reading}
-use Rattle.lsp_message.specs.Params.{ChangeData, DocumentItem}
-use Rattle.lsp_store.specs.Squash.{SquashData, squash_frame, squash_refusal}
-use Rattle.lsp_store.specs.Table.{Refusal, entry_at}
-use Rattle.lsp_store.proofs.GreaterLemmas.{change_parts}
-use Rattle.lsp_text.specs.Units.{units_in}
-use Rattle.lsp_server.specs.Answer.{reply, changed, dropped, ignored, refused, exits, already_ended}
-use Rattle.lsp_server.specs.Incoming.{incoming_of}
-use Rattle.lsp_server.specs.Step.{content_change_from_data, session_encoding}
-use Rattle.lsp_stream.specs.declared.fault.EngineFault.TheVariants.{BodyTooLong}
-use Rattle.lsp_log.specs.Log.{Record}
-use Rattle.lsp_replay.specs.RunOutput.{RunOutput, written_first}
-use Rattle.lsp_replay.specs.Commands.{RecordOutput, canonical_change_body, canonical_if, change_in, followed_by, ends, front_of, line_if, log_config, output_in, unless_bad, written, writes}
-use Rattle.lsp_replay.specs.Session.{Session, Verdict, answered, recorded, bad, judge, opened, session_outcome}
-use Rattle.lsp_replay.specs.Squashed.{SeriesChange, change_if, change_on, joined, series_after, series_written, squash_output, squashed, squashing}
-use Rattle.lsp_replay.specs.inside.Squashed as kept
-use Rattle.lsp_replay.specs.inside.Squashed.{OpenSeries, Step, begun_on, end_bytes, faulty, joined_by, longer, open_bytes, squashed_in, squashed_steps, step_if}
+use Rattle.lsp_replay.proofs.Prelude.{◌≡◌, ℕ, Bool, true, false, List, [], ◌∷◌, ◌++◌, map, length, nat_lt, bytes_eq, Option, Some, None, refl, sym, ap, ◌∙◌, append-nil, if◌then◌else◌, flat_map, is_none, option_map, Err, flat_map-append, frame, reading, ChangeData, DocumentItem, SquashData, squash_frame, squash_refusal, Refusal, entry_at, change_parts, units_in, reply, changed, dropped, ignored, refused, exits, already_ended, incoming_of, content_change_from_data, session_encoding, BodyTooLong, Record, RunOutput, written_first, RecordOutput, canonical_change_body, canonical_if, change_in, followed_by, ends, front_of, line_if, log_config, output_in, unless_bad, written, writes, Session, Verdict, answered, recorded, bad, judge, opened, session_outcome, SeriesChange, change_if, change_on, joined, series_after, series_written, squash_output, squashed, squashing, OpenSeries, Step, begun_on, end_bytes, faulty, joined_by, longer, open_bytes, squashed_in, squashed_steps, step_if}
 use Rattle.lsp_replay.proofs.Records.ChangeLemmas.{was_accepted}
+use Rattle.lsp_replay.specs.inside.Squashed as kept
 
 -- ---- a series
 
@@ -64,8 +45,7 @@ singles_more series c = flat_map-append single_of series (c ∷ [])
     ∙ ap (λ z. flat_map single_of series ++ z) (append-nil c.single)
 
 kept_more : (first : SeriesChange) (series : List SeriesChange) (c : SeriesChange) → kept_of ((first ∷ series) ++ c ∷
-    [])
-    ≡ Some (longer (kept_series first series) c.change c.single)
+    []) ≡ Some (longer (kept_series first series) c.change c.single)
 kept_more first series c = λ i. Some (record {
   front = first.front;
   singles = singles_more (first ∷ series) c i;
@@ -177,8 +157,7 @@ module _ (s : Session) (r : Record) (t : Session) (rs : List Record)
       }
 
       abbrev next_step : Bool → List ℕ → Option DocumentItem → Step
-      next_step over uri found =
-          if over then faulty (BodyTooLong r.head.place) else joins_if (bytes_eq p.uri uri) found
+      next_step over uri found = if over then faulty (BodyTooLong r.head.place) else joins_if (bytes_eq p.uri uri) found
 
       joins_is : (same : Bool) → written_first (if same then [] else series_written (first ∷ more))
           (output_in squashing (if same then (first ∷ more) ++ c ∷ [] else c ∷ []) t rs)
@@ -241,12 +220,7 @@ module _ (s : Session) (r : Record) (t : Session) (rs : List Record)
 
 abbrev ended : Session → List ℕ → RunOutput
 ended s bytes
-    = record {
-      out = [];
-      stop = None;
-      last = λ line_due. bytes ++ line_if line_due;
-      outcome = session_outcome s;
-    }
+    = record { out = []; stop = None; last = λ line_due. bytes ++ line_if line_due; outcome = session_outcome s }
 
 series_are : (s : Session) (series : List SeriesChange) (rs : List Record) → output_in squashing series s rs
     ≡ squashed_in s (kept_of series) rs

@@ -1,40 +1,9 @@
 -- The single message of an accepted change, where it begins a run and where it goes on with one.
-use Rattle.std.proofs.Common.{◌≡◌, ℕ, ◌≤◌, Bool, map, length, Some, refl, sym, ap, ◌∙◌, subst, arith}
-use Rattle.std.specs.Str.{chars}
-use Rattle.std.proofs.lemmas.Bool.{le-ltb}
-use Rattle.lsp_frame.specs.Faults.{place_after}
-use Rattle.lsp_frame.specs.Frame.{frame}
-use Rattle.lsp_frame.specs.Limits.{LimitsData, AreInRange}
-use Rattle.lsp_frame.proofs.WrittenLemmas.{written_is_frame}
-use Rattle.lsp_text.specs.Units.{units_in}
-use Rattle.lsp_edit.specs.Compose.{then_items}
-use Rattle.lsp_edit.specs.Items.{text_of}
-use Rattle.lsp_edit.specs.laws.Batches.{IsCanonical}
-use Rattle.lsp_edit.specs.Batch.{meaning}
-use Rattle.lsp_edit.proofs.Batches.LawLemmas.{canonical_law, units_some}
-use Rattle.lsp_edit.specs.Indexed.{bytes_left}
-use Rattle.lsp_message.specs.Message.{reading}
-use Rattle.lsp_message.specs.Params.{DocumentItem, ChangeData}
-use Rattle.lsp_store.specs.Message.{change_body}
-use Rattle.lsp_store.specs.Squash.{SquashData, items_meant}
-use Rattle.lsp_store.specs.Table.{entry_at, meant_text}
+use Rattle.lsp_replay.proofs.Prelude.{◌≡◌, ℕ, ◌≤◌, Bool, map, length, Some, refl, sym, ap, ◌∙◌, subst, arith, chars, le-ltb, place_after, frame, LimitsData, AreInRange, written_is_frame, units_in, then_items, text_of, IsCanonical, meaning, canonical_law, units_some, bytes_left, reading, DocumentItem, ChangeData, change_body, SquashData, items_meant, entry_at, meant_text, within_at, MayChange, change_parts, Accepts, accepted_parts, IsWithin, incoming_of, content_change_from_data, session_encoding, Version, Record, IsRecord, canonical_change_body, server_after, Session, joined_by, common_steps}
 use Rattle.lsp_replay.proofs.Records.PutLemmas.{put, change_puts}
-use Rattle.lsp_store.proofs.WithinLemmas.{within_at}
-use Rattle.lsp_store.proofs.GreaterLemmas.{MayChange, change_parts}
-use Rattle.lsp_store.proofs.Messages.MessageLemmas.{Accepts, accepted_parts}
-use Rattle.lsp_store.specs.laws.Tables.{IsWithin}
-use Rattle.lsp_server.specs.Incoming.{incoming_of}
-use Rattle.lsp_server.specs.Step.{content_change_from_data, session_encoding}
-use Rattle.lsp_log.specs.declared.record.Version.{Version}
-use Rattle.lsp_log.specs.Log.{Record, IsRecord}
-use Rattle.lsp_replay.specs.Commands.{canonical_change_body}
-use Rattle.lsp_replay.specs.inside.Joining.{server_after}
-use Rattle.lsp_replay.specs.Session.{Session}
-use Rattle.lsp_replay.specs.inside.Squashed.{joined_by}
 use Rattle.lsp_replay.proofs.Canonical.CanonicalChangeLemmas.{IsProperAt, IsCanonicalChange, canonical_at, canonical_change, is_canonical_change}
 use Rattle.lsp_replay.proofs.Records.ChangeLemmas.{IsAccepted, proper_change}
 use Rattle.lsp_replay.proofs.Records.StateLemmas.{IsHeldState}
-use Rattle.std.proofs.lemmas.Grind.{common_steps}
 
 -- A record is the canonical message of an accepted change: it is accepted, and does and joins what the change does.
 pub record IsSingle (max_body at : ℕ) (version : Version) (due : Bool) (s : Session) (p : ChangeData)
@@ -49,8 +18,7 @@ pub record IsSingle (max_body at : ℕ) (version : Version) (due : Bool) (s : Se
   pub framed : q.raw ≡ frame (canonical_change_body s.server p)
   pub joins : (squash : SquashData) → squash.encoding ≡ session_encoding s.server
       → ((entry : DocumentItem) → entry_at s.server.table p.uri ≡ Some entry → text_of (chars squash.text) squash.items
-      ≡ chars entry.text)
-      → joined_by again squash ≡ joined_by p squash
+      ≡ chars entry.text) → joined_by again squash ≡ joined_by p squash
 
 -- the record of an accepted change, as it is written singly at a place
 abbrev pub single_record : ℕ → Session → Record → ChangeData → Record

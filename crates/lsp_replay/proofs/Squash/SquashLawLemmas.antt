@@ -1,18 +1,7 @@
 -- What `normalise` writes of a log with squash: a log of which `replay` reports the same documents, and of which the
 -- same is written.
-use Rattle.std.proofs.Common.{◌≡◌, ◌≢◌, ℕ, ◌+◌, Bool, false, List, [], ◌∷◌, ◌++◌, length, Option, Some, None, refl, sym, ap, ◌∙◌, subst, arith, append_assoc, append-nil, bytes_eq}
-use Rattle.std.specs.Prelude.{⊤}
-use Rattle.std.proofs.lemmas.List.{length-append}
-use Rattle.lsp_log.specs.declared.record.Version.{Version}
-use Rattle.lsp_log.specs.Log.{Record, IsRecord, AreRecords, together, record_bytes, mark_of}
-use Rattle.lsp_log.proofs.LogLemmas.{due_after}
-use Rattle.lsp_replay.specs.RunOutput.{RunOutput, written_first}
-use Rattle.lsp_replay.specs.Commands.{writes, followed_by, replaying, line_if}
-use Rattle.lsp_replay.specs.inside.Commands.{run_output_in}
-use Rattle.lsp_replay.specs.Session.{Session, bad, judge}
-use Rattle.lsp_replay.specs.inside.Squashed.{OpenSeries, Step, end_bytes, squash_step, squashed_in}
+use Rattle.lsp_replay.proofs.Prelude.{◌≡◌, ◌≢◌, ℕ, ◌+◌, Bool, false, List, [], ◌∷◌, ◌++◌, length, Option, Some, None, refl, sym, ap, ◌∙◌, subst, arith, append_assoc, append-nil, bytes_eq, ⊤, length-append, Version, Record, IsRecord, AreRecords, together, record_bytes, mark_of, due_after, RunOutput, written_first, writes, followed_by, replaying, line_if, run_output_in, Session, bad, judge, OpenSeries, Step, end_bytes, squash_step, squashed_in, common_steps}
 use Rattle.lsp_replay.proofs.Records.NumberedLemmas.{IsAlike}
-use Rattle.std.proofs.lemmas.Grind.{common_steps}
 
 -- all that is written of some records
 abbrev pub total : RunOutput → List ℕ
@@ -28,8 +17,7 @@ together_more version (r ∷ rs) more rest = ap (λ z. record_bytes version r ++
 pub together_split : (version : Version) (rs : List Record) (rest : List ℕ) → together version rs rest
     ≡ together version rs [] ++ rest
 together_split version [] rest = refl
-together_split version (r ∷ rs) rest =
-    grind (arith, common_steps, append_assoc, (together_split version rs rest))
+together_split version (r ∷ rs) rest = grind (arith, common_steps, append_assoc, (together_split version rs rest))
 
 pub are_more : (max_body : ℕ) (version : Version) (place : ℕ) (due : Bool) (rs more : List Record)
     → AreRecords max_body version place due rs
@@ -173,10 +161,8 @@ module _ (max_body at : ℕ) (version : Version) (due : Bool) (s : Session) (ser
           qs = e.us ++ more.qs;
           some = λ _. some_behind e.us more.qs (more.some any);
           are = are_more max_body version at due e.us more.qs e.are more.are;
-          bytes =
-              grind (arith, common_steps, append_assoc, swap);
-          again =
-              grind (arith, common_steps, append_assoc);
+          bytes = grind (arith, common_steps, append_assoc, swap);
+          again = grind (arith, common_steps, append_assoc);
           continues = ap (λ (c : RunOutput). c.stop) (e.run_output more.qs) ∙ more.continues;
           documents = λ line_due. ap (λ (c : RunOutput). c.last line_due) (e.replay more.qs) ∙ more.documents line_due
               ∙ sym (ap (λ (c : RunOutput). c.last line_due) (report_on s r rs not_bad));
@@ -235,8 +221,7 @@ module _ (max_body at : ℕ) (version : Version) (due : Bool) (s : Session) (ser
         ≡ first_line due (us ++ q ∷ more.qs) ++ together version us (record_bytes version q)
     placed_bytes [] line e = ap (λ l. (l ++ mark_of version q.head.side) ++ q.raw) e ∙ append_assoc (line_if due)
         (mark_of version q.head.side) q.raw
-    placed_bytes (u ∷ us) line e =
-        grind (arith, common_steps, append_assoc, together_split)
+    placed_bytes (u ∷ us) line e = grind (arith, common_steps, append_assoc, together_split)
 
     one_bytes : total (squashed_in s series (r ∷ rs)) ≡ first_line due (e.us ++ q ∷ more.qs) ++ together version
         (e.us ++ q ∷ more.qs) []
@@ -245,8 +230,7 @@ module _ (max_body at : ℕ) (version : Version) (due : Bool) (s : Session) (ser
 
     one_again : total (squashed_in t before (e.us ++ q ∷ more.qs)) ≡ end_bytes before
         ++ total (squashed_in s series (r ∷ rs))
-    one_again =
-        grind (arith, common_steps, again_one, append_assoc)
+    one_again = grind (arith, common_steps, again_one, append_assoc)
 
     pub others_next : IsSquashedAs max_body at version due s series (r ∷ rs) t before
     others_next = record {
@@ -267,8 +251,7 @@ module _ (max_body at : ℕ) (version : Version) (due : Bool) (s : Session) (ser
 
 -- A record that goes on with the series.
 pub goes_on_next : (max_body at : ℕ) (version : Version) (due : Bool) (s : Session) (series : Option OpenSeries) (t :
-    Session)
-    (before next : Option OpenSeries) (r : Record) (rs : List Record)
+    Session) (before next : Option OpenSeries) (r : Record) (rs : List Record)
     → squash_step s series r (judge s r) ≡ record { out = []; end = None; series = next } → (judge s r).verdict ≢ bad
     → IsAny next rs
     → IsSquashedAs max_body at version due (judge s r).session next rs t before → IsSquashedAs max_body at version due s

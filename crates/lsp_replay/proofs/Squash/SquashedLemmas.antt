@@ -1,21 +1,5 @@
 -- With squash a log ends as without: at the same record, for the same cause, with the same status and counts.
-use Rattle.std.proofs.Common.{ℕ, ◌≡◌, true, false, nat_lt, List, [], ◌∷◌, length, Option, Some, None, Result, refl, subst, ⊎_elim, bytes_eq}
-use Rattle.std.proofs.lemmas.Bool.{cases_Bool}
-use Rattle.lsp_message.specs.Message.{reading}
-use Rattle.lsp_message.specs.Params.{ChangeData}
-use Rattle.lsp_server.specs.Answer.{reply, changed, dropped, ignored, refused, exits, already_ended}
-use Rattle.lsp_server.specs.Incoming.{incoming_of}
-use Rattle.lsp_server.specs.Step.{ServerData}
-use Rattle.lsp_replay.specs.declared.commands.Settings.{Settings}
-use Rattle.lsp_replay.specs.declared.outcome.Outcome.{Outcome}
-use Rattle.lsp_stream.specs.declared.fault.EngineFault.{EngineFault}
-use Rattle.lsp_log.specs.Log.{Record}
-use Rattle.lsp_replay.specs.RunOutput.{RunOutput}
-use Rattle.lsp_replay.specs.Commands.{RecordOutput, change_in, front_of, followed_by, log_config, canonical_log, canonical_change_body, canonical_if, normalising, unless_bad, written}
-use Rattle.lsp_replay.specs.inside.Commands.{run_output_in}
-use Rattle.lsp_replay.specs.Session.{Session, Verdict, answered, recorded, bad, judge, opened}
-use Rattle.lsp_replay.specs.laws.Written.{StopsAlike}
-use Rattle.lsp_replay.specs.inside.Squashed.{OpenSeries, change_output, squash_step, squashed_in, step_if, squashed_steps}
+use Rattle.lsp_replay.proofs.Prelude.{ℕ, ◌≡◌, true, false, nat_lt, List, [], ◌∷◌, length, Option, Some, None, Result, refl, subst, ⊎_elim, bytes_eq, cases_Bool, reading, ChangeData, reply, changed, dropped, ignored, refused, exits, already_ended, incoming_of, ServerData, Settings, Outcome, EngineFault, Record, RunOutput, RecordOutput, change_in, front_of, followed_by, log_config, canonical_log, canonical_change_body, canonical_if, normalising, unless_bad, written, run_output_in, Session, Verdict, answered, recorded, bad, judge, opened, StopsAlike, OpenSeries, change_output, squash_step, squashed_in, step_if, squashed_steps}
 use Rattle.lsp_replay.proofs.Squash.SeriesLemmas.{squashed_is}
 
 abbrev single : ServerData → Record → List ℕ → Option ChangeData → Verdict → RecordOutput

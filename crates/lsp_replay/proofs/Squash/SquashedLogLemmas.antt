@@ -1,29 +1,6 @@
 -- What `normalise` writes of a log with squash is a log, of which `replay` reports the same, and of which the same is
 -- written.
-use Rattle.std.proofs.Common.{◌≡◌, ◌≢◌, ℕ, ◌+◌, Bool, true, false, List, [], ◌∷◌, ◌++◌, length, Option, Some, None, refl, sym, ap, ◌∙◌, subst, append-nil, bytes_eq, ⊎_elim}
-use Rattle.std.specs.Prelude.{Result}
-use Rattle.std.proofs.lemmas.Bool.{cases_Bool}
-use Rattle.lsp_frame.specs.Limits.{LimitsData, AreInRange}
-use Rattle.lsp_message.specs.Message.{reading}
-use Rattle.lsp_message.specs.Params.{ChangeData}
-use Rattle.lsp_server.specs.Answer.{changed}
-use Rattle.lsp_server.specs.Incoming.{incoming_of}
-use Rattle.lsp_server.specs.Step.{ServerData}
-use Rattle.lsp_log.specs.declared.record.Version.{Version}
-use Rattle.lsp_log.specs.declared.record.Version.TheVariants.{One, Two}
-use Rattle.lsp_log.specs.Log.{Record, Log, IsReadAs, IsRecord, AreRecords, together, record_bytes, mark_of, line_of, version_line, is_line_due}
-use Rattle.lsp_log.proofs.LogLemmas.{due_after}
-use Rattle.lsp_replay.specs.declared.commands.Settings.{Settings}
-use Rattle.lsp_replay.specs.declared.outcome.Outcome.{Outcome}
-use Rattle.lsp_stream.specs.declared.fault.EngineFault.{EngineFault}
-use Rattle.lsp_replay.specs.RunOutput.{RunOutput}
-use Rattle.lsp_replay.specs.Commands.{change_in, front_of, followed_by, line_if, as_log, canonical_if, log_config, replaying, report}
-use Rattle.lsp_replay.specs.inside.Commands.{run_output_in}
-use Rattle.lsp_replay.specs.Engine.{all_of}
-use Rattle.lsp_replay.specs.laws.Written.{SquashedLaw, LeavesAlike}
-use Rattle.lsp_replay.specs.Session.{Session, answered, bad, judge, opened}
-use Rattle.lsp_replay.specs.Squashed.{squashed}
-use Rattle.lsp_replay.specs.inside.Squashed.{OpenSeries, Step, end_bytes, other_step, squash_step, squashed_in, squashed_steps}
+use Rattle.lsp_replay.proofs.Prelude.{◌≡◌, ◌≢◌, ℕ, ◌+◌, Bool, true, false, List, [], ◌∷◌, ◌++◌, length, Option, Some, None, refl, sym, ap, ◌∙◌, subst, append-nil, bytes_eq, ⊎_elim, Result, cases_Bool, LimitsData, AreInRange, reading, ChangeData, changed, incoming_of, ServerData, Version, One, Two, Record, Log, IsReadAs, IsRecord, AreRecords, together, record_bytes, mark_of, line_of, version_line, is_line_due, due_after, Settings, Outcome, EngineFault, RunOutput, change_in, front_of, followed_by, line_if, as_log, canonical_if, log_config, replaying, report, run_output_in, all_of, SquashedLaw, LeavesAlike, Session, answered, bad, judge, opened, squashed, OpenSeries, Step, end_bytes, other_step, squash_step, squashed_in, squashed_steps}
 use Rattle.lsp_replay.proofs.Squash.SeriesLemmas.{squashed_is}
 use Rattle.lsp_replay.proofs.Records.ChangeLemmas.{IsAccepted, IsOtherKind, IsChangeKind, kind_of, not_bad_of, was_accepted}
 use Rattle.lsp_replay.proofs.Records.JudgeLemmas.{judged_held}
@@ -52,8 +29,7 @@ module _ (limits : LimitsData) (ranges : AreInRange limits) where
   all_ended : (at : ℕ) (version : Version) (due due_in : Bool) (s : Session) (series : Option OpenSeries) (t : Session)
       (before : Option OpenSeries) → IsHeldState limits t.server
       → IsAfter limits.max_body at version due due_in s series t before → AllEnded limits.max_body at version due
-      due_in s
-      series t before
+      due_in s series t before
   all_ended at version due due_in s None t before received is =
       subst (λ (b : Option OpenSeries). AllEnded limits.max_body at version due due_in s None t b) (sym is.0)
       (record {
@@ -173,8 +149,7 @@ module _ (limits : LimitsData) (ranges : AreInRange limits) where
           (subst (λ (step : Step). (squashed_in (judge s r).session step.series rs).stop ≡ None) b.writes goes))
 
       continues : (before_series : OpenSeries) → series ≡ Some before_series → bytes_eq p.uri before_series.squash.uri
-          ≡ true
-          → IsPending limits.max_body at version due s before_series t before → due_in ≡ false
+          ≡ true → IsPending limits.max_body at version due s before_series t before → due_in ≡ false
           → IsSquashedAs limits.max_body at version due s series (r ∷ rs) t before
       continues before_series is_series same pending not_due =
           let l : IsLongerSeries limits.max_body at version due s before_series r t before =
@@ -216,8 +191,7 @@ module _ (limits : LimitsData) (ranges : AreInRange limits) where
       (series : Option OpenSeries) (t : Session) (before : Option OpenSeries) → IsHeldState limits s.server →
       IsHeldState limits t.server
       → IsAfter limits.max_body at version due due_in s series t before → AreRecords limits.max_body version place
-      due_in
-      rs → (squashed_in s series rs).stop ≡ None
+      due_in rs → (squashed_in s series rs).stop ≡ None
       → IsSquashedAs limits.max_body at version due s series rs t before
   squashed_log [] at place version due due_in s series t before received held_out is_after each goes =
       at_end limits.max_body at version due s series t before (all_ended at version due due_in s series t before
@@ -344,8 +318,7 @@ module _ (settings : Settings) (ranges : AreInRange settings.limits) (log : Log)
   }
 
 -- A log without records is its line.
-none_law : (settings : Settings) (version : Version) (max_body : ℕ)
-    → IsSquashedBy squashed_steps settings []
+none_law : (settings : Settings) (version : Version) (max_body : ℕ) → IsSquashedBy squashed_steps settings []
     ((squashed_steps settings []).out ++ (squashed_steps settings []).last (is_line_due version []))
 none_law settings version max_body = record {
   outcome = refl;

@@ -1,29 +1,10 @@
 -- What a record gives with squash, by what is known of how it is written.
-use Rattle.std.proofs.Common.{◌≡◌, ◌≢◌, ◌⊎◌, inl, inr, ◌∷◌, ℕ, ◌<◌, Bool, true, false, List, [], ◌++◌, length, Option, Some, None, refl, sym, ap, ◌∙◌, append_assoc, subst, nat_lt, le-ltb, lt-ltb}
-use Rattle.std.specs.Prelude.{if◌then◌else◌, Err}
-use Rattle.lsp_frame.specs.Frame.{frame}
-use Rattle.lsp_message.specs.Params.{ChangeData}
-use Rattle.lsp_store.specs.Squash.{SquashData}
-use Rattle.lsp_server.specs.Answer.{reply, changed, dropped, ignored, already_ended, refused, exits}
-use Rattle.lsp_server.specs.Step.{ServerData}
-use Rattle.lsp_log.specs.Log.{Record}
-use Rattle.lsp_stream.specs.declared.fault.EngineFault.{EngineFault}
-use Rattle.lsp_stream.specs.declared.fault.EngineFault.TheVariants.{BadLog, BodyTooLong, NoMemory}
-use Rattle.lsp_replay.specs.Commands.{followed_by, writes}
-use Rattle.lsp_replay.specs.RunOutput.{stopped}
-use Rattle.lsp_replay.specs.inside.RunOutput.{IsRecordFault, after}
-use Rattle.lsp_message.specs.Message.{reading}
-use Rattle.lsp_server.specs.Incoming.{incoming_of}
-use Rattle.lsp_replay.specs.Commands.{change_in, front_of, canonical_if, canonical_change_body}
-use Rattle.lsp_replay.specs.Session.{Session, Verdict, answered, recorded, bad, judge}
-use Rattle.lsp_replay.specs.inside.Squashed.{IsSquashStep, OpenSeries, Squashing, Step, begun, change_output, end_bytes, faulty, longer, other_step, open_bytes, series_of, squash_step, squash_view, squashed_in, step_at, step_if}
-use Rattle.lsp_replay.specs.inside.Joining.{IsChange, IsLonger, IsOther, IsBegun}
+use Rattle.lsp_replay.proofs.Prelude.{◌≡◌, ◌≢◌, ◌⊎◌, inl, inr, ◌∷◌, ℕ, ◌<◌, Bool, true, false, List, [], ◌++◌, length, Option, Some, None, refl, sym, ap, ◌∙◌, append_assoc, subst, nat_lt, le-ltb, lt-ltb, if◌then◌else◌, Err, frame, ChangeData, SquashData, reply, changed, dropped, ignored, already_ended, refused, exits, ServerData, Record, EngineFault, BadLog, BodyTooLong, NoMemory, followed_by, writes, stopped, IsRecordFault, after, reading, incoming_of, change_in, front_of, canonical_if, canonical_change_body, Session, Verdict, answered, recorded, bad, judge, IsSquashStep, OpenSeries, Squashing, Step, begun, change_output, end_bytes, faulty, longer, other_step, open_bytes, series_of, squash_step, squash_view, squashed_in, step_at, step_if, IsChange, IsLonger, IsOther, IsBegun}
 use Rattle.lsp_replay.proofs.Records.OutputLemmas.{output_after}
 
 -- any record but an accepted change
 pub step_other : (server : ServerData) (r : Record) (front : List ℕ) (series : Option OpenSeries) (change : Option
-    ChangeData)
-    (verdict : Verdict) → verdict ≢ bad → canonical_if server change verdict ≡ None
+    ChangeData) (verdict : Verdict) → verdict ≢ bad → canonical_if server change verdict ≡ None
     → step_if server r front series change verdict ≡ other_step r front series
 step_other server r front series change bad not_bad none = absurd (not_bad refl)
 step_other server r front series None recorded not_bad none = refl
@@ -57,8 +38,7 @@ step_changed server r front canonical series change verdict is =
     short false e = refl
 
 pub step_too_long : (server : ServerData) (r : Record) (front : List ℕ) (series : Option OpenSeries) (change : Option
-    ChangeData)
-    (verdict : Verdict) (p : ChangeData) → change ≡ Some p → verdict ≡ answered changed
+    ChangeData) (verdict : Verdict) (p : ChangeData) → change ≡ Some p → verdict ≡ answered changed
     → server.config.limits.max_body < length (canonical_change_body server p)
     → step_if server r front series change verdict ≡ faulty (BodyTooLong r.head.place)
 step_too_long server r front series change verdict p is accepted over =
@@ -132,8 +112,7 @@ module _ (s : Session) (front singles : List ℕ) (series : Option SquashData) (
 
   gives_more : (canonical : List ℕ) (batches : SquashData)
       (is : IsChange s.server (change_in (incoming_of (reading r.body))) verdict canonical)
-      → IsLonger series is.params batches
-      → squash_step s here r (judge s r) ≡ record {
+      → IsLonger series is.params batches → squash_step s here r (judge s r) ≡ record {
         out = [];
         end = None;
         series = series_of front (singles ++ (its_front ++ canonical)) (Some batches);
@@ -144,8 +123,7 @@ module _ (s : Session) (front singles : List ℕ) (series : Option SquashData) (
 
   gives_next : (canonical : List ℕ) (batches : SquashData)
       (is : IsChange s.server (change_in (incoming_of (reading r.body))) verdict canonical) → IsOther series is.params
-      → IsBegun s.server is.params batches
-      → squash_step s here r (judge s r) ≡ record {
+      → IsBegun s.server is.params batches → squash_step s here r (judge s r) ≡ record {
         out = end_bytes here;
         end = None;
         series = series_of its_front (its_front ++ canonical) (Some batches);
@@ -178,8 +156,7 @@ module _ (s : Session) (front singles : List ℕ) (series : Option SquashData) (
       pub told_as_it_is : (ended : Option SquashData) → ended ≡ begun_with → verdict ≢ bad
           → canonical_if s.server (change_in (incoming_of (reading r.body))) verdict ≡ None
           → (series_out front_out out : List ℕ) → series_out ≡ buffer ++ end_bytes (series_of front singles ended) →
-          front_out
-          ≡ series_out ++ its_front → out ≡ front_out ++ r.raw
+          front_out ≡ series_out ++ its_front → out ≡ front_out ++ r.raw
           → (batches : Option SquashData) → batches ≡ None → (last_front last_singles : List ℕ)
           → squash_step s here r (judge s r) ≡ record {
             out = out;
@@ -202,8 +179,7 @@ module _ (s : Session) (front singles : List ℕ) (series : Option SquashData) (
           (is : IsChange s.server (change_in (incoming_of (reading r.body))) verdict canonical)
           → IsLonger begun_with is.params batches
           → (frame new_front new_singles : List ℕ) → frame ≡ canonical → new_front ≡ front → new_singles
-          ≡ singles ++ (its_front ++ frame)
-          → squash_step s here r (judge s r) ≡ record {
+          ≡ singles ++ (its_front ++ frame) → squash_step s here r (judge s r) ≡ record {
             out = buffer;
             end = None;
             series = series_of new_front new_singles (Some batches);
@@ -247,8 +223,7 @@ step_ends q r fault is more =
     ap (λ (step : Step). followed_by step.out step.end (squashed_in (judge q.session r).session step.series more)) is
 
 pub step_failed : (q : Squashing) (r : Record) (fault : EngineFault) → (fault ≡ NoMemory)
-    ⊎ (IsRecordFault fault × (step_at q r ≡ faulty fault))
-    → (fault ≡ NoMemory)
+    ⊎ (IsRecordFault fault × (step_at q r ≡ faulty fault)) → (fault ≡ NoMemory)
     ⊎ (IsRecordFault fault × ((more : List Record) → squashed_in q.session q.series (r ∷ more) ≡ stopped [] (Err
     fault)))
 step_failed q r fault (inl memory) = inl memory

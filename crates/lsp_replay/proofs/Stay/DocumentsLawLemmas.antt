@@ -1,24 +1,6 @@
 -- What `normalise` writes of the records that stay: a log of which `replay` reports the same.
-use Rattle.std.proofs.Common.{◌≡◌, ℕ, Bool, true, false, ◌||◌, List, [], ◌∷◌, ◌++◌, length, Option, None, refl, sym, ap, ◌∙◌, subst}
-use Rattle.std.specs.Prelude.{Result, IfOk}
-use Rattle.std.specs.Io.KnownBytes.{Consumes}
-use Rattle.lsp_frame.specs.Limits.{AreInRange}
-use Rattle.lsp_stream.specs.declared.fault.EngineFault.{EngineFault}
-use Rattle.lsp_log.specs.declared.record.Version.{Version}
-use Rattle.lsp_log.specs.declared.record.Version.TheVariants.{One, Two}
-use Rattle.lsp_log.specs.Log.{Record, Log, IsReadAs, AreRecords, is_line_due, line_of, together}
-use Rattle.lsp_replay.specs.declared.commands.Settings.{Settings}
-use Rattle.lsp_replay.specs.declared.outcome.Outcome.{Outcome}
-use Rattle.lsp_replay.specs.Documents.{Kept, KeepsDocuments, WroteDocuments, documents, kept_records, nothing_selected}
+use Rattle.lsp_replay.proofs.Prelude.{◌≡◌, ℕ, Bool, true, false, ◌||◌, List, [], ◌∷◌, ◌++◌, length, Option, None, refl, sym, ap, ◌∙◌, subst, Result, IfOk, Consumes, AreInRange, EngineFault, Version, One, Two, Record, Log, IsReadAs, AreRecords, is_line_due, line_of, together, Settings, Outcome, Kept, KeepsDocuments, WroteDocuments, documents, kept_records, nothing_selected, PortState, all_of, AtEnd, Ran, as_log, canonical_log, log_config, report, IsCanonicalLog, IsSquashed, LeavesAlike, RunOutput, Session, opened, normalised_if, squashed, squashed_steps}
 use Rattle.lsp_replay.specs.laws.Documents.{DocumentsLaw, DocumentsStopAlike}
-use Rattle.lsp_replay.specs.Engine.{PortState, all_of}
-use Rattle.lsp_replay.specs.inside.Engine.{AtEnd, Ran}
-use Rattle.lsp_replay.specs.Commands.{as_log, canonical_log, log_config, report}
-use Rattle.lsp_replay.specs.laws.Written.{IsCanonicalLog, IsSquashed, LeavesAlike}
-use Rattle.lsp_replay.specs.RunOutput.{RunOutput}
-use Rattle.lsp_replay.specs.Session.{Session, opened}
-use Rattle.lsp_replay.specs.Squashed.{normalised_if, squashed}
-use Rattle.lsp_replay.specs.inside.Squashed.{squashed_steps}
 use Rattle.lsp_replay.proofs.Stay.KeptLogLemmas.{IsReportedAs, are_kept, each_located, kept_due, kept_stop, located_all, located_due, reported, squash_located}
 use Rattle.lsp_replay.proofs.Canonical.NormalisedLemmas.{canonical_log_law, version_is}
 use Rattle.lsp_replay.proofs.Records.NumberedLemmas.{alike_self}

@@ -1,25 +1,5 @@
 -- The records that stay, as a log of their own.
-use Rattle.std.proofs.Common.{◌≡◌, ◌≢◌, ℕ, ◌+◌, Bool, true, false, ◌||◌, List, [], ◌∷◌, ◌++◌, length, Option, Some, None, refl, sym, ap, ◌∙◌, subst, nat_lt, ⊎_elim}
-use Rattle.std.specs.Prelude.{if◌then◌else◌, Result, Err}
-use Rattle.lsp_frame.specs.Faults.{place_after}
-use Rattle.lsp_frame.specs.Frame.{frame}
-use Rattle.lsp_message.specs.Message.{reading}
-use Rattle.lsp_message.specs.Params.{ChangeData}
-use Rattle.lsp_server.specs.Incoming.{incoming_of}
-use Rattle.lsp_server.specs.Step.{ServerData}
-use Rattle.lsp_stream.specs.declared.fault.EngineFault.{EngineFault}
-use Rattle.lsp_stream.specs.declared.fault.EngineFault.TheVariants.{BadLog, BodyTooLong}
-use Rattle.lsp_log.specs.declared.record.Version.{Version}
-use Rattle.lsp_log.specs.declared.record.Version.TheVariants.{One, Two}
-use Rattle.lsp_log.specs.Log.{Record, AreRecords, is_line_due, record_bytes}
-use Rattle.lsp_replay.specs.declared.outcome.Outcome.{Outcome}
-use Rattle.lsp_replay.specs.Documents.{Kept, Selection, after_kept, after_left_out, is_due, kept_first, kept_in, record_stays, with_line}
-use Rattle.lsp_replay.specs.Commands.{RecordOutput, canonical_change_body, canonical_if, change_in, followed_by, ends, front_of, normalising, replaying, unless_bad, writes, written}
-use Rattle.lsp_replay.specs.inside.Commands.{run_output_in}
-use Rattle.lsp_replay.specs.inside.Joining.{IsChange}
-use Rattle.lsp_replay.specs.RunOutput.{RunOutput}
-use Rattle.lsp_replay.specs.Session.{Session, Verdict, answered, bad, judge, recorded}
-use Rattle.lsp_replay.specs.inside.Squashed.{OpenSeries, Step, squash_step, squashed_in}
+use Rattle.lsp_replay.proofs.Prelude.{◌≡◌, ◌≢◌, ℕ, ◌+◌, Bool, true, false, ◌||◌, List, [], ◌∷◌, ◌++◌, length, Option, Some, None, refl, sym, ap, ◌∙◌, subst, nat_lt, ⊎_elim, if◌then◌else◌, Result, Err, place_after, frame, reading, ChangeData, incoming_of, ServerData, EngineFault, BadLog, BodyTooLong, Version, One, Two, Record, AreRecords, is_line_due, record_bytes, Outcome, Kept, Selection, after_kept, after_left_out, is_due, kept_first, kept_in, record_stays, with_line, RecordOutput, canonical_change_body, canonical_if, change_in, followed_by, ends, front_of, normalising, replaying, unless_bad, writes, written, run_output_in, IsChange, RunOutput, Session, Verdict, answered, bad, judge, recorded, OpenSeries, Step, squash_step, squashed_in}
 use Rattle.lsp_replay.proofs.Records.ChangeLemmas.{IsChangeKind, IsOtherKind, kind_of}
 use Rattle.lsp_replay.proofs.Stay.LeftOutLemmas.{harmless, stays_alike}
 use Rattle.lsp_replay.proofs.Canonical.NormalisedLemmas.{went_on}
@@ -36,8 +16,7 @@ pub kept_true : (s : Session) (c : Selection) (r : Record) (rs : List Record) �
 kept_true s c r rs e = rw e refl
 
 pub kept_false : (s : Session) (c : Selection) (r : Record) (rs : List Record) → record_stays s c.waiting r.head.side
-    r.body ≡ false
-    → kept_in s c (r ∷ rs) ≡ kept_in s (after_left_out c r.head) rs
+    r.body ≡ false → kept_in s c (r ∷ rs) ≡ kept_in s (after_left_out c r.head) rs
 kept_false s c r rs e = rw e refl
 
 -- ---- what a record gives
@@ -105,8 +84,7 @@ kept_stop s t c (r ∷ rs) like =
 
     by : (b : Bool) → record_stays t c.waiting r.head.side r.body ≡ b
         → (run_output_in normalising (judge t r).session (kept_in (judge t r).session (after_kept c r.head r.body)
-        rs).records).stop ≡ (run_output_in normalising (judge s r).session rs).stop
-        → (IsAlike (judge s r).session t
+        rs).records).stop ≡ (run_output_in normalising (judge s r).session rs).stop → (IsAlike (judge s r).session t
         → (run_output_in normalising t (kept_in t (after_left_out c r.head) rs).records).stop
         ≡ (run_output_in normalising (judge s r).session rs).stop)
         → (run_output_in normalising t (kept_in t c (r ∷ rs)).records).stop
@@ -232,8 +210,7 @@ located_written max_body at r front None e = refl
 located_written max_body at r front (Some body) e = by (nat_lt max_body (length body)) e
   where
     by : (over : Bool) → (if over then ends [] (Err (BodyTooLong r.head.place)) else writes (front ++ frame body)).end
-        ≡ None
-        → (if over then ends [] (Err (BodyTooLong (place_after 0 at))) else writes (front ++ frame body))
+        ≡ None → (if over then ends [] (Err (BodyTooLong (place_after 0 at))) else writes (front ++ frame body))
         ≡ (if over then ends [] (Err (BodyTooLong r.head.place)) else writes (front ++ frame body))
     by true f = absurd (let wrong : Some (Err (BodyTooLong r.head.place)) ≡ None = f in cc)
     by false f = refl

@@ -1,27 +1,8 @@
 -- A record that is left out changes nothing of a session but its counts.
-use Rattle.std.proofs.Common.{◌≡◌, ◌≢◌, ℕ, Bool, true, false, ◌&&◌, ◌||◌, List, Option, Some, None, is_some, refl, sym, ap, ◌∙◌, subst}
-use Rattle.std.specs.Prelude.{if◌then◌else◌, option_map}
-use Rattle.serde_json.specs.Data.{Data}
-use Rattle.lsp_message.specs.Message.{IdData, Reading, reading}
-use Rattle.lsp_message.specs.Message as read
-use Rattle.lsp_message.specs.Outgoing.{OutgoingData, error_reply}
-use Rattle.lsp_message.specs.Params.{ChangeData}
-use Rattle.lsp_message.specs.declared.outgoing.ErrorCode.TheVariants.{MethodNotFound}
-use Rattle.lsp_server.specs.declared.phase.Phase.{Phase}
-use Rattle.lsp_server.specs.declared.phase.Phase.TheVariants.{New, Running, Down, Ended}
-use Rattle.lsp_server.specs.Answer.{AnswerData, reply, dropped, ignored, as_sent}
-use Rattle.lsp_server.specs.Incoming.{IncomingData, not_json, not_a_message, response, initialize, shutdown, other_request, exit, did_open, did_change, did_close, other_notification, incoming_of}
+use Rattle.lsp_replay.proofs.Prelude.{◌≡◌, ◌≢◌, ℕ, Bool, true, false, ◌&&◌, ◌||◌, List, Option, Some, None, is_some, refl, sym, ap, ◌∙◌, subst, if◌then◌else◌, option_map, Data, IdData, Reading, reading, OutgoingData, error_reply, ChangeData, MethodNotFound, Phase, New, Running, Down, Ended, AnswerData, reply, dropped, ignored, as_sent, IncomingData, not_json, not_a_message, response, initialize, shutdown, other_request, exit, did_open, did_change, did_close, other_notification, incoming_of, one_more, Version, One, Two, Sender, Client, Server, Record, is_answer_to, message_stays, record_stays, canonical_if, change_in, Session, answered, recorded, bad, Judged, judged, judge, judge_from, judge_client, handled, judge_server, encoding_for, encoding_in, counted, count_if, result_for, is_change, is_early, is_ended, is_new, is_refused, is_running, expected_of}
 use Rattle.lsp_server.specs.Step.{ServerData, Step, unchanged_step, step_in, step_on}
-use Rattle.lsp_stream.specs.Ports.{one_more}
-use Rattle.lsp_log.specs.declared.record.Version.{Version}
-use Rattle.lsp_log.specs.declared.record.Version.TheVariants.{One, Two}
-use Rattle.lsp_log.specs.declared.record.Sender.{Sender}
-use Rattle.lsp_log.specs.declared.record.Sender.TheVariants.{Client, Server}
-use Rattle.lsp_log.specs.Log.{Record}
-use Rattle.lsp_replay.specs.Documents.{is_answer_to, message_stays, record_stays}
-use Rattle.lsp_replay.specs.Commands.{canonical_if, change_in}
-use Rattle.lsp_replay.specs.Session.{Session, answered, recorded, bad, Judged, judged, judge, judge_from, judge_client, handled, judge_server, encoding_for, encoding_in, counted, count_if, result_for, is_change, is_early, is_ended, is_new, is_refused, is_running, expected_of}
 use Rattle.lsp_replay.proofs.Records.NumberedLemmas.{IsAlike}
+use Rattle.lsp_message.specs.Message as read
 
 -- What becomes of a record that is left out.
 pub record IsHarmless (s : Session) (change : Option ChangeData) (j : Judged) : Type 0 where
@@ -71,8 +52,7 @@ module _ (server : ServerData) where
 
   idle_notification : (phase : Phase) (method : List ℕ) (answer : AnswerData OutgoingData) → is_ended phase ≡ false
       → step_in phase server (other_notification method) ≡ unchanged_step server answer
-      → is_refused (as_sent answer) ≡ false
-      → IsIdle phase server (other_notification method)
+      → is_refused (as_sent answer) ≡ false → IsIdle phase server (other_notification method)
   idle_notification phase method answer goes step accepted = record {
     goes_on = goes;
     answer = answer;

@@ -1,27 +1,6 @@
 -- What a command writes of the records that stay, a record at a time, and over all records.
-use Rattle.std.proofs.Common.{◌≡◌, ◌⊎◌, inl, inr, ℕ, Bool, true, false, List, [], ◌∷◌, ◌++◌, Option, Some, None, refl, sym, ap, ◌∙◌}
-use Rattle.std.specs.Prelude.{if◌then◌else◌, Result, Ok, Err, IfErr, IfOk, MatchOption, OnOk}
-use Rattle.lsp_replay.specs.declared.outcome.Outcome.{Outcome}
-use Rattle.lsp_stream.specs.declared.fault.EngineFault.{EngineFault}
-use Rattle.lsp_stream.specs.declared.fault.EngineFault.TheVariants.{NoMemory}
-use Rattle.lsp_stream.specs.Ports.{Ports}
-use Rattle.lsp_log.specs.declared.record.Head.{Head}
-use Rattle.lsp_log.specs.declared.record.Sender.{Sender}
-use Rattle.lsp_log.specs.declared.record.Sender.TheVariants.{Client, Server}
-use Rattle.lsp_log.specs.declared.record.Version.{Version}
-use Rattle.lsp_log.specs.Log.{LogRules, Record}
-use Rattle.lsp_log.specs.laws.Logs.{FirstLaw, VersionLaw}
-use Rattle.lsp_message.specs.Message.{IdData}
-use Rattle.lsp_replay.specs.Documents.{Kept, Selection, after_kept, after_left_out, is_due, kept_in, output_of_kept, record_stays, waiting_after, with_due, with_line}
-use Rattle.lsp_replay.specs.Commands.{View, followed_by, output_in}
-use Rattle.lsp_replay.specs.Run.{IsEngineRun}
-use Rattle.lsp_replay.specs.RunOutput.{RunOutput, stopped, written_first}
-use Rattle.lsp_replay.specs.Session.{Session, judge}
-use Rattle.lsp_replay.specs.inside.Bodies.{BodyData, body_read}
-use Rattle.lsp_replay.specs.inside.Engine.{IsLoopRun}
-use Rattle.lsp_replay.specs.inside.Piped.{IsAdmitted, once_written, piped, written_due}
+use Rattle.lsp_replay.proofs.Prelude.{◌≡◌, ◌⊎◌, inl, inr, ℕ, Bool, true, false, List, [], ◌∷◌, ◌++◌, Option, Some, None, refl, sym, ap, ◌∙◌, if◌then◌else◌, Result, Ok, Err, IfErr, IfOk, MatchOption, OnOk, Outcome, EngineFault, NoMemory, Ports, Head, Sender, Client, Server, Version, LogRules, Record, FirstLaw, VersionLaw, IdData, Kept, Selection, after_kept, after_left_out, is_due, kept_in, output_of_kept, record_stays, waiting_after, with_due, with_line, View, followed_by, output_in, IsEngineRun, RunOutput, stopped, written_first, Session, judge, BodyData, body_read, IsLoopRun, IsAdmitted, once_written, piped, written_due, IsRecordFault, after}
 use Rattle.lsp_replay.specs.inside.Reads.{IsKept, IsLeftOut, stays_read, waiting_read}
-use Rattle.lsp_replay.specs.inside.RunOutput.{IsRecordFault, after}
 use Rattle.lsp_replay.proofs.Stay.KeptLogLemmas.{kept_false, kept_true}
 use Rattle.lsp_replay.proofs.Runs.RunReportLemmas.{Grows, GrowsAll, NoneCut, Settles, grows, run_of, run_of_course, settled}
 
@@ -130,8 +109,7 @@ module _ (s : Session) (c d : Selection) (head : Head) (raw body : List ℕ) (wr
   pub goes_wrong : (output : List Record → RunOutput) (fault : EngineFault)
       → ((more : List Record) → output (its ∷ more) ≡ stopped [] (Err fault)) → (more : List Record)
       → piped (Some c) output s (r ∷ more) ≡ stopped [] (Err fault)
-  goes_wrong output fault step more =
-      goes_in output more ∙ ap (with_due (later more).due) (step (later more).records)
+  goes_wrong output fault step more = goes_in output more ∙ ap (with_due (later more).due) (step (later more).records)
 
 -- ---- the same, with a selection or without
 
@@ -145,8 +123,7 @@ module _ (s : Session) (head : Head) (raw body : List ℕ) where
   pub left_out : (c d : Option Selection) → IsAdmitted s c d head body None → (output : List Record → RunOutput)
       (bytes : List ℕ) → bytes ≡ [] → (more : List Record)
       → piped c output s (given ∷ more) ≡ after bytes None (piped d output s more)
-  left_out None d admitted output bytes nothing more =
-      absurd (let wrong : None ≡ Some head = admitted.1 in cc)
+  left_out None d admitted output bytes nothing more = absurd (let wrong : None ≡ Some head = admitted.1 in cc)
   left_out (Some c) None admitted output bytes nothing more = absurd admitted
   left_out (Some c) (Some d) admitted output bytes nothing more =
       goes_without s c d given admitted output bytes nothing more
@@ -219,11 +196,9 @@ same_outcome None output s = refl
 same_outcome (Some c) output s = refl
 
 pub finished : (c : Option Selection) (output next : List Record → RunOutput) (s t : Session) (line_due due : Bool)
-    → due ≡ written_due c line_due → (bytes : List ℕ) (Falls : Type 0) (end : Option Outcome)
-    → MatchOption end
+    → due ≡ written_due c line_due → (bytes : List ℕ) (Falls : Type 0) (end : Option Outcome) → MatchOption end
     (((output []).last due ≡ bytes ++ (next []).last false) × ((next []).outcome ≡ (output []).outcome) × Falls)
-    (λ outcome. ((output []).last due ≡ bytes) × (outcome ≡ (output []).outcome))
-    → MatchOption end
+    (λ outcome. ((output []).last due ≡ bytes) × (outcome ≡ (output []).outcome)) → MatchOption end
     (((piped c output s []).last line_due ≡ bytes ++ (piped (once_written c) next t []).last false)
     × ((piped (once_written c) next t []).outcome ≡ (piped c output s []).outcome) × Falls)
     (λ outcome. ((piped c output s []).last line_due ≡ bytes) × (outcome ≡ (piped c output s []).outcome))
@@ -310,15 +285,13 @@ pub run_of_piped : {State : Type 0} → FirstLaw → VersionLaw → (view : View
     (c : Option Selection) (in_parts : Bool) {log_rules : LogRules} {flushes : Bool} {max_turns : ℕ}
     {before after : Ports} {result : Result Outcome EngineFault}
     → IsLoopRun log_rules (piped c (output_in view state s) s) flushes max_turns before after result
-    → NoneCut in_parts log_rules (piped c (output_in view state s) s) before after result
-    → IsEngineRun (record {
+    → NoneCut in_parts log_rules (piped c (output_in view state s) s) before after result → IsEngineRun (record {
       log_rules = log_rules;
       run_output = piped c (output_in view state s) s;
       flushes = flushes;
       in_parts = in_parts;
     }) max_turns before after result
-run_of_piped first version view state s None in_parts run whole =
-    run_of first version view state s in_parts run whole
+run_of_piped first version view state s None in_parts run whole = run_of first version view state s in_parts run whole
 run_of_piped first version view state s (Some c) in_parts run whole =
     run_of_course first version (piped (Some c) (output_in view state s) s)
     (kept_settles s c (output_in view state s) (settled view state s) (even view state s))

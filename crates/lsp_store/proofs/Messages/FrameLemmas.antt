@@ -1,12 +1,9 @@
 -- A written frame has one body.
-use Rattle.std.proofs.Common.{ℕ, ◌≡◌, ◌<◌, ◌^◌, List, [], ◌∷◌, ◌++◌, length, codes, decimal, ap, subst, arith}
+use Rattle.lsp_store.proofs.Prelude.{ℕ, ◌≡◌, ◌<◌, ◌^◌, List, [], ◌∷◌, ◌++◌, length, codes, decimal, ap, subst, arith, append_assoc, append_cancel_left, digit_value, common_steps}
 use Rattle.std.proofs.lemmas.Fmt.{decimal_is_IsNumeral}
-use Rattle.std.proofs.lemmas.List.{append_assoc, append_cancel_left}
-use Rattle.std.specs.Char.{digit_value}
 use Rattle.std.specs.Str.Parse.{AllDigits}
 use Rattle.lsp_frame.specs.Frame.{frame}
 use Rattle.lsp_frame.proofs.WrittenLemmas.{frame_len}
-use Rattle.std.proofs.lemmas.Grind.{common_steps}
 
 -- what stands behind the first carriage return, where digits stand before it
 after_return : (xs ys a b : List ℕ) → AllDigits 10 xs → AllDigits 10 ys → xs ++ 13 ∷ a ≡ ys ++ 13 ∷ b → a ≡ b

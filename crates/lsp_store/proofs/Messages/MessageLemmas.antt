@@ -1,43 +1,18 @@
 -- The canonical message of a batch that is accepted on an open document.
-use Rattle.std.proofs.Common.{ℕ, ℤ, ◌≡◌, ◌<◌, ◌≤◌, ◌^◌, ◌↔◌, true, false, nat_lt, List, [], ◌∷◌, ◌++◌, length, map, sum_by, FitsSigned, IsUtf8, bytes_eq, string_bytes, encode_utf8_all, Option, Some, None, Result, Ok, Err, refl, sym, ap, ◌∙◌, subst, arith, ⊎_elim, inl, inr}
-use Rattle.std.proofs.lemmas.Bool.{cases_Bool, lt-ltb, le-ltb, ltb-false, or_parts, or_from}
-use Rattle.std.proofs.lemmas.List.Sums.{sum_by-le-sum_by}
-use Rattle.std.proofs.lemmas.Str.{IsUtf8-string_bytes, encodes-chars, encodes_same, scalars-chars}
-use Rattle.std.specs.Char.{len_utf8}
+use Rattle.lsp_store.proofs.Prelude.{ℕ, ℤ, ◌≡◌, ◌<◌, ◌≤◌, ◌^◌, ◌↔◌, true, false, nat_lt, List, [], ◌∷◌, ◌++◌, length, map, sum_by, FitsSigned, IsUtf8, bytes_eq, string_bytes, encode_utf8_all, Option, Some, None, Result, Ok, Err, refl, sym, ap, ◌∙◌, subst, arith, ⊎_elim, inl, inr, cases_Bool, lt-ltb, le-ltb, ltb-false, or_parts, or_from, sum_by-le-sum_by, IsUtf8-string_bytes, encodes-chars, encodes_same, scalars-chars, len_utf8, chars, frame, LimitsData, utf8_bounds, utf16_bounds, utf32_bounds, units_in, Encoding, Utf8, Utf16, Utf32, Change, Item, text_of, ContentChange, Fault, meaning, canonical, content_change, IsCanonical, bytes_left, DocumentItem, ContentChangeData, IsProper, IsReadAsSent, IsReadBack, StoreFault, NoMemory, store_fault_of_encode, IsRefusal, IsLeftToMeaning, Refusal, edit, batch_bytes, greatest_batch, entry_at, entry_refusal, change_refusal, after_change, changed, is_stale, meaning_refusal, common_steps}
 use Rattle.std.specs.Int.{w32}
-use Rattle.std.specs.Str.{chars}
 use Rattle.lsp_frame.specs.Encode.{IsEncodeFault}
-use Rattle.lsp_frame.specs.Frame.{frame}
-use Rattle.lsp_frame.specs.Limits.{LimitsData}
 use Rattle.lsp_frame.specs.declared.written.EncodeFault.{EncodeFault}
-use Rattle.lsp_frame.specs.declared.written.EncodeFault.TheVariants as encode
-use Rattle.lsp_text.specs.laws.Units.{utf8_bounds, utf16_bounds, utf32_bounds}
-use Rattle.lsp_text.specs.Units.{units_in}
-use Rattle.lsp_text.specs.declared.encoding.Encoding.{Encoding}
-use Rattle.lsp_text.specs.declared.encoding.Encoding.TheVariants.{Utf8, Utf16, Utf32}
-use Rattle.lsp_edit.specs.declared.change.Change.{Change}
-use Rattle.lsp_edit.specs.Items.{Item, text_of}
-use Rattle.lsp_edit.specs.Batch.{ContentChange, Fault, meaning}
-use Rattle.lsp_edit.specs.Canonical.{canonical}
-use Rattle.lsp_edit.specs.Edited.{content_change}
-use Rattle.lsp_edit.specs.laws.Batches.{IsCanonical}
-use Rattle.lsp_edit.specs.Indexed.{bytes_left}
 use Rattle.lsp_message.specs.Outgoing.{OutgoingData, initialize, initialized, did_open, did_change, did_close, shutdown, exit, initialize_result, shutdown_result, error_reply, body_of}
-use Rattle.lsp_message.specs.Params.{DocumentItem, ContentChangeData}
 use Rattle.lsp_message.specs.Seen.{content_change_view}
-use Rattle.lsp_message.specs.Seen as seen
-use Rattle.lsp_message.specs.laws.Sent.{IsProper, IsReadAsSent, IsReadBack}
 use Rattle.lsp_message.specs.Written.{change_params}
-use Rattle.lsp_store.specs.declared.fault.StoreFault.{StoreFault}
-use Rattle.lsp_store.specs.declared.fault.StoreFault.TheVariants.{NoMemory}
-use Rattle.lsp_store.specs.Faults.{store_fault_of_encode, IsRefusal}
-use Rattle.lsp_store.specs.Table.{IsLeftToMeaning, Refusal, edit, batch_bytes, greatest_batch, entry_at, entry_refusal, change_refusal, after_change, changed, is_stale, meaning_refusal}
 use Rattle.lsp_store.specs.Message.{AreTexts, DoAlike, IsCanonicalOn, IsReadAgain, IsCanonicalOf, body_refusal, canonical_batch, canonical_body, canonical_frame, change_body, change_message, else_refused, written_content_change}
 use Rattle.lsp_store.proofs.Messages.FrameLemmas.{frame_one}
 use Rattle.lsp_store.proofs.Messages.ProperLemmas.{bytes_sum, canonical_proper}
 use Rattle.lsp_store.proofs.Tables.RefusalLemmas.{refused_meaning}
 use Rattle.lsp_store.proofs.Messages.ScalarLemmas.{canonical_texts}
-use Rattle.std.proofs.lemmas.Grind.{common_steps}
+use Rattle.lsp_frame.specs.declared.written.EncodeFault.TheVariants as encode
+use Rattle.lsp_message.specs.Seen as seen
 
 -- ---- what is written
 
@@ -138,8 +113,7 @@ meaning_parts : (limits : LimitsData) (text : List ℕ) (meant : Result (List It
     → meaning_refusal limits text meant ≡ None → (items : List Item) × (meant ≡ Ok items)
     × (length (bytes_left text items) ≤ limits.max_text)
 meaning_parts limits text (Err fault) e = let bad : Some (edit fault.0 fault.1) ≡ None = e in absurd (cc)
-meaning_parts limits text (Ok items) e =
-    grind (arith, common_steps, nat_lt, ltb-false, cases_Bool)
+meaning_parts limits text (Ok items) e = grind (arith, common_steps, nat_lt, ltb-false, cases_Bool)
 
 pub accepted_parts : (limits : LimitsData) (units : ℕ → ℕ) (entry : DocumentItem) (version : ℤ)
     (batch : List ContentChange)
@@ -163,8 +137,7 @@ accepted_left limits units entry version batch is = grind (
 pub accepted_from : (limits : LimitsData) (units : ℕ → ℕ) (entry : DocumentItem) (version : ℤ)
     (batch : List ContentChange)
     → Accepts limits units entry version batch → entry_refusal limits units entry version batch ≡ None
-accepted_from limits units entry version batch a =
-    grind (arith, common_steps, nat_lt, or_from, le-ltb)
+accepted_from limits units entry version batch a = grind (arith, common_steps, nat_lt, or_from, le-ltb)
 
 -- what a batch leaves is told by what it makes of the document
 pub leaves_same : (units : ℕ → ℕ) (table : List DocumentItem) (uri : List ℕ) (version : ℤ)
@@ -228,13 +201,7 @@ module _ (limits : LimitsData) (encoding : Encoding) (table : List DocumentItem)
           arith,
           bytes_sum e.text,
         )) in
-        omega (
-          arith,
-          weigh,
-          law.short len_utf8,
-          bytes_sum (text_of (chars entry.text) accepts.items),
-          small,
-        )
+        omega (arith, weigh, law.short len_utf8, bytes_sum (text_of (chars entry.text) accepts.items), small)
 
     settled_may : length (bytes_left entry.text accepts.items) ≤ 1073741824 → entry_refusal limits (units_in encoding)
         entry version (canonical (units_in encoding) (chars entry.text) accepts.items) ≡ None
@@ -322,8 +289,7 @@ module _ (limits : LimitsData) (encoding : Encoding) (table : List DocumentItem)
 
     pub exactly_alike : (batch other : List ContentChange) → AreTexts batch → AreTexts other
         → entry_refusal limits (units_in encoding) entry version batch ≡ None → entry_refusal limits (units_in encoding)
-        entry version other ≡ None
-        → length (canonical_frame (units_in encoding) table uri version batch) < 2 ^ 64
+        entry version other ≡ None → length (canonical_frame (units_in encoding) table uri version batch) < 2 ^ 64
         → (canonical_frame (units_in encoding) table uri version batch ≡ canonical_frame (units_in encoding) table uri
         version other) ↔ DoAlike (units_in encoding) table uri batch other
     exactly_alike batch other texts others may also small = (forth, back)
@@ -371,8 +337,7 @@ module _ (limits : LimitsData) (encoding : Encoding) (table : List DocumentItem)
             ∙ (same ∙ sym (batch_at other alike.others other_means)))
 
     pub is_read : (batch : List ContentChange) → AreTexts batch → entry_refusal limits
-        (units_in encoding) entry version batch
-        ≡ None
+        (units_in encoding) entry version batch ≡ None
         → ((m : OutgoingData) → IsProper m → IsReadAsSent m) → ((m : OutgoingData) → IsProper m → IsReadBack m)
         → IsReadAgain uri version (canonical_batch (units_in encoding) table uri batch)
     unfolding change_body

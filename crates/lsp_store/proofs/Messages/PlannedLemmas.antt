@@ -1,21 +1,7 @@
 -- The canonical message of a batch that was planned: what holds of it.
-use Rattle.std.proofs.Common.{ℕ, ℤ, ◌≡◌, ◌<◌, ◌≤◌, ◌^◌, ◌↔◌, List, length, FitsSigned, IsUtf8, None, Result, Ok, sym, ap, ◌∙◌, arith}
+use Rattle.lsp_store.proofs.Prelude.{ℕ, ℤ, ◌≡◌, ◌<◌, ◌≤◌, ◌^◌, ◌↔◌, List, length, FitsSigned, IsUtf8, None, Result, Ok, sym, ap, ◌∙◌, arith, chars, Encoding, units_in, Item, ContentChange, Fault, meaning, bytes_left, IsCanonical, canonical_law, units_some, within_told, Plan, AreTexts, DoAlike, IsCanonicalOf, IsReadAgain, canonical_batch, canonical_frame, message_refusal, StoreData, IsPlanOf, change_refusal, entry_refusal}
 use Rattle.std.specs.Int.{w32}
-use Rattle.std.specs.Str.{chars}
-use Rattle.lsp_text.specs.declared.encoding.Encoding.{Encoding}
-use Rattle.lsp_text.specs.Units.{units_in}
-use Rattle.lsp_edit.specs.Items.{Item}
-use Rattle.lsp_edit.specs.Batch.{ContentChange, Fault, meaning}
-use Rattle.lsp_edit.specs.Indexed.{bytes_left}
-use Rattle.lsp_edit.specs.laws.Batches.{IsCanonical}
-use Rattle.lsp_edit.proofs.Batches.LawLemmas.{canonical_law, units_some}
-use Rattle.lsp_edit.proofs.Deltas.DeltaLemmas.{within_told}
 use Rattle.lsp_message.proofs.ReadBack.{body_of-unique, is_read_back, reading-body_of}
-use Rattle.lsp_store.specs.declared.store.plan.Plan.{Plan}
-use Rattle.lsp_store.specs.Message.{AreTexts, DoAlike, IsCanonicalOf, IsReadAgain, canonical_batch, canonical_frame, message_refusal}
-use Rattle.lsp_store.specs.Opened.{StoreData}
-use Rattle.lsp_store.specs.Plan.{IsPlanOf}
-use Rattle.lsp_store.specs.Table.{change_refusal, entry_refusal}
 use Rattle.lsp_store.proofs.Messages.MessageLemmas.{accepts, exactly_alike, is_read, settles}
 use Rattle.lsp_store.proofs.Tables.PlanLemmas.{on_short, on_utf8}
 

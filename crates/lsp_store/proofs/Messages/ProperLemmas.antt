@@ -1,22 +1,7 @@
 -- A canonical batch is one that the types hold: its positions fit, and its texts are UTF-8.
-use Rattle.std.proofs.Common.{ℕ, zero, suc, ◌≡◌, ◌+◌, ◌-◌, ◌<◌, ◌≤◌, ◌^◌, true, false, List, [], ◌∷◌, ◌++◌, length, map, reverse, filter, drop, sum_by, All, IfSome, encode_utf8_all, refl, arith, ⊎_elim}
-use Rattle.std.specs.Prelude.{⊤}
-use Rattle.std.proofs.lemmas.Bool.{cases_Bool}
-use Rattle.std.proofs.lemmas.List.{reverse-append, length-append}
+use Rattle.lsp_store.proofs.Prelude.{ℕ, zero, suc, ◌≡◌, ◌+◌, ◌-◌, ◌<◌, ◌≤◌, ◌^◌, true, false, List, [], ◌∷◌, ◌++◌, length, map, reverse, filter, drop, sum_by, All, IfSome, encode_utf8_all, refl, arith, ⊎_elim, ⊤, cases_Bool, reverse-append, length-append, sum_by-cons, sum_by-take-le, sum_by-take-drop, sum_by-le-sum_by, length-encode, len_utf8_bounds, len_utf8, line_at, line_start, units_between, Item, ContentChange, Gap, gaps, is_changed, change_of_gap, canonical, AllHaveExactEnds, HasExactEnds, IsProperPosition, IsProperRange, IsProperEdit, AreTexts, written_content_change, common_steps}
 use Rattle.std.proofs.lemmas.List.Elements.{All-nil, All-cons}
-use Rattle.std.proofs.lemmas.List.Sums.{sum_by-cons, sum_by-take-le, sum_by-take-drop, sum_by-le-sum_by}
-use Rattle.std.proofs.lemmas.Str.{length-encode, len_utf8_bounds}
-use Rattle.std.specs.Char.{len_utf8}
-use Rattle.lsp_text.specs.TextLines.{line_at, line_start}
-use Rattle.lsp_text.specs.Units.{units_between}
 use Rattle.lsp_text.specs.Positions.{exact_position}
-use Rattle.lsp_edit.specs.Items.{Item}
-use Rattle.lsp_edit.specs.Batch.{ContentChange}
-use Rattle.lsp_edit.specs.Canonical.{Gap, gaps, is_changed, change_of_gap, canonical}
-use Rattle.lsp_edit.specs.laws.Batches.{AllHaveExactEnds, HasExactEnds}
-use Rattle.lsp_message.specs.laws.Sent.{IsProperPosition, IsProperRange, IsProperEdit}
-use Rattle.lsp_store.specs.Message.{AreTexts, written_content_change}
-use Rattle.std.proofs.lemmas.Grind.{common_steps}
 
 -- a text has as many bytes as its characters weigh, and at least as many bytes as characters
 pub bytes_sum : (text : List ℕ) → length (encode_utf8_all text) ≡ sum_by len_utf8 text
@@ -37,8 +22,7 @@ chars_few (c ∷ text) = omega (arith, chars_few text, sum_by-cons len_utf8 c te
 
 line_few : (text : List ℕ) (k : ℕ) → line_at text k ≤ k
 line_few text zero = omega arith
-line_few text (suc k) =
-    grind (arith, common_steps, cases_Bool, (line_few text k))
+line_few text (suc k) = grind (arith, common_steps, cases_Bool, (line_few text k))
 
 units_few : (units : ℕ → ℕ) → ((c : ℕ) → units c ≤ len_utf8 c) → (text : List ℕ) (from to : ℕ)
     → units_between units text from to ≤ sum_by len_utf8 text

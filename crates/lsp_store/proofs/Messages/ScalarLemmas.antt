@@ -1,19 +1,8 @@
 -- The texts of a canonical batch hold scalar values, where the old text and the batch's texts do.
-use Rattle.std.proofs.Common.{ℕ, zero, suc, ◌≡◌, ◌≤◌, true, cond, List, [], ◌∷◌, ◌++◌, length, map, take, drop, slice_index, sum_by, Option, Some, None, Result, Ok, Err, nat_le, refl, arith}
-use Rattle.std.specs.Prelude.{⊤}
-use Rattle.std.proofs.lemmas.Bool.{and_parts, and_from, cases_Bool}
-use Rattle.std.proofs.lemmas.List.Sums.{sum_by-cons}
+use Rattle.lsp_store.proofs.Prelude.{ℕ, zero, suc, ◌≡◌, ◌≤◌, true, cond, List, [], ◌∷◌, ◌++◌, length, map, take, drop, slice_index, sum_by, Option, Some, None, Result, Ok, Err, nat_le, refl, arith, ⊤, and_parts, and_from, cases_Bool, sum_by-cons, all_scalars, numbers_from, Item, Old, New, plain, text_of, ContentChange, Fault, InsideStart, InsideStop, changed_in, items_after, after_changes, continue_with, meaning, canonical, IsCanonical, AreTexts, common_steps}
 use Rattle.std.proofs.Math.Utf8.{scalar}
-use Rattle.std.specs.Str.{all_scalars}
-use Rattle.lsp_text.specs.TextLines.{numbers_from}
 use Rattle.lsp_text.specs.declared.position.Range.{Range}
-use Rattle.lsp_edit.specs.Items.{Item, Old, New, plain, text_of}
-use Rattle.lsp_edit.specs.Batch.{ContentChange, Fault, InsideStart, InsideStop, changed_in, items_after, after_changes, continue_with, meaning}
 use Rattle.lsp_edit.specs.inside.Batch.{replaced}
-use Rattle.lsp_edit.specs.Canonical.{canonical}
-use Rattle.lsp_edit.specs.laws.Batches.{IsCanonical}
-use Rattle.lsp_store.specs.Message.{AreTexts}
-use Rattle.std.proofs.lemmas.Grind.{common_steps}
 
 -- the new characters among items are scalar values
 abbrev pub NewAreScalar : List Item → Type 0
@@ -60,23 +49,19 @@ scalar-replaced items characters (Some start) (Some stop) next p all e =
 scalar-changed : (units : ℕ → ℕ) (old : List ℕ) (items : List Item) (characters : List ℕ) (range : Option Range)
     (next : List Item) → NewAreScalar items → all_scalars characters ≡ true → changed_in units old items characters
     range ≡ Ok next → NewAreScalar next
-scalar-changed units old items characters None next p all e =
-    grind (arith, common_steps, scalar-new)
-scalar-changed units old items characters (Some range) next p all e =
-    grind (arith, common_steps, scalar-replaced)
+scalar-changed units old items characters None next p all e = grind (arith, common_steps, scalar-new)
+scalar-changed units old items characters (Some range) next p all e = grind (arith, common_steps, scalar-replaced)
 
 scalar-changes : (units : ℕ → ℕ) (old : List ℕ) (number : ℕ) (items : List Item) (batch : List ContentChange)
     (next : List Item)
     → NewAreScalar items → AreTexts batch → after_changes units old number items batch ≡ Ok next → NewAreScalar next
-scalar-changes units old number items [] next p texts e =
-    grind (arith, common_steps)
+scalar-changes units old number items [] next p texts e = grind (arith, common_steps)
 scalar-changes units old number items (change ∷ batch) next p texts e =
     by (λ (made : List Item) (q : NewAreScalar made) (f : after_changes units old (suc number) made batch ≡ Ok next).
     scalar-changes units old (suc number) made batch next q texts.1 f) (items_after units old items change) refl e
   where
     by : ((made : List Item) → NewAreScalar made → after_changes units old (suc number) made batch ≡ Ok next
-        → NewAreScalar next)
-        → (r : Result (List Item) Fault) → items_after units old items change ≡ r
+        → NewAreScalar next) → (r : Result (List Item) Fault) → items_after units old items change ≡ r
         → continue_with (λ made. after_changes units old (suc number) made batch) number r ≡ Ok next → NewAreScalar next
     by rest (Ok made) is e = rest made (scalar-changed units old items change.text change.range made p texts.0 is) e
     by rest (Err fault) is e = let bad : ◌≡◌ {A = Result (List Item) (ℕ × Fault)} (Err (number, fault)) (Ok next) = e in

@@ -1,23 +1,10 @@
 -- The units of a whole text before a byte offset.
-use Rattle.std.proofs.Common.{ℕ, suc, ◌≡◌, ◌+◌, ◌-◌, ◌<◌, ◌≤◌, ◌↔◌, ◌==◌, List, [], ◌∷◌, ◌++◌, length, take, get_or, sum_by, Some, None, IsUtf8, encode_utf8, encode_utf8_all, refl, sym, ap, ◌∙◌, subst, arith, ⊎_elim, eq-eqb, length-append, append-nil}
-use Rattle.std.specs.Char.{len_utf8}
-use Rattle.std.specs.Str.{chars, IsCharBoundary}
+use Rattle.lsp_store.proofs.Prelude.{ℕ, suc, ◌≡◌, ◌+◌, ◌-◌, ◌<◌, ◌≤◌, ◌↔◌, ◌==◌, List, [], ◌∷◌, ◌++◌, length, take, get_or, sum_by, Some, None, IsUtf8, encode_utf8, encode_utf8_all, refl, sym, ap, ◌∙◌, subst, arith, ⊎_elim, eq-eqb, length-append, append-nil, len_utf8, chars, IsCharBoundary, cases_eq, cases_lt, ne_eqb, append_assoc, take_all, take_at, sum_by-cons, sum_by_push, IsUtf8-take, chars-nil, chars_from_encodes, chars_past_char, encodes-append, encodes-chars, length-encode, Encoding, Utf8, Utf16, Utf32, utf8_bounds, utf16_bounds, utf32_bounds, units_in, units_between, HasUnitsBefore, HasPassed, IsPassed, IsTooFew, common_steps}
 use Rattle.std.specs.Bool.{then_some}
-use Rattle.std.proofs.lemmas.Bool.{cases_eq, cases_lt, ne_eqb}
-use Rattle.std.proofs.lemmas.List.{append_assoc, take_all, take_at}
-use Rattle.std.proofs.lemmas.List.Sums.{sum_by-cons, sum_by_push}
-use Rattle.std.proofs.lemmas.Str.{IsUtf8-take, chars-nil, chars_from_encodes, chars_past_char, encodes-append, encodes-chars, length-encode}
-use Rattle.lsp_text.specs.declared.encoding.Encoding.{Encoding}
-use Rattle.lsp_text.specs.declared.encoding.Encoding.TheVariants.{Utf8, Utf16, Utf32}
 use Rattle.lsp_text.specs.Text.{place_of}
-use Rattle.lsp_text.specs.laws.Units.{utf8_bounds, utf16_bounds, utf32_bounds}
-use Rattle.lsp_text.specs.Units.{units_in, units_between}
 use Rattle.lsp_text.proofs.PlainLemmas.{units_total}
 use Rattle.lsp_text.proofs.Positions.PlaceLemmas.{index_at, place_boundary, place_one, take_place}
 use Rattle.lsp_text.proofs.Counting.UnitLemmas.{units_more, units_rise, units_same}
-use Rattle.lsp_store.specs.UnitsBefore.{HasUnitsBefore}
-use Rattle.lsp_store.specs.inside.UnitsPassed.{HasPassed, IsPassed, IsTooFew}
-use Rattle.std.proofs.lemmas.Grind.{common_steps}
 
 -- A character has at least one unit.
 pub some_units : (encoding : Encoding) (c : ℕ) → 1 ≤ units_in encoding c
@@ -58,8 +45,7 @@ chars_none (b ∷ bytes) none = absurd (omega (arith, none))
 -- A byte offset has one count of units before it.
 pub one_count : (units : ℕ → ℕ) (text : List ℕ) (offset a b : ℕ) → HasUnitsBefore units text offset a
     → HasUnitsBefore units text offset b → a ≡ b
-one_count units text offset a b p q =
-    grind (arith, common_steps, place_one)
+one_count units text offset a b p q = grind (arith, common_steps, place_one)
 
 -- A count of units is before one byte offset, if each character has a unit.
 pub one_offset : (units : ℕ → ℕ) → ((c : ℕ) → 1 ≤ units c) → (text : List ℕ) (a b count : ℕ)
@@ -94,8 +80,7 @@ none_is P none n = (λ (e : None ≡ Some n). absurd (cc), λ p. absurd (none n 
 
 -- The units of the bytes before a boundary of characters are those before its index.
 pub before_has : (units : ℕ → ℕ) (text before : List ℕ) (offset : ℕ) → IsUtf8 text → IsCharBoundary text offset
-    → before ≡ take offset text
-    → HasUnitsBefore units (chars text) offset (sum_by units (chars before))
+    → before ≡ take offset text → HasUnitsBefore units (chars text) offset (sum_by units (chars before))
 before_has units text before offset utf8 boundary is =
     let utf8_before : IsUtf8 before = subst IsUtf8 (sym is) (IsUtf8-take text offset utf8 boundary) in
     let at = index_at text offset utf8 boundary in
@@ -156,8 +141,7 @@ front_is units text rest offset left count h =
 
 passed_units : (units : ℕ → ℕ) (text rest : List ℕ) (offset left count : ℕ)
     (h : HasPassed units text rest offset left count) → units_between units text 0 (length h.passed) + left ≡ count
-passed_units units text rest offset left count h =
-    grind (arith, common_steps, units_from_start, sum_by)
+passed_units units text rest offset left count h = grind (arith, common_steps, units_from_start, sum_by)
 
 passed_within : (units : ℕ → ℕ) (text rest : List ℕ) (offset left count : ℕ)
     (h : HasPassed units text rest offset left count) → length h.passed + length rest ≡ length text
@@ -196,8 +180,7 @@ module _ (units : ℕ → ℕ) (some : (c : ℕ) → 1 ≤ units c) (text : List
   -- At the end of the text there are fewer units.
   pub none_fewer : (offset left count : ℕ) → 1 ≤ left → HasPassed units text [] offset left count → (other : ℕ)
       → HasUnitsBefore units text other count → ⊥
-  none_fewer offset left count more h other has =
-      grind (arith, common_steps, passed_within, passed_units)
+  none_fewer offset left count more h other has = grind (arith, common_steps, passed_within, passed_units)
 
   -- Within a character there is no offset.
   pub none_inside : (rest : List ℕ) (c offset left count : ℕ) → 1 ≤ left → left < units c

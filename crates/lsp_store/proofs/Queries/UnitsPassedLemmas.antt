@@ -1,14 +1,7 @@
 -- Units of a text in chunks, passed chunk by chunk.
-use Rattle.std.proofs.Common.{ℕ, ◌≡◌, ◌+◌, ◌-◌, ◌<◌, ◌≤◌, List, [], ◌∷◌, ◌++◌, length, take, drop, sum_by, IsUtf8, encode_utf8, encode_utf8_all, refl, sym, ap, ◌∙◌, subst, arith, length-append, append-nil}
-use Rattle.std.specs.Str.{chars, IsCharBoundary}
+use Rattle.lsp_store.proofs.Prelude.{ℕ, ◌≡◌, ◌+◌, ◌-◌, ◌<◌, ◌≤◌, List, [], ◌∷◌, ◌++◌, length, take, drop, sum_by, IsUtf8, encode_utf8, encode_utf8_all, refl, sym, ap, ◌∙◌, subst, arith, length-append, append-nil, chars, IsCharBoundary, append_assoc, drop-drop, drop_all, take-append-drop, sum_by-append, IsUtf8-between, IsUtf8-take, chars-append, chars-nil, encodes-append, encodes-chars, length-encode, utf8_bounds, HasPassed, IsPassed, IsTooFew, common_steps}
 use Rattle.std.proofs.Math.Seq.{take-add}
-use Rattle.std.proofs.lemmas.List.{append_assoc, drop-drop, drop_all, take-append-drop}
-use Rattle.std.proofs.lemmas.List.Sums.{sum_by-append}
-use Rattle.std.proofs.lemmas.Str.{IsUtf8-between, IsUtf8-take, chars-append, chars-nil, encodes-append, encodes-chars, length-encode}
-use Rattle.lsp_text.specs.laws.Units.{utf8_bounds}
-use Rattle.lsp_store.specs.inside.UnitsPassed.{HasPassed, IsPassed, IsTooFew}
 use Rattle.lsp_store.proofs.Queries.UnitsBeforeLemmas.{passed_few}
-use Rattle.std.proofs.lemmas.Grind.{common_steps}
 
 -- The units before the end of a chunk are those before it and its own.
 pub chunk_counted : (units : ℕ → ℕ) (text chunk : List ℕ) (offset : ℕ) → IsUtf8 text → IsCharBoundary text offset
@@ -30,8 +23,7 @@ passed_whole units text offset left count h = record { rest = []; passed = h; fe
 pub passed_end : (units : ℕ → ℕ) (text : List ℕ) (offset left count : ℕ) → length text ≤ offset
     → HasPassed units (chars text) (chars (drop offset text)) offset left count
     → IsPassed units (chars text) count offset left
-passed_end units text offset left count end h =
-    grind (arith, common_steps, drop_all, chars-nil, passed_whole)
+passed_end units text offset left count end h = grind (arith, common_steps, drop_all, chars-nil, passed_whole)
 
 -- What is passed in a part is passed in the whole.
 passed_then : (units : ℕ → ℕ) (text part back rest : List ℕ) (offset left x y count : ℕ)

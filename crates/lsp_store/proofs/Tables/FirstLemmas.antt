@@ -1,7 +1,5 @@
 -- The first of two refusals.
-use Rattle.std.proofs.Common.{◌≡◌, Option, Some, None, refl}
-use Rattle.lsp_store.specs.Table.{Refusal}
-use Rattle.lsp_store.specs.Message.{else_refused}
+use Rattle.lsp_store.proofs.Prelude.{◌≡◌, Option, Some, None, refl, Refusal, else_refused}
 
 pub first_none : (first later : Option Refusal) → else_refused first later ≡ None → first ≡ None
 first_none None later e = refl

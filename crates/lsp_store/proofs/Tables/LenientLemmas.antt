@@ -1,8 +1,5 @@
 -- What strict limits refuse and lenient ones don't.
-use Rattle.std.proofs.Common.{◌≡◌, ℕ, ℤ, Bool, true, false, true≢false, not, ◌&&◌, IsTrue, int_le, List, is_some, refl, sym}
-use Rattle.lsp_frame.specs.Limits.{LimitsData}
-use Rattle.lsp_message.specs.Params.{DocumentItem}
-use Rattle.lsp_store.specs.Table.{entry_at, is_stale, is_taken}
+use Rattle.lsp_store.proofs.Prelude.{◌≡◌, ℕ, ℤ, Bool, true, false, true≢false, not, ◌&&◌, IsTrue, int_le, List, is_some, refl, sym, LimitsData, DocumentItem, entry_at, is_stale, is_taken}
 
 -- what strict limits would refuse, and these don't, others that are lenient where these are don't
 still_false : (small great found : Bool) → (IsTrue small → IsTrue great) → (not small && found) ≡ false

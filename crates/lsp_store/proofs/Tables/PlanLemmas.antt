@@ -1,37 +1,14 @@
 -- What a plan is of, and what it makes of a store.
-use Rattle.std.proofs.Common.{◌≡◌, ◌+◌, ◌≤◌, ℕ, ℤ, zero, suc, Bool, true, false, List, [], ◌∷◌, length, map, nat_lt, Option, Some, None, Result, Ok, Err, IfOk, IfErr, OnOk, OnErr, option_map, slice_get, position, String, string_bytes, bytes_eq, refl, sym, ap, ◌∙◌, subst, arith, ⊎_elim}
-use Rattle.std.proofs.lemmas.Bool.{cases_Bool}
-use Rattle.std.proofs.lemmas.Option.{slice_get-map}
-use Rattle.std.proofs.lemmas.Slice.Eq.{bytes_eq-Decides}
+use Rattle.lsp_store.proofs.Prelude.{◌≡◌, ◌+◌, ◌≤◌, ℕ, ℤ, zero, suc, Bool, true, false, List, [], ◌∷◌, length, map, nat_lt, Option, Some, None, Result, Ok, Err, IfOk, IfErr, OnOk, OnErr, option_map, slice_get, position, String, string_bytes, bytes_eq, refl, sym, ap, ◌∙◌, subst, arith, ⊎_elim, cases_Bool, slice_get-map, bytes_eq-Decides, lookup, lookup_key, Global, set_value_at, LimitsData, Encoding, units_in, Item, ContentChange, meaning, canonical, IsDeltaOf, IsOn, bytes_after, delta_encoding, meant_by, DocumentItem, Plan, Stored, StoreData, Takes, entry_of, entry_under, IsPlanOf, IsPlanOn, after_plan, planned, planned_table, StoreFault, IsRefusal, body_refusal, canonical_batch, canonical_body, change_body, message_refusal, Refusal, after_change, changed, changes, entry_at, entry_refusal, common_steps}
 use Rattle.std.specs.List.{position_or_len}
-use Rattle.std.specs.Map.{lookup, lookup_key}
 use Rattle.std.specs.Str.{IsUtf8, chars}
-use Rattle.std.specs.declared.alloc.Global.{Global}
-use Rattle.ordered_map.specs.Entries.{set_value_at}
-use Rattle.lsp_frame.specs.Limits.{LimitsData}
-use Rattle.lsp_text.specs.declared.encoding.Encoding.{Encoding}
-use Rattle.lsp_text.specs.Units.{units_in}
 use Rattle.lsp_edit.specs.declared.delta.Delta.{Delta}
 use Rattle.lsp_edit.specs.declared.delta.Delta.TheVariants.{Put, Left}
-use Rattle.lsp_edit.specs.Items.{Item}
-use Rattle.lsp_edit.specs.Batch.{ContentChange, meaning}
-use Rattle.lsp_edit.specs.Canonical.{canonical}
-use Rattle.lsp_edit.specs.Delta.{IsDeltaOf, IsOn, bytes_after, delta_encoding, meant_by}
 use Rattle.lsp_edit.proofs.Deltas.DeltaLemmas.{IsWithin, within_told}
-use Rattle.lsp_message.specs.Params.{DocumentItem}
-use Rattle.lsp_store.specs.declared.store.plan.Plan.{Plan}
-use Rattle.lsp_store.specs.declared.store.stored.Stored.{Stored}
-use Rattle.lsp_store.specs.Opened.{StoreData, Takes, entry_of, entry_under}
-use Rattle.lsp_store.specs.Plan.{IsPlanOf, IsPlanOn, after_plan, planned, planned_table}
-use Rattle.lsp_store.specs.declared.fault.StoreFault.{StoreFault}
-use Rattle.lsp_store.specs.Faults.{IsRefusal}
-use Rattle.lsp_store.specs.Message.{body_refusal, canonical_batch, canonical_body, change_body, message_refusal}
-use Rattle.lsp_store.specs.Table.{Refusal, after_change, changed, changes, entry_at, entry_refusal}
 use Rattle.lsp_store.proofs.Messages.MessageLemmas.{accepted_left}
 use Rattle.lsp_store.proofs.Tables.RefusalLemmas.{meaning_accepted, meaning_short}
 use Rattle.lsp_store.proofs.Tables.StoreLemmas.{get_found, may_take, seen}
 use Rattle.lsp_store.proofs.Tables.TableLemmas.{at_uri}
-use Rattle.std.proofs.lemmas.Grind.{common_steps}
 
 -- what follows where a call succeeds, or fails
 pub on_ok : {A E P Q : Type 0} (r : Result A E) → (P → Q) → OnOk r P → OnOk r Q
@@ -102,8 +79,7 @@ put_planned (e ∷ es) (suc index) key stored new version delta at is =
 pub put_same : (es : List (String Global × Stored)) (index : ℕ) (key : String Global) (stored : Stored)
     → slice_get es index ≡ Some (key, stored) → set_value_at es index stored ≡ es
 put_same [] index key stored at = absurd (cc)
-put_same (e ∷ es) zero key stored at =
-    grind (arith, common_steps)
+put_same (e ∷ es) zero key stored at = grind (arith, common_steps)
 put_same (e ∷ es) (suc index) key stored at = ap (λ rest. e ∷ rest) (put_same es index key stored at)
 
 pub put_length : (es : List (String Global × Stored)) (index : ℕ) (stored : Stored)
@@ -116,8 +92,7 @@ put_length (e ∷ es) (suc index) stored = ap suc (put_length es index stored)
 
 pub index_found : {X : Type 0} (test : X → Bool) (xs : List X) (index : ℕ) → Some index ≡ position test xs
     → position_or_len test xs ≡ index
-index_found test xs index is =
-    grind (arith, common_steps, nat_lt, cases_Bool)
+index_found test xs index is = grind (arith, common_steps, nat_lt, cases_Bool)
 
 module _ (units : ℕ → ℕ) (uri : List ℕ) (version : ℤ) (batch : List ContentChange) (key : String Global)
     (stored : Stored)
@@ -213,8 +188,7 @@ module _ (limits : LimitsData) (es : List (String Global × Stored)) (kept : Sto
         → ((uri : List ℕ) → entry_under uri new ≡ planned (entry_under uri stored) plan.version plan.delta)
         → (next : List (String Global × Stored)) → next ≡ set_value_at es plan.index new → seen limits next
         ≡ after_plan kept plan
-    plan_applied new is next set =
-        grind (arith, common_steps, put_planned)
+    plan_applied new is next set = grind (arith, common_steps, put_planned)
 
     pub plan_unchanged : (next : List (String Global × Stored)) → next ≡ set_value_at es plan.index stored
         → seen limits next ≡ kept
@@ -252,8 +226,7 @@ module _ (kept : StoreData) (uri : List ℕ) (version : ℤ) (encoding : Encodin
     batch_there = rw (q.is_open, within.means) refl
 
     planned_is : answered ≡ canonical (units_in encoding) (chars q.on.entry.text) within.items
-    planned_is =
-        grind (arith, common_steps, meant)
+    planned_is = grind (arith, common_steps, meant)
 
     pub planned_body : (key : List ℕ) → q.on.entry.uri ≡ key → (given : ℤ) → given ≡ plan.version
         → change_body key given answered ≡ canonical_body (units_in encoding) kept.table uri version batch
@@ -269,8 +242,7 @@ module _ (kept : StoreData) (uri : List ℕ) (version : ℤ) (encoding : Encodin
     body_refused = ap (λ (l : LimitsData). body_refusal l body) limits_is ∙ ap (body_refusal kept.limits) body_is
 
     message_is : message_refusal kept.limits (units_in encoding) kept.table uri version batch ≡ body_refusal limits body
-    message_is =
-        grind (arith, common_steps, body_refused)
+    message_is = grind (arith, common_steps, body_refused)
 
     pub planned_accepted : body_refusal limits body ≡ None → message_refusal kept.limits (units_in encoding) kept.table
         uri version batch ≡ None
@@ -284,5 +256,4 @@ module _ (kept : StoreData) (uri : List ℕ) (version : ℤ) (encoding : Encodin
 pub plan_takes : (kept new : StoreData) (uri : List ℕ) (version : ℤ) (encoding : Encoding) (batch : List ContentChange)
     (plan : Plan) → IsPlanOf kept uri version encoding batch plan → new ≡ after_plan kept plan
     → Takes kept (changes uri version encoding batch) new
-plan_takes kept new uri version encoding batch plan p is =
-    grind (arith, common_steps)
+plan_takes kept new uri version encoding batch plan p is = grind (arith, common_steps)

@@ -1,23 +1,6 @@
 -- What the calls of a store make of it.
-use Rattle.std.proofs.Common.{◌≡◌, ◌≤◌, ◌<◌, ◌+◌, ◌++◌, ℕ, ℤ, Bool, true, false, not, ◌&&◌, List, [], ◌∷◌, length, map, Option, Some, None, option_map, is_some, slice_get, String, string_bytes, refl, sym, ap, ◌∙◌, subst, arith, inr}
-use Rattle.std.proofs.lemmas.Bool.{lt-ltb, le-ltb, le-leb, lt-leb}
-use Rattle.std.proofs.lemmas.List.{length-append, length-map}
-use Rattle.std.proofs.lemmas.Option.{slice_get-map}
-use Rattle.std.specs.Map.{lookup, lookup_key, remove_entry}
-use Rattle.std.specs.declared.alloc.Global.{Global}
-use Rattle.lsp_frame.specs.Limits.{LimitsData}
-use Rattle.lsp_text.specs.declared.encoding.Encoding.{Encoding}
-use Rattle.lsp_text.specs.Units.{units_in}
-use Rattle.lsp_edit.specs.Batch.{ContentChange}
-use Rattle.lsp_store.specs.declared.fault.StoreFault.{StoreFault}
-use Rattle.lsp_store.specs.declared.fault.StoreFault.TheVariants.{TooManyDocuments, TextTooLong, NotOpen}
-use Rattle.lsp_store.specs.declared.store.stored.Stored.{Stored}
-use Rattle.lsp_store.specs.Faults.{refusal_fault, IsRefusal}
-use Rattle.lsp_message.specs.Params.{DocumentItem}
-use Rattle.lsp_store.specs.Table.{IsLeftToMeaning, entry_at, is_taken, open_refusal, entry_refusal, change_refusal, after_close, after_open, opens, changes, closes}
-use Rattle.lsp_store.specs.Opened.{ChangeMayAllocate, StoreData, Takes, IsRefused, entry_under, entry_of}
+use Rattle.lsp_store.proofs.Prelude.{◌≡◌, ◌≤◌, ◌<◌, ◌+◌, ◌++◌, ℕ, ℤ, Bool, true, false, not, ◌&&◌, List, [], ◌∷◌, length, map, Option, Some, None, option_map, is_some, slice_get, String, string_bytes, refl, sym, ap, ◌∙◌, subst, arith, inr, lt-ltb, le-ltb, le-leb, lt-leb, length-append, length-map, slice_get-map, lookup, lookup_key, remove_entry, Global, LimitsData, Encoding, units_in, ContentChange, StoreFault, TooManyDocuments, TextTooLong, NotOpen, Stored, refusal_fault, IsRefusal, DocumentItem, IsLeftToMeaning, entry_at, is_taken, open_refusal, entry_refusal, change_refusal, after_close, after_open, opens, changes, closes, ChangeMayAllocate, StoreData, Takes, IsRefused, entry_under, entry_of, common_steps}
 use Rattle.lsp_store.proofs.Tables.TableLemmas.{at_uri, entry_at-lookup, is_some-entry_at, entry_found, table-opened, others_all, others_but_one, table-remove_entry}
-use Rattle.std.proofs.lemmas.Grind.{common_steps}
 
 -- what callers see of the fields
 abbrev pub seen : LimitsData → List (String Global × Stored) → StoreData
@@ -62,8 +45,7 @@ module _ (limits : LimitsData) (es : List (String Global × Stored)) (kept : Sto
 
   pub at_found : (index : ℕ) (found : Option (String Global × Stored)) → found ≡ slice_get es index
       → option_map entry_of found ≡ slice_get kept.table index
-  at_found index found is =
-      grind (arith, common_steps, slice_get-map, slice_get)
+  at_found index found is = grind (arith, common_steps, slice_get-map, slice_get)
 
   -- ---- opening
 
@@ -83,13 +65,11 @@ module _ (limits : LimitsData) (es : List (String Global × Stored)) (kept : Sto
 
   pub others_new : (uri : List ℕ) → is_some (lookup (at_uri uri) es) ≡ false → length (after_close kept.table uri)
       ≡ length es
-  others_new uri new =
-      grind (arith, common_steps, others_seen, others_all, is_some-entry_at, length-map)
+  others_new uri new = grind (arith, common_steps, others_seen, others_all, is_some-entry_at, length-map)
 
   pub others_open : (uri : List ℕ) → is_some (lookup (at_uri uri) es) ≡ true → length (after_close kept.table uri) + 1
       ≡ length es
-  others_open uri is =
-      grind (arith, common_steps, others_seen, others_but_one, is_some-entry_at, length-map)
+  others_open uri is = grind (arith, common_steps, others_seen, others_but_one, is_some-entry_at, length-map)
 
   module _ (uri : String Global) (stored : Stored) (entry : DocumentItem) (is : entry_under (string_bytes uri) stored
       ≡ entry) (next : List (String Global × Stored))
@@ -98,12 +78,10 @@ module _ (limits : LimitsData) (es : List (String Global × Stored)) (kept : Sto
     opened_table = ap (map entry_of) next_is ∙ (table-opened es uri stored ∙ ap (after_open (map entry_of es)) is)
 
     pub opened : open_refusal kept.limits kept.table entry ≡ None → Takes kept (opens entry) (seen limits next)
-    opened may =
-        grind (arith, common_steps, opened_table)
+    opened may = grind (arith, common_steps, opened_table)
 
     pub opened_few : length (after_close kept.table entry.uri) < kept.limits.max_docs → length next ≤ limits.max_docs
-    opened_few few =
-        grind (arith, common_steps, length-map, opened_table, length-append)
+    opened_few few = grind (arith, common_steps, length-map, opened_table, length-append)
 
   -- ---- changing
 
@@ -143,8 +121,7 @@ module _ (limits : LimitsData) (es : List (String Global × Stored)) (kept : Sto
   pub closed : (uri : List ℕ) (stored : Stored) → Some stored ≡ lookup (at_uri uri) es
       → (next : List (String Global × Stored)) → next ≡ remove_entry (at_uri uri) es
       → Takes kept (closes uri) (seen limits next)
-  closed uri stored found next is =
-      grind (arith, common_steps, entry_at-lookup, table-remove_entry)
+  closed uri stored found next is = grind (arith, common_steps, entry_at-lookup, table-remove_entry)
 
 -- An open document, on which nothing but its meaning refuses a batch.
 pub may_take : (kept : StoreData) (uri : List ℕ) (version : ℤ) (batch : List ContentChange) (entry : DocumentItem)

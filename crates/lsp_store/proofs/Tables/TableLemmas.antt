@@ -1,15 +1,5 @@
 -- The table of documents as an ordered map keeps it.
-use Rattle.std.proofs.Common.{◌≡◌, ◌≤◌, ◌+◌, ℕ, Bool, true, false, List, [], ◌∷◌, ◌++◌, length, map, Option, Some, None, option_map, is_some, String, string_bytes, bytes_eq, refl, ap, ◌∙◌, arith, ⊎_elim}
-use Rattle.std.proofs.lemmas.Bool.{cases_Bool}
-use Rattle.std.proofs.lemmas.Slice.Eq.{bytes_eq-Decides}
-use Rattle.std.proofs.lemmas.List.{map-append}
-use Rattle.std.specs.Map.{lookup, lookup_key, remove_entry}
-use Rattle.std.specs.declared.alloc.Global.{Global}
-use Rattle.lsp_store.specs.declared.store.stored.Stored.{Stored}
-use Rattle.lsp_message.specs.Params.{DocumentItem}
-use Rattle.lsp_store.specs.Table.{entry_at, after_close, after_open}
-use Rattle.lsp_store.specs.Opened.{entry_under, entry_of}
-use Rattle.std.proofs.lemmas.Grind.{common_steps}
+use Rattle.lsp_store.proofs.Prelude.{◌≡◌, ◌≤◌, ◌+◌, ℕ, Bool, true, false, List, [], ◌∷◌, ◌++◌, length, map, Option, Some, None, option_map, is_some, String, string_bytes, bytes_eq, refl, ap, ◌∙◌, arith, ⊎_elim, cases_Bool, bytes_eq-Decides, map-append, lookup, lookup_key, remove_entry, Global, Stored, DocumentItem, entry_at, after_close, after_open, entry_under, entry_of, common_steps}
 
 -- whether a key is this URI
 abbrev pub at_uri : List ℕ → String Global → Bool
@@ -51,8 +41,7 @@ table-remove_entry uri (first ∷ es) =
 
 pub remove_entry-few : {K X : Type 0} (test : K → Bool) (es : List (K × X)) → length (remove_entry test es) ≤ length es
 remove_entry-few test [] = omega arith
-remove_entry-few test (first ∷ es) =
-    grind (arith, common_steps, cases_Bool, (remove_entry-few test es))
+remove_entry-few test (first ∷ es) = grind (arith, common_steps, cases_Bool, (remove_entry-few test es))
 
 -- ---- a document that is opened
 

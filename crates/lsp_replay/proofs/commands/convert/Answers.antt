@@ -1,6 +1,4 @@
-use Rattle.std.proofs.Common.{false, refl}
-use Rattle.lsp_replay.specs.Session.{opened}
-use Rattle.lsp_replay.specs.Commands.{log_config, converting}
+use Rattle.lsp_replay.proofs.Prelude.{false, refl, opened, log_config, converting}
 use Rattle.lsp_replay.proofs.Runs.RunReportLemmas.{run_of}
 use Rattle.lsp_replay.proofs.Runs.WroteLemmas.{wrote_converted}
 use Rattle.lsp_replay.proofs.commands.convert.Goals as goal

@@ -1,6 +1,4 @@
-use Rattle.std.proofs.Common.{◌≡◌, true, false}
-use Rattle.lsp_replay.specs.Commands.{log_config, replaying}
-use Rattle.lsp_replay.specs.Session.{opened}
+use Rattle.lsp_replay.proofs.Prelude.{◌≡◌, true, false, log_config, replaying, opened}
 use Rattle.lsp_replay.proofs.Runs.RunReportLemmas.{run_of}
 use Rattle.lsp_replay.proofs.commands.replay.Goals as goal
 

@@ -1,6 +1,4 @@
-use Rattle.std.proofs.Common.{false, refl}
-use Rattle.lsp_replay.specs.Session.{opened}
-use Rattle.lsp_replay.specs.Commands.{serving}
+use Rattle.lsp_replay.proofs.Prelude.{false, refl, opened, serving}
 use Rattle.lsp_replay.proofs.Runs.RunReportLemmas.{run_of}
 use Rattle.lsp_replay.proofs.commands.serve_on.Goals as goal
 

@@ -1,5 +1,4 @@
-use Rattle.std.specs.Prelude.{◌≡◌, drop}
-use Rattle.lsp_replay.specs.Counts.{tallied_notes}
+use Rattle.lsp_replay.proofs.Prelude.{◌≡◌, drop, tallied_notes}
 use Rattle.lsp_replay.proofs.counts.add_notes.Given as goal
 
 abbrev pub invariant-loop-note : goal.invariant-loop-note

@@ -1,6 +1,4 @@
-use Rattle.std.proofs.Common.{◌&&◌, not, [], false, subst}
-use Rattle.std.specs.Io.KnownBytes.{Appends}
-use Rattle.lsp_stream.specs.Turns.{AppendsFront, AppendsShort}
+use Rattle.lsp_replay.proofs.Prelude.{◌&&◌, not, [], false, subst, Appends, AppendsFront, AppendsShort}
 use Rattle.lsp_replay.proofs.Runs.EngineLemmas.{went_at_end, went_whole_records, last_fault, ok_and, err_and_two, err_and}
 use Rattle.lsp_replay.proofs.engine.finish_run.Goals as goal
 

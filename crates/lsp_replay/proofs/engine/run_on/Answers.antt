@@ -1,8 +1,4 @@
-use Rattle.std.proofs.Common.{rules, refl, arith, ◌≡◌, ◌-◌, ◌&&◌, not, ℕ, List, sym, ap, ◌∙◌, subst, length, take, drop}
-use Rattle.std.proofs.lemmas.List.{length-take}
-use Rattle.std.specs.Io.KnownBytes.{Consumes}
-use Rattle.std.proofs.lemmas.Result.{err_from_is_err_and}
-use Rattle.lsp_replay.specs.Engine.{state_of}
+use Rattle.lsp_replay.proofs.Prelude.{rules, refl, arith, ◌≡◌, ◌-◌, ◌&&◌, not, ℕ, List, sym, ap, ◌∙◌, subst, length, take, drop, length-take, Consumes, err_from_is_err_and, state_of}
 use Rattle.lsp_replay.proofs.Runs.RunLemmas.{called_fault, piece_not_read, told_result, both_at_start, both_writes, both_reads, rose_more, told_fault, read_not_write, read_not_ended, n_is_zero, zero_is, passed_fault, passed_result, in_time}
 use Rattle.lsp_replay.proofs.Runs.FewLemmas.{few_fault, few_ok, few_result, more_reads, more_writes}
 use Rattle.lsp_replay.proofs.Runs.PieceLemmas.{runs_at_start, runs_on, runs_more, ran_stopped, ran_into_fault, ran_finished, ran_unread, ran_unopened, ran_refused, piece_whole, end_whole, not_at_end}
@@ -12,10 +8,7 @@ pub returns-in_err-opening-clause-run : goal.returns-in_err-opening-clause-run
 returns-in_err-opening-clause-run g c =
     let p = err_from_is_err_and c.from_residual.result c.from_residual.ensures.1 in
     record {
-      ran = rw (
-        p.1,
-        p.2,
-      ) (ran_unopened (record {
+      ran = rw (p.1, p.2) (ran_unopened (record {
         max_body = c.args.rules.limits.max_body;
         versions = c.args.rules.versions;
         refuses_two = c.args.rules.refuses_two;
@@ -39,10 +32,7 @@ pub returns-in_err-accept-clause-run : goal.returns-in_err-accept-clause-run
 returns-in_err-accept-clause-run g c =
     let p = err_from_is_err_and c.from_residual-in_err-accept.result c.from_residual-in_err-accept.ensures.1 in
     record {
-      ran = rw (
-        p.1,
-        p.2,
-      ) (ran_refused (record {
+      ran = rw (p.1, p.2) (ran_refused (record {
         max_body = c.args.rules.limits.max_body;
         versions = c.args.rules.versions;
         refuses_two = c.args.rules.refuses_two;
@@ -98,10 +88,7 @@ pub returns-in_err-end-clause-run : goal.returns-in_err-end-clause-run
 returns-in_err-end-clause-run g c =
     let p = err_from_is_err_and c.from_residual-in_err-end.result c.from_residual-in_err-end.ensures.1 in
     record {
-      ran = rw (
-        p.1,
-        p.2,
-      ) (ran_into_fault (record {
+      ran = rw (p.1, p.2) (ran_into_fault (record {
         max_body = c.args.rules.limits.max_body;
         versions = c.args.rules.versions;
         refuses_two = c.args.rules.refuses_two;
@@ -125,10 +112,7 @@ returns-in_err-end-clause-run g c =
             refuses_two = c.args.rules.refuses_two;
           }) (g.H.Handler.run_output c.args.handler.now) (g.W.Sink.seen c.args.ends.now.writer.now).written runs.input
           runs.progress in
-          rw (
-            p.1,
-            p.2,
-          ) (called_fault _ _ _ _ _ c.take_piece.new.turns.left _ _ _ _ _
+          rw (p.1, p.2) (called_fault _ _ _ _ _ c.take_piece.new.turns.left _ _ _ _ _
           (both_writes _ _ _ _ _ _ _ _ c.pieces.invariant.spent
           (rw c.writer.ensures.value at c.in_err-end.ensures.calls.spent)) c.in_err-end.ensures.calls.none_left
           (λ is. absurd (piece_not_read _ (g.H.Handler.run_output c.args.handler.now) _ _ _ _ _ why is))
@@ -140,16 +124,10 @@ returns-in_err-end-clause-run g c =
           (λ other. more_writes (g.W.Sink.seen c.args.ends.now.writer.now)
           (g.W.Sink.seen c.pieces.ends.writer.now) (g.W.Sink.seen c.take_piece.new.writer) c.pieces.invariant.few_writes
           ((rw c.writer.ensures.value at c.in_err-end.ensures.few.error) other)));
-      none_passed_over = rw (
-        p.1,
-        p.2,
-      ) (told_fault _ _ _ _ _ (λ _. c.pieces.invariant.reads_well)
+      none_passed_over = rw (p.1, p.2) (told_fault _ _ _ _ _ (λ _. c.pieces.invariant.reads_well)
           (λ other before. (rw c.writer.ensures.value at c.in_err-end.ensures.calls.well_else) other
           (c.pieces.invariant.writes_well before)));
-      all_flushed = rw (
-        p.1,
-        p.2,
-      ) (passed_fault _ _ _ _
+      all_flushed = rw (p.1, p.2) (passed_fault _ _ _ _
           (λ holds not_write not_turns before.
           (rw c.writer.ensures.value at c.in_err-end.ensures.all_flushed.flushed_else) holds not_write not_turns
           (c.pieces.invariant.flushed holds before)));
@@ -244,10 +222,7 @@ pub returns-in_err-to-clause-run : goal.returns-in_err-to-clause-run
 returns-in_err-to-clause-run g c =
     let p = err_from_is_err_and c.from_residual-in_err-to.result c.from_residual-in_err-to.ensures.1 in
     record {
-      ran = rw (
-        p.1,
-        p.2,
-      ) (ran_unread (record {
+      ran = rw (p.1, p.2) (ran_unread (record {
         max_body = c.args.rules.limits.max_body;
         versions = c.args.rules.versions;
         refuses_two = c.args.rules.refuses_two;
@@ -296,10 +271,7 @@ returns-in_err-to-clause-run g c =
           (λ _. more_writes (g.W.Sink.seen c.args.ends.now.writer.now)
           (g.W.Sink.seen c.pieces.ends.writer.now) (g.W.Sink.seen c.take_piece.new.writer) c.pieces.invariant.few_writes
           (rw c.writer.ensures.value at c.in_ok-end.ensures.few.ok)));
-      none_passed_over = rw (
-        p.1,
-        p.2,
-      ) (told_fault _ _ _ _ _
+      none_passed_over = rw (p.1, p.2) (told_fault _ _ _ _ _
           (λ other before. (rw c.reader-in-pieces.ensures.value at c.in_err-to.ensures.calls.well_else) other
           (c.pieces.invariant.reads_well before))
           (λ _ before. (rw c.writer.ensures.value at c.in_ok-end.ensures.calls.well)
@@ -382,10 +354,7 @@ pieces-preserved g c =
 pub returns-in_err-end-clause-whole : goal.returns-in_err-end-clause-whole
 returns-in_err-end-clause-whole g c =
     let p = err_from_is_err_and c.from_residual-in_err-end.result c.from_residual-in_err-end.ensures.1 in
-    rw (
-      p.1,
-      p.2,
-    ) (λ _ is. piece_whole (record {
+    rw (p.1, p.2) (λ _ is. piece_whole (record {
       max_body = c.args.rules.limits.max_body;
       versions = c.args.rules.versions;
       refuses_two = c.args.rules.refuses_two;

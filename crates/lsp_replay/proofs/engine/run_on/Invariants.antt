@@ -1,9 +1,4 @@
-use Rattle.std.specs.Prelude.{◌≡◌, ◌≤◌, ◌↔◌, ◌-◌, true, length, take, drop}
-use Rattle.std.specs.Io.KnownBytes.{IsAtEnd}
-use Rattle.lsp_stream.specs.Ports.{FewReads, FewWrites, Rose}
-use Rattle.lsp_log.specs.Splitting.{IsReady}
-use Rattle.lsp_stream.specs.Turns.{StaysWell, StaysFlushed}
-use Rattle.lsp_replay.specs.inside.Progress.{Runs, BothSpend}
+use Rattle.lsp_replay.proofs.Prelude.{◌≡◌, ◌≤◌, ◌↔◌, ◌-◌, true, length, take, drop, IsAtEnd, FewReads, FewWrites, Rose, IsReady, StaysWell, StaysFlushed, Runs, BothSpend}
 use Rattle.lsp_replay.proofs.engine.run_on.Given as goal
 
 abbrev pub invariant-pieces : goal.invariant-pieces

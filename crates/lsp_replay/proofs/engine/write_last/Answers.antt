@@ -1,11 +1,6 @@
-use Rattle.std.proofs.Common.{Bool, ◌&&◌, not, List, ℕ, [], ◌++◌, sym, ◌∙◌, ap, subst, append_assoc, arith}
-use Rattle.std.proofs.lemmas.Result.{err_from_is_err_and}
-use Rattle.std.specs.Io.KnownBytes.{Appends}
-use Rattle.std.proofs.KnownBytes.{Appends-trans}
-use Rattle.lsp_stream.specs.Turns.{AppendsFront, AppendsShort}
+use Rattle.lsp_replay.proofs.Prelude.{Bool, ◌&&◌, not, List, ℕ, [], ◌++◌, sym, ◌∙◌, ap, subst, append_assoc, arith, err_from_is_err_and, Appends, Appends-trans, AppendsFront, AppendsShort, common_steps}
 use Rattle.lsp_replay.proofs.Runs.EngineLemmas.{part_cut, part_short, part_is}
 use Rattle.lsp_replay.proofs.engine.write_last.Goals as goal
-use Rattle.std.proofs.lemmas.Grind.{common_steps}
 
 pub returns-in_err-write_given-clause-front : goal.returns-in_err-write_given-clause-front
 returns-in_err-write_given-clause-front g c =

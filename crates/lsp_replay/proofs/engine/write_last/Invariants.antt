@@ -1,7 +1,4 @@
-use Rattle.std.specs.Prelude.{◌≡◌, true, List, ℕ, [], ◌++◌}
-use Rattle.std.specs.Io.KnownBytes.{Appends}
-use Rattle.lsp_stream.specs.Ports.{FewWrites}
-use Rattle.lsp_stream.specs.Turns.{Spends, StaysWell, StaysFlushed}
+use Rattle.lsp_replay.proofs.Prelude.{◌≡◌, true, List, ℕ, [], ◌++◌, Appends, FewWrites, Spends, StaysWell, StaysFlushed}
 use Rattle.lsp_replay.proofs.engine.write_last.Given as goal
 
 abbrev pub invariant-parts : goal.invariant-parts

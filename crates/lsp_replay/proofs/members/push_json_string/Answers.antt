@@ -1,7 +1,4 @@
-use Rattle.std.proofs.Common.{◌≡◌, ◌++◌, ap, ap₂, ◌∙◌, refl}
-use Rattle.json.specs.Print.{print}
-use Rattle.serde_json.specs.Data.{string}
-use Rattle.serde_json.proofs.Texts.{print-outline}
+use Rattle.lsp_replay.proofs.Prelude.{◌≡◌, ◌++◌, ap, ap₂, ◌∙◌, refl, print, string, print-outline}
 use Rattle.lsp_message.specs.inside.Tokens.{tokens_of}
 use Rattle.lsp_replay.specs.Trace.{json_string}
 use Rattle.lsp_replay.proofs.members.push_json_string.Goals as goal

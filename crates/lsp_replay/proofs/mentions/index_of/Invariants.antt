@@ -1,5 +1,4 @@
-use Rattle.std.specs.Prelude.{◌≡◌, ◌≤◌, ◌++◌, ◌-◌, drop, length, take}
-use Rattle.lsp_replay.specs.Mentions.{last_record, without}
+use Rattle.lsp_replay.proofs.Prelude.{◌≡◌, ◌≤◌, ◌++◌, ◌-◌, drop, length, take, last_record, without}
 use Rattle.lsp_replay.proofs.mentions.index_of.Given as goal
 
 abbrev pub invariant-mentions : goal.invariant-mentions

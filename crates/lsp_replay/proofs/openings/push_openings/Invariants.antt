@@ -1,5 +1,4 @@
-use Rattle.std.specs.Prelude.{◌≡◌, ◌++◌, flat_map, take}
-use Rattle.lsp_replay.specs.Openings.{opening_words}
+use Rattle.lsp_replay.proofs.Prelude.{◌≡◌, ◌++◌, flat_map, take, opening_words}
 use Rattle.lsp_replay.proofs.openings.push_openings.Given as goal
 
 abbrev pub invariant-loop-document : goal.invariant-loop-document

@@ -1,5 +1,4 @@
-use Rattle.std.proofs.Common.{refl}
-use Rattle.lsp_message.specs.Incoming.{incoming_of, request_of, notification_of}
+use Rattle.lsp_server.proofs.Prelude.{refl, incoming_of, request_of, notification_of}
 use Rattle.lsp_server.proofs.LawLemmas.{request_of-is, replied, notification_of-is, unreplied, unanswered, kept, offered}
 use Rattle.lsp_server.proofs.laws.step_laws.Goals as goal
 

@@ -1,7 +1,4 @@
-use Rattle.std.proofs.Common.{false, refl}
-use Rattle.lsp_replay.specs.Commands.{log_config}
-use Rattle.lsp_replay.specs.Compared.{comparing}
-use Rattle.lsp_replay.specs.Session.{opened}
+use Rattle.lsp_replay.proofs.Prelude.{false, refl, log_config, comparing, opened}
 use Rattle.lsp_replay.proofs.Runs.RunReportLemmas.{run_of}
 use Rattle.lsp_replay.proofs.commands.compared.compare.Goals as goal
 

@@ -1,8 +1,4 @@
-use Rattle.std.proofs.Common.{false, refl}
-use Rattle.lsp_replay.specs.Session.{opened}
-use Rattle.lsp_replay.specs.Commands.{log_config}
-use Rattle.lsp_replay.specs.Explained.{explaining}
-use Rattle.lsp_replay.specs.Lines.{lines, nothing_known}
+use Rattle.lsp_replay.proofs.Prelude.{false, refl, opened, log_config, explaining, lines, nothing_known}
 use Rattle.lsp_replay.proofs.Runs.RunReportLemmas.{run_of}
 use Rattle.lsp_replay.proofs.commands.explained.explain.Goals as goal
 

@@ -1,6 +1,4 @@
-use Rattle.std.proofs.Common.{false, refl}
-use Rattle.lsp_replay.specs.Session.{opened}
-use Rattle.lsp_replay.specs.Commands.{checking, log_config}
+use Rattle.lsp_replay.proofs.Prelude.{false, refl, opened, checking, log_config}
 use Rattle.lsp_replay.proofs.Runs.RunReportLemmas.{run_of}
 use Rattle.lsp_replay.proofs.commands.live.check_live.Goals as goal
 

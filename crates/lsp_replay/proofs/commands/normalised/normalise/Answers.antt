@@ -1,10 +1,4 @@
-use Rattle.std.proofs.Common.{true, false}
-use Rattle.std.specs.Prelude.{List}
-use Rattle.lsp_log.specs.Log.{Record}
-use Rattle.lsp_stream.specs.Ports.{ports}
-use Rattle.lsp_replay.specs.Run.{log_engine}
-use Rattle.lsp_replay.specs.RunOutput.{RunOutput}
-use Rattle.lsp_replay.specs.inside.Run.{IsRanOf}
+use Rattle.lsp_replay.proofs.Prelude.{true, false, List, Record, ports, log_engine, RunOutput, IsRanOf}
 use Rattle.lsp_replay.proofs.Runs.WroteLemmas.{by_setting, wrote_normal, wrote_squashed}
 use Rattle.lsp_replay.proofs.commands.normalised.normalise.Goals as goal
 

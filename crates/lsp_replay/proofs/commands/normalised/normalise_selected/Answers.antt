@@ -1,14 +1,4 @@
-use Rattle.std.proofs.Common.{◌∙◌, sym, false, refl}
-use Rattle.std.specs.Prelude.{None, List}
-use Rattle.lsp_log.specs.Log.{Record}
-use Rattle.lsp_stream.specs.Ports.{ports}
-use Rattle.lsp_replay.specs.Commands.{log_config, normalising}
-use Rattle.lsp_replay.specs.Run.{Engine, IsEngineRun, log_engine}
-use Rattle.lsp_replay.specs.RunOutput.{RunOutput}
-use Rattle.lsp_replay.specs.Session.{opened}
-use Rattle.lsp_replay.specs.inside.Piped.{piped}
-use Rattle.lsp_replay.specs.inside.Run.{IsRanOf}
-use Rattle.lsp_replay.specs.inside.Squashed.{squash_view}
+use Rattle.lsp_replay.proofs.Prelude.{◌∙◌, sym, false, refl, None, List, Record, ports, log_config, normalising, Engine, IsEngineRun, log_engine, RunOutput, opened, piped, IsRanOf, squash_view}
 use Rattle.lsp_replay.proofs.Runs.WroteLemmas.{as_each, as_steps}
 use Rattle.lsp_replay.proofs.Stay.PipedLemmas.{run_of_piped}
 use Rattle.lsp_replay.proofs.commands.normalised.normalise_selected.Goals as goal

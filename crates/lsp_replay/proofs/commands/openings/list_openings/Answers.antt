@@ -1,8 +1,5 @@
-use Rattle.std.proofs.Common.{refl, false}
+use Rattle.lsp_replay.proofs.Prelude.{refl, false, log_config, listing_openings, no_openings, opened}
 use Rattle.std.specs.String.{string_bytes}
-use Rattle.lsp_replay.specs.Commands.{log_config}
-use Rattle.lsp_replay.specs.Openings.{listing_openings, no_openings}
-use Rattle.lsp_replay.specs.Session.{opened}
 use Rattle.lsp_replay.proofs.Runs.RunReportLemmas.{run_of}
 use Rattle.lsp_replay.proofs.commands.openings.list_openings.Goals as goal
 

@@ -1,7 +1,4 @@
-use Rattle.std.proofs.Common.{refl, false}
-use Rattle.lsp_replay.specs.Commands.{log_config}
-use Rattle.lsp_replay.specs.Parts.{none_found, part_data, replaying_part}
-use Rattle.lsp_replay.specs.Session.{opened}
+use Rattle.lsp_replay.proofs.Prelude.{refl, false, log_config, none_found, part_data, replaying_part, opened}
 use Rattle.lsp_replay.proofs.Runs.RunReportLemmas.{run_of}
 use Rattle.lsp_replay.proofs.commands.parts.replay_part.Goals as goal
 

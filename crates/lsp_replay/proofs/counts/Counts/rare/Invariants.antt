@@ -1,5 +1,4 @@
-use Rattle.std.specs.Prelude.{◌≡◌, flat_map, take}
-use Rattle.lsp_replay.specs.Counts.{rare_note}
+use Rattle.lsp_replay.proofs.Prelude.{◌≡◌, flat_map, take, rare_note}
 use Rattle.lsp_replay.proofs.counts.Counts.rare.Given as goal
 
 abbrev pub invariant-loop-note : goal.invariant-loop-note

@@ -1,5 +1,4 @@
-use Rattle.std.specs.Prelude.{◌≡◌, ◌≤◌, ◌-◌, drop, length}
-use Rattle.lsp_replay.specs.Tallies.{has_repeated}
+use Rattle.lsp_replay.proofs.Prelude.{◌≡◌, ◌≤◌, ◌-◌, drop, length, has_repeated}
 use Rattle.lsp_replay.proofs.counts.tallies.has_repeated.Given as goal
 
 abbrev pub invariant-tallies : goal.invariant-tallies

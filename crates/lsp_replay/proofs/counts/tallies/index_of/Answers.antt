@@ -1,8 +1,5 @@
-use Rattle.std.proofs.Common.{◌≡◌, ◌∙◌, ◌<◌, ℕ, suc, List, ◌∷◌, ◌++◌, length, take, drop, get_or, set, true, ap, ap₂, sym, refl, add-one}
-use Rattle.std.proofs.Math.Seq.{drop-cons}
-use Rattle.std.proofs.lemmas.List.{drop-set, get_or_read, take-append-drop, take-set}
+use Rattle.lsp_replay.proofs.Prelude.{◌≡◌, ◌∙◌, ◌<◌, ℕ, suc, List, ◌∷◌, ◌++◌, length, take, drop, get_or, set, true, ap, ap₂, sym, refl, add-one, drop-cons, drop-set, get_or_read, take-append-drop, take-set, Tally, count_of, raised, tallied}
 use Rattle.std.specs.Str.{bytes_eq}
-use Rattle.lsp_replay.specs.Tallies.{Tally, count_of, raised, tallied}
 use Rattle.lsp_replay.proofs.counts.tallies.index_of.Goals as goal
 
 module _ (words : List ℕ) (ts : List Tally) (i : ℕ) (t : Tally) (within : i < length ts)

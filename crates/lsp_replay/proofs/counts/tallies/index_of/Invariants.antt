@@ -1,5 +1,4 @@
-use Rattle.std.specs.Prelude.{ℕ, ◌≡◌, ◌≤◌, ◌++◌, ◌-◌, drop, length, take}
-use Rattle.lsp_replay.specs.Tallies.{count_of, tallied}
+use Rattle.lsp_replay.proofs.Prelude.{ℕ, ◌≡◌, ◌≤◌, ◌++◌, ◌-◌, drop, length, take, count_of, tallied}
 use Rattle.lsp_replay.proofs.counts.tallies.index_of.Given as goal
 
 abbrev pub invariant-tallies : goal.invariant-tallies

@@ -1,9 +1,4 @@
-use Rattle.std.specs.Prelude.{◌≡◌, ◌&&◌, not}
-use Rattle.std.proofs.Common.{rules, Bool, subst}
-use Rattle.std.proofs.lemmas.Result.{err_from_is_err_and}
-use Rattle.lsp_stream.specs.declared.fault.EngineFault.TheVariants.{TooManyTurns}
-use Rattle.lsp_stream.specs.Turns.{AppendsShort}
-use Rattle.lsp_replay.specs.inside.RunOutput.{output_of}
+use Rattle.lsp_replay.proofs.Prelude.{◌≡◌, ◌&&◌, not, rules, Bool, subst, err_from_is_err_and, TooManyTurns, AppendsShort, output_of}
 use Rattle.lsp_replay.proofs.Runs.EngineLemmas.{write_fault}
 use Rattle.lsp_replay.proofs.engine.records.handle_record.Goals.{in-Frame, in-Bytes, in-BytesFrom}
 use Rattle.lsp_replay.proofs.engine.records.handle_record.Goals as goal
@@ -18,10 +13,7 @@ returns-in_err-write_given-clause-error g c =
       | in-Bytes w ↦ search rules
       | in-BytesFrom w ↦ search rules
     ] in
-    rw (
-      p.1,
-      p.2,
-    ) (write_fault (g.H.Handler.FLUSHES && not (g.W.Sink.seen c.write_given.new.writer).flushed)
+    rw (p.1, p.2) (write_fault (g.H.Handler.FLUSHES && not (g.W.Sink.seen c.write_given.new.writer).flushed)
     (g.H.Handler.run_output c.args.handler.now) (g.H.Handler.run_output c.handle.new.self)
     (g.W.Sink.seen c.args.writer.now).written (g.W.Sink.seen c.write_given.new.writer).written _
     c.match-given.output.now _ c.in_ok-given.given.end _ c.in_ok-given.ensures.ok

@@ -1,10 +1,6 @@
-use Rattle.std.proofs.Common.{ℕ, ◌+◌, drop, refl, ◌∙◌, arith}
-use Rattle.std.proofs.lemmas.Result.{err_from_is_err_and}
-use Rattle.std.proofs.lemmas.List.{length-take, length-drop}
-use Rattle.std.proofs.KnownBytes.{Appends-nil}
+use Rattle.lsp_replay.proofs.Prelude.{ℕ, ◌+◌, drop, refl, ◌∙◌, arith, err_from_is_err_and, length-take, length-drop, Appends-nil, common_steps}
 use Rattle.lsp_replay.proofs.Runs.WroteRecordLemmas.{went_fed, fed_fault}
 use Rattle.lsp_replay.proofs.engine.records.take_piece.Goals as goal
-use Rattle.std.proofs.lemmas.Grind.{common_steps}
 
 pub returns-in_err-at-clause-error : goal.returns-in_err-at-clause-error
 returns-in_err-at-clause-error g c =

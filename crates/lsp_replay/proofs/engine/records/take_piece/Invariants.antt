@@ -1,10 +1,4 @@
-use Rattle.std.specs.Prelude.{ℕ, ◌≡◌, ◌≤◌, ◌-◌, true, List, Option, length, drop}
-use Rattle.lsp_stream.specs.Ports.{FewWrites}
-use Rattle.lsp_stream.specs.Turns.{Spends, StaysWell, StaysFlushed}
-use Rattle.lsp_log.specs.Log.{LogRules, Record}
-use Rattle.lsp_log.specs.Splitting.{IsReady}
-use Rattle.lsp_replay.specs.RunOutput.{RunOutput}
-use Rattle.lsp_replay.specs.inside.Progress.{IsProgress}
+use Rattle.lsp_replay.proofs.Prelude.{ℕ, ◌≡◌, ◌≤◌, ◌-◌, true, List, Option, length, drop, FewWrites, Spends, StaysWell, StaysFlushed, LogRules, Record, IsReady, RunOutput, IsProgress}
 use Rattle.lsp_replay.proofs.engine.records.take_piece.Given as goal
 
 abbrev pub invariant-bytes : goal.invariant-bytes
@@ -13,8 +7,7 @@ invariant-bytes g l = record {
   ready : IsReady l.splitter;
   version : l.splitter.version ≡ l.fn.splitter.version;
   progress : (log_rules : LogRules) (run_output : List Record → RunOutput) (received : Option (List ℕ)) (input : List ℕ)
-      →
-      IsProgress log_rules run_output received input l.piece l.fn.splitter (g.H.Handler.run_output l.fn.handler)
+      → IsProgress log_rules run_output received input l.piece l.fn.splitter (g.H.Handler.run_output l.fn.handler)
       (g.W.Sink.seen l.fn.writer).written →
       IsProgress log_rules run_output received input (drop l.at l.piece) l.splitter (g.H.Handler.run_output l.handler)
       (g.W.Sink.seen l.writer).written;

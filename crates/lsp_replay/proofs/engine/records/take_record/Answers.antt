@@ -1,4 +1,4 @@
-use Rattle.std.proofs.lemmas.Result.{err_from_is_err_and}
+use Rattle.lsp_replay.proofs.Prelude.{err_from_is_err_and}
 use Rattle.lsp_replay.proofs.Runs.WroteRecordLemmas.{taken_fault, taken_went}
 use Rattle.lsp_replay.proofs.engine.records.take_record.Goals as goal
 

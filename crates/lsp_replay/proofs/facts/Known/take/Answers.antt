@@ -1,5 +1,4 @@
-use Rattle.std.proofs.Common.{ap}
-use Rattle.lsp_replay.specs.inside.Bodies.{body_view}
+use Rattle.lsp_replay.proofs.Prelude.{ap, body_view}
 use Rattle.lsp_replay.proofs.KnownLemmas.{facts_are, known_is}
 use Rattle.lsp_replay.proofs.facts.Known.take.Goals as goal
 

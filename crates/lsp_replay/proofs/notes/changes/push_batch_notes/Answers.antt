@@ -1,5 +1,4 @@
-use Rattle.std.proofs.Common.{arith}
-use Rattle.lsp_replay.specs.inside.Noting.{terms_view}
+use Rattle.lsp_replay.proofs.Prelude.{arith, terms_view}
 use Rattle.lsp_replay.proofs.Reports.NoteLemmas.{one_noted}
 use Rattle.lsp_replay.proofs.notes.changes.push_batch_notes.Goals as goal
 

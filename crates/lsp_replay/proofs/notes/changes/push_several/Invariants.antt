@@ -1,7 +1,4 @@
-use Rattle.std.proofs.Common.{◌++◌, drop, map}
-use Rattle.lsp_edit.specs.Edited.{content_change}
-use Rattle.lsp_replay.specs.Notes.{notes_from}
-use Rattle.lsp_replay.specs.inside.Noting.{terms_view}
+use Rattle.lsp_replay.proofs.Prelude.{◌++◌, drop, map, content_change, notes_from, terms_view}
 use Rattle.lsp_replay.proofs.Reports.NoteLemmas.{Noting}
 use Rattle.lsp_replay.proofs.notes.changes.push_several.Given as goal
 

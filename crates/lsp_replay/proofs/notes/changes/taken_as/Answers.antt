@@ -1,5 +1,4 @@
-use Rattle.std.specs.Str.{chars}
-use Rattle.lsp_text.specs.Units.{units_in}
+use Rattle.lsp_replay.proofs.Prelude.{chars, units_in}
 use Rattle.lsp_replay.proofs.Reports.NoteLemmas.{taken_is}
 use Rattle.lsp_replay.proofs.notes.changes.taken_as.Goals as goal
 

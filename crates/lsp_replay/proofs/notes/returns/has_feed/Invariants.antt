@@ -1,5 +1,4 @@
-use Rattle.std.specs.Prelude.{◌≡◌, ◌≤◌, ◌-◌, drop, length}
-use Rattle.lsp_replay.specs.Notes.{has_feed}
+use Rattle.lsp_replay.proofs.Prelude.{◌≡◌, ◌≤◌, ◌-◌, drop, length, has_feed}
 use Rattle.lsp_replay.proofs.notes.returns.has_feed.Given as goal
 
 abbrev pub invariant-bytes : goal.invariant-bytes

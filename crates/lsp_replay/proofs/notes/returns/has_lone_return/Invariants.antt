@@ -1,5 +1,4 @@
-use Rattle.std.specs.Prelude.{◌≡◌, ◌≤◌, ◌-◌, drop, length, false}
-use Rattle.lsp_replay.specs.Notes.{has_lone_return}
+use Rattle.lsp_replay.proofs.Prelude.{◌≡◌, ◌≤◌, ◌-◌, drop, length, false, has_lone_return}
 use Rattle.lsp_replay.proofs.notes.returns.has_lone_return.Given as goal
 
 abbrev pub invariant-bytes : goal.invariant-bytes

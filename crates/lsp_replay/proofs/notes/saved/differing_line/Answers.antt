@@ -1,8 +1,7 @@
-use Rattle.std.proofs.Common.{true, false, sym, ◌∙◌, arith}
+use Rattle.lsp_replay.proofs.Prelude.{true, false, sym, ◌∙◌, arith, common_steps}
 use Rattle.lsp_replay.proofs.Reports.SavedLemmas.{goes_on, is_over}
-use Rattle.lsp_replay.proofs.notes.saved.differing_line.Goals as goal
 use Rattle.lsp_replay.proofs.notes.saved.differing_line.Goals.{then-ends_line, else-ends_line}
-use Rattle.std.proofs.lemmas.Grind.{common_steps}
+use Rattle.lsp_replay.proofs.notes.saved.differing_line.Goals as goal
 
 pub bytes-preserved : goal.bytes-preserved
 bytes-preserved c =
@@ -29,5 +28,4 @@ bytes-preserved c =
     ]
 
 pub returns-else-next-other : goal.returns-else-next-other
-returns-else-next-other c =
-    grind (arith, common_steps, is_over, c.bytes.invariant.rest, c.if-next-other.false)
+returns-else-next-other c = grind (arith, common_steps, is_over, c.bytes.invariant.rest, c.if-next-other.false)

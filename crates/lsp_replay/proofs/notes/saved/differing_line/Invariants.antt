@@ -1,5 +1,4 @@
-use Rattle.std.specs.Prelude.{◌≡◌, ◌≤◌, ◌+◌, ◌-◌, drop, length}
-use Rattle.lsp_replay.specs.Notes.{differing_line}
+use Rattle.lsp_replay.proofs.Prelude.{◌≡◌, ◌≤◌, ◌+◌, ◌-◌, drop, length, differing_line}
 use Rattle.lsp_replay.proofs.notes.saved.differing_line.Given as goal
 
 abbrev pub invariant-bytes : goal.invariant-bytes

@@ -1,8 +1,6 @@
-use Rattle.std.proofs.Common.{sum_by, arith}
-use Rattle.std.proofs.lemmas.Str.{IsUtf8-past_char}
+use Rattle.lsp_replay.proofs.Prelude.{sum_by, arith, IsUtf8-past_char, common_steps}
 use Rattle.lsp_store.proofs.Queries.UnitsBeforeLemmas.{chars_none, units_few, units_next}
 use Rattle.lsp_replay.proofs.notes.units.units_of.Goals as goal
-use Rattle.std.proofs.lemmas.Grind.{common_steps}
 
 pub overflow_add-count : goal.overflow_add-count
 overflow_add-count c =

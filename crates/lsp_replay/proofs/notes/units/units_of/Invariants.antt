@@ -1,6 +1,6 @@
+use Rattle.lsp_replay.proofs.Prelude.{units_in}
 use Rattle.std.proofs.Common.{◌≡◌, ◌+◌, IsUtf8, chars, sum_by}
 use Rattle.std.specs.Str.Iter.{chars_rest}
-use Rattle.lsp_text.specs.Units.{units_in}
 use Rattle.lsp_replay.proofs.notes.units.units_of.Given as goal
 
 abbrev pub invariant-loop-c : goal.invariant-loop-c

@@ -1,4 +1,4 @@
-use Rattle.lsp_replay.specs.inside.RunOutput.{output_of}
+use Rattle.lsp_replay.proofs.Prelude.{output_of}
 use Rattle.lsp_replay.proofs.Stay.PipedLemmas.{failed, printed, when_err, when_ok}
 use Rattle.lsp_replay.proofs.pipeline.PipelineHandler.handle.Goals as goal
 

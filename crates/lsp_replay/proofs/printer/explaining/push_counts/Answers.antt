@@ -1,5 +1,4 @@
-use Rattle.std.specs.Prelude.{[], codes, decimal, flat_map}
-use Rattle.lsp_replay.specs.Tallies.{tally_words}
+use Rattle.lsp_replay.proofs.Prelude.{[], codes, decimal, flat_map, tally_words}
 use Rattle.lsp_replay.proofs.Reports.MemberLemmas.{eight_words}
 use Rattle.lsp_replay.proofs.printer.explaining.push_counts.Goals as goal
 

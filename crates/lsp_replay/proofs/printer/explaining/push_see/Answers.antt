@@ -1,4 +1,4 @@
-use Rattle.std.specs.Prelude.{codes}
+use Rattle.lsp_replay.proofs.Prelude.{codes}
 use Rattle.lsp_replay.proofs.Reports.MemberLemmas.{one_member}
 use Rattle.lsp_replay.proofs.printer.explaining.push_see.Goals as goal
 

@@ -1,5 +1,4 @@
-use Rattle.std.specs.Prelude.{◌≡◌, ◌++◌, flat_map, take}
-use Rattle.lsp_replay.specs.Tallies.{tally_words}
+use Rattle.lsp_replay.proofs.Prelude.{◌≡◌, ◌++◌, flat_map, take, tally_words}
 use Rattle.lsp_replay.proofs.printer.explaining.push_tallies.Given as goal
 
 abbrev pub invariant-loop-tally : goal.invariant-loop-tally

@@ -1,4 +1,4 @@
-use Rattle.std.specs.Prelude.{codes, decimal}
+use Rattle.lsp_replay.proofs.Prelude.{codes, decimal}
 use Rattle.lsp_replay.proofs.Reports.MemberLemmas.{seven_words}
 use Rattle.lsp_replay.proofs.printer.explaining.push_tally.Goals as goal
 

@@ -1,7 +1,4 @@
-use Rattle.std.proofs.Common.{drop, ap, ◌∙◌}
-use Rattle.std.proofs.lemmas.List.{take_at}
-use Rattle.lsp_log.specs.Log.{mark_of}
-use Rattle.lsp_replay.specs.Commands.{line_if}
+use Rattle.lsp_replay.proofs.Prelude.{drop, ap, ◌∙◌, take_at, mark_of, line_if}
 use Rattle.lsp_replay.proofs.Canonical.CanonicalLogLemmas.{appended_framed}
 use Rattle.lsp_replay.proofs.printer.normalising.push_record.Goals as goal
 

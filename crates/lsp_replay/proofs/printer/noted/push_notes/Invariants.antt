@@ -1,5 +1,4 @@
-use Rattle.std.proofs.Common.{◌++◌, drop}
-use Rattle.lsp_replay.specs.Notes.{notes_words}
+use Rattle.lsp_replay.proofs.Prelude.{◌++◌, drop, notes_words}
 use Rattle.lsp_replay.proofs.Reports.NoteLemmas.{Writing}
 use Rattle.lsp_replay.proofs.printer.noted.push_notes.Given as goal
 

@@ -1,5 +1,4 @@
-use Rattle.std.proofs.Common.{◌++◌, ◌+◌, ap, ◌∙◌, sym, append_assoc, rules}
-use Rattle.lsp_replay.specs.Commands.{document_line, report_from}
+use Rattle.lsp_replay.proofs.Prelude.{◌++◌, ◌+◌, ap, ◌∙◌, sym, append_assoc, rules, document_line, report_from}
 use Rattle.lsp_replay.proofs.Reports.ReportLemmas.{report_goes_on}
 use Rattle.lsp_replay.proofs.printer.partial.push_documents.Goals as goal
 

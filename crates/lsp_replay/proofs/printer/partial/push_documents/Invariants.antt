@@ -1,5 +1,4 @@
-use Rattle.std.specs.Prelude.{◌≡◌, ◌++◌, ◌-◌, length}
-use Rattle.lsp_replay.specs.Commands.{report_from}
+use Rattle.lsp_replay.proofs.Prelude.{◌≡◌, ◌++◌, ◌-◌, length, report_from}
 use Rattle.lsp_replay.proofs.printer.partial.push_documents.Given as goal
 
 abbrev pub invariant-documents : goal.invariant-documents

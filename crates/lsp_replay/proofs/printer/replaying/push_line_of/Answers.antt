@@ -1,7 +1,5 @@
-use Rattle.std.proofs.Common.{◌≡◌, ◌++◌, sym, ap, ◌∙◌, append_assoc, rules, w32, to_z, of_z}
+use Rattle.lsp_replay.proofs.Prelude.{◌≡◌, ◌++◌, sym, ap, ◌∙◌, append_assoc, rules, w32, to_z, of_z, codes, document_text}
 use Rattle.std.proofs.lemmas.Int.{to_z-of_z}
-use Rattle.std.specs.Prelude.{codes}
-use Rattle.lsp_message.specs.Outgoing.{document_text}
 use Rattle.lsp_replay.specs.Commands.{document_line}
 use Rattle.lsp_replay.proofs.printer.replaying.push_line_of.Goals as goal
 
@@ -14,11 +12,6 @@ returns c =
     let buffer = c.args.buffer.now.items in
     let pushed = rw version at c.in_ok-push_document.ensures.ok in
     let written : c.push_document.new.bytes.items ≡ buffer ++ line =
-    rw (
-      sym c.version.ensures,
-      sym c.language.ensures,
-      sym c.requires,
-      sym c.uri.ensures,
-    ) pushed in
+    rw (sym c.version.ensures, sym c.language.ensures, sym c.requires, sym c.uri.ensures) pushed in
     c.in_ok-extend_from_slice.ensures.items ∙ ap (λ bytes. bytes ++ codes "\n") written
     ∙ append_assoc buffer line (codes "\n")

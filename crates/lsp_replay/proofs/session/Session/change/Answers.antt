@@ -1,7 +1,5 @@
-use Rattle.std.proofs.Common.{◌≡◌, ap}
-use Rattle.lsp_message.specs.Seen.{change_view}
+use Rattle.lsp_replay.proofs.Prelude.{◌≡◌, ap, change_view, IsPlanOfChange}
 use Rattle.lsp_server.specs.declared.planned.PlannedChange.TheVariants.{Accepted}
-use Rattle.lsp_server.specs.Planned.{IsPlanOfChange}
 use Rattle.lsp_replay.proofs.Records.TakenLemmas.{accepted_witnessed, planned_at}
 use Rattle.lsp_replay.proofs.session.Session.change.Goals as goal
 

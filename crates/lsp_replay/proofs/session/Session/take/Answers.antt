@@ -1,4 +1,4 @@
-use Rattle.std.proofs.Common.{refl}
+use Rattle.lsp_replay.proofs.Prelude.{refl}
 use Rattle.lsp_replay.proofs.Records.TakenLemmas.{change_taken, other_taken}
 use Rattle.lsp_replay.proofs.session.Session.take.Goals as goal
 

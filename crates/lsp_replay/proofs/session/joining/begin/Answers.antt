@@ -1,5 +1,4 @@
-use Rattle.std.proofs.Common.{refl}
-use Rattle.lsp_message.specs.Seen.{change_view}
+use Rattle.lsp_replay.proofs.Prelude.{refl, change_view}
 use Rattle.lsp_replay.proofs.Records.TakenLemmas.{plan_begun}
 use Rattle.lsp_replay.proofs.session.joining.begin.Goals as goal
 

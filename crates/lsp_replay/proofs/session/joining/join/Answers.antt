@@ -1,7 +1,4 @@
-use Rattle.std.proofs.Common.{rules, ◌≡◌, ◌≢◌, sym, string_bytes}
-use Rattle.lsp_message.specs.Seen.{change_view}
-use Rattle.lsp_store.specs.Plan.{IsMessageFault}
-use Rattle.lsp_replay.specs.inside.Joining.{IsFramed, IsOpenIn}
+use Rattle.lsp_replay.proofs.Prelude.{rules, ◌≡◌, ◌≢◌, sym, string_bytes, change_view, IsMessageFault, IsFramed, IsOpenIn}
 use Rattle.lsp_replay.proofs.Squash.JoiningLemmas.{not_same}
 use Rattle.lsp_replay.proofs.Records.TakenLemmas.{message_is, message_none, plan_framed, plan_longer, plan_too_long}
 use Rattle.lsp_replay.proofs.session.joining.join.Goals as goal

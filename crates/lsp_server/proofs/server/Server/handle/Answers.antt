@@ -1,4 +1,4 @@
-use Rattle.std.proofs.Common.{◌∙◌}
+use Rattle.lsp_server.proofs.Prelude.{◌∙◌}
 use Rattle.lsp_server.proofs.RefusalLemmas.{refused_stays}
 use Rattle.lsp_server.proofs.server.Server.handle.Goals as goal
 

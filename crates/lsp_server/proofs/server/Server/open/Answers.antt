@@ -1,6 +1,4 @@
-use Rattle.std.proofs.Common.{rules}
-use Rattle.lsp_message.specs.Seen.{open_view}
-use Rattle.lsp_store.specs.Table.{opens}
+use Rattle.lsp_server.proofs.Prelude.{rules, open_view, opens}
 use Rattle.lsp_server.proofs.Commands.{obeyed_step}
 use Rattle.lsp_server.specs.contracts.server.Server.{the_view}
 use Rattle.lsp_server.proofs.server.Server.open.Goals as goal

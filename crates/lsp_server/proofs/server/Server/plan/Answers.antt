@@ -1,4 +1,4 @@
-use Rattle.std.proofs.Common.{rules, w32, to_z, of_z}
+use Rattle.lsp_server.proofs.Prelude.{rules, w32, to_z, of_z}
 use Rattle.std.proofs.lemmas.Int.{to_z-of_z}
 use Rattle.lsp_server.proofs.Changes.{planned_is, refused_is}
 use Rattle.lsp_server.proofs.server.Server.plan.Goals as goal

@@ -1,8 +1,4 @@
-use Rattle.std.proofs.Common.{◌≡◌, ◌∙◌, List, ℕ, refl, ap, sym, subst, string_bytes, rules, w32, to_z, of_z}
-use Rattle.std.proofs.lemmas.Int.{to_z-of_z}
-use Rattle.lsp_edit.specs.Delta.{IsOn}
-use Rattle.lsp_message.specs.Params.{DocumentItem}
-use Rattle.lsp_store.specs.Squash.{SquashData, squash_under}
+use Rattle.lsp_store.proofs.Prelude.{◌≡◌, ◌∙◌, List, ℕ, refl, ap, sym, subst, string_bytes, rules, w32, to_z, of_z, to_z-of_z, IsOn, DocumentItem, SquashData, squash_under}
 use Rattle.lsp_store.proofs.SquashLemmas.{plan_after, plan_at, plan_reached, reached_under}
 use Rattle.lsp_store.proofs.squash.Batches.add_plan.Goals as goal
 

@@ -1,10 +1,4 @@
-use Rattle.std.proofs.Common.{◌≡◌, Err, ap, map, string_bytes, rules, w32, to_z, of_z}
-use Rattle.std.proofs.lemmas.Int.{to_z-of_z}
-use Rattle.lsp_text.specs.Units.{units_in}
-use Rattle.lsp_edit.specs.Edited.{content_change}
-use Rattle.lsp_store.specs.declared.fault.StoreFault.{StoreFault}
-use Rattle.lsp_store.specs.declared.fault.StoreFault.TheVariants.{NoMemory}
-use Rattle.lsp_store.specs.Opened.{entry_under}
+use Rattle.lsp_store.proofs.Prelude.{◌≡◌, Err, ap, map, string_bytes, rules, w32, to_z, of_z, to_z-of_z, units_in, content_change, StoreFault, NoMemory, entry_under}
 use Rattle.lsp_store.proofs.Messages.MessageLemmas.{accepted_left}
 use Rattle.lsp_store.proofs.SquashLemmas.{change_accepted, change_adds, change_at, change_left, change_refused}
 use Rattle.lsp_store.proofs.squash.Batches.change.Goals as goal

@@ -1,8 +1,4 @@
-use Rattle.std.proofs.Common.{◌≡◌, map, subst, IfErr, Option, string_bytes, rules, w32, to_z, of_z}
-use Rattle.std.proofs.lemmas.Int.{to_z-of_z}
-use Rattle.lsp_edit.specs.Edited.{content_change}
-use Rattle.lsp_store.specs.Faults.{IsRefusal}
-use Rattle.lsp_store.specs.Table.{Refusal}
+use Rattle.lsp_store.proofs.Prelude.{◌≡◌, map, subst, IfErr, Option, string_bytes, rules, w32, to_z, of_z, to_z-of_z, content_change, IsRefusal, Refusal}
 use Rattle.lsp_store.proofs.SquashLemmas.{written_refusal}
 use Rattle.lsp_store.proofs.squash.Batches.message.Goals as goal
 

@@ -1,8 +1,4 @@
-use Rattle.std.proofs.Common.{◌≡◌, Err, map, rules, w32, to_z, of_z}
-use Rattle.std.proofs.lemmas.Int.{to_z-of_z}
-use Rattle.std.proofs.lemmas.Result.{err_from_is_err_and}
-use Rattle.lsp_edit.specs.Edited.{content_change}
-use Rattle.lsp_store.specs.declared.fault.StoreFault.TheVariants.{NoMemory}
+use Rattle.lsp_store.proofs.Prelude.{◌≡◌, Err, map, rules, w32, to_z, of_z, to_z-of_z, err_from_is_err_and, content_change, NoMemory}
 use Rattle.lsp_store.proofs.SquashLemmas.{add_accepted, add_refused, reached_still}
 use Rattle.lsp_store.proofs.squash.Squash.add.Goals as goal
 

@@ -1,6 +1,4 @@
-use Rattle.std.proofs.Common.{IfErr, subst}
-use Rattle.lsp_store.specs.Faults.{IsRefusal}
-use Rattle.lsp_store.specs.Squash.{SquashData, squash_refusal}
+use Rattle.lsp_store.proofs.Prelude.{IfErr, subst, IsRefusal, SquashData, squash_refusal}
 use Rattle.lsp_store.proofs.squash.Squash.message.Goals as goal
 
 pub returns-clause-error : goal.returns-clause-error

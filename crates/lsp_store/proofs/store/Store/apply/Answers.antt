@@ -1,7 +1,4 @@
-use Rattle.std.proofs.Common.{◌≡◌, ap, arith, refl, rules, w32, to_z, of_z}
-use Rattle.std.proofs.lemmas.Int.{to_z-of_z}
-use Rattle.ordered_map.specs.Entries.{set_value_at}
-use Rattle.lsp_store.specs.declared.store.stored.Stored.{Stored}
+use Rattle.lsp_store.proofs.Prelude.{◌≡◌, ap, arith, refl, rules, w32, to_z, of_z, to_z-of_z, set_value_at, Stored}
 use Rattle.lsp_store.proofs.Tables.PlanLemmas.{entry_there, on_err, on_ok, plan_applied, plan_on, plan_short, plan_takes, plan_unchanged, put_length}
 use Rattle.lsp_store.proofs.store.Store.apply.Goals as goal
 

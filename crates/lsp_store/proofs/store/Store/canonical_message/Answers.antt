@@ -1,10 +1,4 @@
-use Rattle.std.proofs.Common.{◌≡◌, Err, List, ap, length, map, arith, rules, w32, to_z, of_z}
-use Rattle.std.proofs.lemmas.Int.{to_z-of_z}
-use Rattle.lsp_edit.specs.Batch.{ContentChange}
-use Rattle.lsp_edit.specs.Edited.{content_change}
-use Rattle.lsp_store.specs.declared.fault.StoreFault.{StoreFault}
-use Rattle.lsp_store.specs.declared.fault.StoreFault.TheVariants.{NoMemory}
-use Rattle.lsp_store.specs.Plan.{IsPlanOf}
+use Rattle.lsp_store.proofs.Prelude.{◌≡◌, Err, List, ap, length, map, arith, rules, w32, to_z, of_z, to_z-of_z, ContentChange, content_change, StoreFault, NoMemory, IsPlanOf}
 use Rattle.lsp_store.proofs.Messages.MessageLemmas.{first_told, texts_held}
 use Rattle.lsp_store.proofs.Messages.PlannedLemmas.{plan_alike, plan_read, plan_settled}
 use Rattle.lsp_store.proofs.Tables.PlanLemmas.{ok_from}

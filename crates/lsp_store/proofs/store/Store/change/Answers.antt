@@ -1,7 +1,4 @@
-use Rattle.std.proofs.Common.{◌≡◌, Err, ap, rules, w32, to_z, of_z}
-use Rattle.std.proofs.lemmas.Int.{to_z-of_z}
-use Rattle.lsp_store.specs.declared.fault.StoreFault.{StoreFault}
-use Rattle.lsp_store.specs.declared.fault.StoreFault.TheVariants.{NoMemory}
+use Rattle.lsp_store.proofs.Prelude.{◌≡◌, Err, ap, rules, w32, to_z, of_z, to_z-of_z, StoreFault, NoMemory}
 use Rattle.lsp_store.proofs.store.Store.change.Goals as goal
 
 pub returns-in-Err-clause-one : goal.returns-in-Err-clause-one

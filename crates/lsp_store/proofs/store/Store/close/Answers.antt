@@ -1,5 +1,4 @@
-use Rattle.std.proofs.Common.{ap, arith, length, refl}
-use Rattle.ordered_map.specs.Entries.{is_key}
+use Rattle.lsp_store.proofs.Prelude.{ap, arith, length, refl, is_key}
 use Rattle.lsp_store.proofs.Tables.StoreLemmas.{close_absent, closed}
 use Rattle.lsp_store.proofs.Tables.TableLemmas.{remove_entry-few}
 use Rattle.lsp_store.proofs.store.Store.close.Goals as goal

@@ -1,4 +1,4 @@
-use Rattle.std.proofs.Common.{◌∙◌, sym}
+use Rattle.lsp_store.proofs.Prelude.{◌∙◌, sym}
 use Rattle.lsp_store.proofs.Tables.StoreLemmas.{taken_strict}
 use Rattle.lsp_store.proofs.store.Store.is_taken.Goals as goal
 

@@ -1,16 +1,11 @@
-use Rattle.std.proofs.Common.{◌≡◌, inr, rules, w32, to_z, of_z, string_bytes}
-use Rattle.std.proofs.lemmas.Int.{to_z-of_z}
-use Rattle.std.proofs.lemmas.Result.{err_from_is_err_and}
+use Rattle.lsp_store.proofs.Prelude.{◌≡◌, inr, rules, w32, to_z, of_z, string_bytes, to_z-of_z, err_from_is_err_and}
 use Rattle.lsp_store.proofs.Tables.StoreLemmas.{opened, opened_few}
 use Rattle.lsp_store.proofs.store.Store.open.Goals as goal
 
 pub returns-in_err-check_open-clause-error : goal.returns-in_err-check_open-clause-error
 returns-in_err-check_open-clause-error c =
     let p = err_from_is_err_and c.from_residual.result c.from_residual.ensures.1 in
-    rw (
-      p.1,
-      p.2,
-    ) (inr (rw (
+    rw (p.1, p.2) (inr (rw (
       c.deref.ensures,
       c.deref-2.ensures,
     ) at (c.in_err-check_open.ensures.error (string_bytes c.args.language) c.args.version)))

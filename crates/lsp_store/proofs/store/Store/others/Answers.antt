@@ -1,4 +1,4 @@
-use Rattle.std.proofs.Common.{◌∙◌, sym, arith}
+use Rattle.lsp_store.proofs.Prelude.{◌∙◌, sym, arith}
 use Rattle.lsp_store.proofs.Tables.StoreLemmas.{others_new, others_open}
 use Rattle.lsp_store.proofs.store.Store.others.Goals as goal
 

@@ -1,12 +1,4 @@
-use Rattle.std.proofs.Common.{◌≡◌, ◌∙◌, Err, Option, None, Some, ap, map, rules, w32, to_z, of_z}
-use Rattle.std.proofs.lemmas.Int.{to_z-of_z}
-use Rattle.lsp_text.specs.Units.{units_in}
-use Rattle.lsp_edit.specs.Edited.{content_change}
-use Rattle.lsp_message.specs.Params.{DocumentItem}
-use Rattle.lsp_store.specs.declared.fault.StoreFault.{StoreFault}
-use Rattle.lsp_store.specs.declared.fault.StoreFault.TheVariants.{NoMemory}
-use Rattle.lsp_store.specs.Opened.{entry_under}
-use Rattle.lsp_store.specs.Table.{IsLeftToMeaning, entry_at, entry_refusal, refusal_on}
+use Rattle.lsp_store.proofs.Prelude.{◌≡◌, ◌∙◌, Err, Option, None, Some, ap, map, rules, w32, to_z, of_z, to_z-of_z, units_in, content_change, DocumentItem, StoreFault, NoMemory, entry_under, IsLeftToMeaning, entry_at, entry_refusal, refusal_on}
 use Rattle.lsp_store.proofs.Tables.PlanLemmas.{plan_is}
 use Rattle.lsp_store.proofs.Tables.StoreLemmas.{change_absent, change_refused, held_at, limits_are, may_take}
 use Rattle.lsp_store.proofs.store.Store.plan.Goals as goal

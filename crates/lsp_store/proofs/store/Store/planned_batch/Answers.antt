@@ -1,5 +1,4 @@
-use Rattle.std.proofs.Common.{◌≡◌, sym, ◌∙◌, rules, w32, to_z, of_z}
-use Rattle.std.proofs.lemmas.Int.{to_z-of_z}
+use Rattle.lsp_store.proofs.Prelude.{◌≡◌, sym, ◌∙◌, rules, w32, to_z, of_z, to_z-of_z}
 use Rattle.lsp_store.proofs.Tables.PlanLemmas.{HasEntry, plan_key, plan_text, planned_body}
 use Rattle.lsp_store.proofs.store.Store.planned_batch.Goals as goal
 

@@ -1,6 +1,4 @@
-use Rattle.std.proofs.Common.{◌≡◌, ap, ◌∙◌, rules, w32, to_z, of_z}
-use Rattle.std.proofs.lemmas.Int.{to_z-of_z}
-use Rattle.lsp_frame.specs.Frame.{frame}
+use Rattle.lsp_store.proofs.Prelude.{◌≡◌, ap, ◌∙◌, rules, w32, to_z, of_z, to_z-of_z, frame}
 use Rattle.lsp_store.proofs.Tables.PlanLemmas.{if_err, if_ok_on, planned_accepted, planned_refused}
 use Rattle.lsp_store.proofs.Tables.StoreLemmas.{limits_are}
 use Rattle.lsp_store.proofs.store.Store.planned_message.Goals as goal

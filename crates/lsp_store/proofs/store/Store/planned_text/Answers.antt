@@ -1,4 +1,4 @@
-use Rattle.std.proofs.Common.{sym}
+use Rattle.lsp_store.proofs.Prelude.{sym}
 use Rattle.lsp_store.proofs.Tables.PlanLemmas.{HasEntry, if_ok, plan_text}
 use Rattle.lsp_store.proofs.store.Store.planned_text.Goals as goal
 

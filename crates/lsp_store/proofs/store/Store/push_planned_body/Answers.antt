@@ -1,5 +1,4 @@
-use Rattle.std.proofs.Common.{◌≡◌, ◌++◌, List, ℕ, ap, ◌∙◌, rules, w32, to_z, of_z}
-use Rattle.std.proofs.lemmas.Int.{to_z-of_z}
+use Rattle.lsp_store.proofs.Prelude.{◌≡◌, ◌++◌, List, ℕ, ap, ◌∙◌, rules, w32, to_z, of_z, to_z-of_z}
 use Rattle.lsp_store.proofs.Tables.PlanLemmas.{if_err, on_ok_on, planned_accepted, planned_refused}
 use Rattle.lsp_store.proofs.Tables.StoreLemmas.{limits_are}
 use Rattle.lsp_store.proofs.store.Store.push_planned_body.Goals as goal

@@ -1,9 +1,4 @@
-use Rattle.std.proofs.Common.{◌≡◌, ◌∙◌, ℕ, List, None, IfErr, IfOk, OnOk, map, subst, rules, w32, to_z, of_z}
-use Rattle.std.proofs.lemmas.Int.{to_z-of_z}
-use Rattle.lsp_frame.specs.Frame.{frame}
-use Rattle.lsp_edit.specs.Edited.{content_change}
-use Rattle.lsp_store.specs.Faults.{IsRefusal}
-use Rattle.lsp_store.specs.Message.{body_refusal, change_body}
+use Rattle.lsp_store.proofs.Prelude.{◌≡◌, ◌∙◌, ℕ, List, None, IfErr, IfOk, OnOk, map, subst, rules, w32, to_z, of_z, to_z-of_z, frame, content_change, IsRefusal, body_refusal, change_body}
 use Rattle.lsp_store.proofs.Messages.MessageLemmas.{body_begun}
 use Rattle.lsp_store.proofs.store.canonical.change_frame.Goals as goal
 

@@ -1,10 +1,6 @@
-use Rattle.std.proofs.Common.{◌≡◌, ◌+◌, ◌-◌, ◌++◌, ap, ◌∙◌, arith, length, length-append, map, rules, w32, to_z, of_z}
-use Rattle.std.proofs.lemmas.Int.{to_z-of_z}
-use Rattle.std.proofs.lemmas.Result.{on_ok_weaker, IfErr-weaker}
-use Rattle.lsp_frame.specs.declared.written.EncodeFault.TheVariants as encode
-use Rattle.lsp_edit.specs.Edited.{content_change}
-use Rattle.lsp_store.specs.Message.{change_body}
+use Rattle.lsp_store.proofs.Prelude.{◌≡◌, ◌+◌, ◌-◌, ◌++◌, ap, ◌∙◌, arith, length, length-append, map, rules, w32, to_z, of_z, to_z-of_z, on_ok_weaker, IfErr-weaker, content_change, change_body}
 use Rattle.lsp_store.proofs.Messages.MessageLemmas.{body_pushed, body_within, encode_refused}
+use Rattle.lsp_frame.specs.declared.written.EncodeFault.TheVariants as encode
 use Rattle.lsp_store.proofs.store.canonical.push_body.Goals as goal
 
 pub returns-clause-body : goal.returns-clause-body

@@ -1,6 +1,4 @@
-use Rattle.std.specs.Str.{chars}
-use Rattle.lsp_text.specs.Units.{units_in}
-use Rattle.lsp_edit.specs.declared.fault.EditFault.TheVariants.{ReversedRange}
+use Rattle.lsp_replay.proofs.Prelude.{chars, units_in, ReversedRange}
 use Rattle.lsp_edit.proofs.Composing.EndLemmas.{places_in_order, places_reversed}
 use Rattle.lsp_replay.proofs.Reports.NoteLemmas.{no_part}
 use Rattle.lsp_replay.proofs.notes.changes.replaced.ends.Goals as goal

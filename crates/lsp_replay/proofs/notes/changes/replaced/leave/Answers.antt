@@ -1,5 +1,4 @@
-use Rattle.std.proofs.Common.{◌∙◌, arith}
-use Rattle.lsp_text.specs.Units.{units_in}
+use Rattle.lsp_replay.proofs.Prelude.{◌∙◌, arith, units_in}
 use Rattle.lsp_replay.proofs.Records.TakenLemmas.{if_ok}
 use Rattle.lsp_replay.proofs.Reports.NoteLemmas.{all_left, nothing_left, range_left}
 use Rattle.lsp_replay.proofs.notes.changes.replaced.leave.Goals as goal

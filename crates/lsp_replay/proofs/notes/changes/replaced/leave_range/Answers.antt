@@ -1,5 +1,4 @@
-use Rattle.std.proofs.Common.{Some, sym, ap, ◌∙◌, arith}
-use Rattle.lsp_text.specs.Units.{units_in}
+use Rattle.lsp_replay.proofs.Prelude.{Some, sym, ap, ◌∙◌, arith, units_in}
 use Rattle.lsp_replay.proofs.Reports.NoteLemmas.{no_range_left, range_long, range_put}
 use Rattle.lsp_replay.proofs.notes.changes.replaced.leave_range.Goals as goal
 

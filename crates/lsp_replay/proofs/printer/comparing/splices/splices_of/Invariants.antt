@@ -1,7 +1,4 @@
-use Rattle.std.specs.Prelude.{drop, map}
-use Rattle.lsp_text.specs.Units.{units_in}
-use Rattle.lsp_message.specs.Seen.{content_change_view}
-use Rattle.lsp_replay.specs.Compared.{splices_from}
+use Rattle.lsp_replay.proofs.Prelude.{drop, map, units_in, content_change_view, splices_from}
 use Rattle.lsp_replay.proofs.Reports.CompareLemmas.{Splicing}
 use Rattle.lsp_replay.proofs.printer.comparing.splices.splices_of.Given as goal
 

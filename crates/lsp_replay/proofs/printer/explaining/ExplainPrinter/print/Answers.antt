@@ -1,7 +1,4 @@
-use Rattle.std.proofs.Common.{ap, ◌∙◌}
-use Rattle.lsp_log.specs.Log.{Record}
-use Rattle.lsp_replay.specs.Explained.{explaining}
-use Rattle.lsp_replay.specs.Session.{Session}
+use Rattle.lsp_replay.proofs.Prelude.{ap, ◌∙◌, Record, explaining, Session}
 use Rattle.lsp_replay.proofs.Reports.ExplainLemmas.{line_is}
 use Rattle.lsp_replay.proofs.KnownLemmas.{line_first}
 use Rattle.lsp_replay.proofs.printer.explaining.ExplainPrinter.print.Goals as goal

@@ -1,4 +1,4 @@
-use Rattle.std.proofs.lemmas.Result.{err_from_is_err_and}
+use Rattle.lsp_replay.proofs.Prelude.{err_from_is_err_and}
 use Rattle.lsp_replay.proofs.Canonical.PrintedLemmas.{not_printed, printed, room_left}
 use Rattle.lsp_replay.proofs.printer.normalising.NormalisePrinter.print.Goals as goal
 

@@ -1,9 +1,4 @@
-use Rattle.std.proofs.Common.{sym, ◌∙◌, option_map, string_bytes}
-use Rattle.lsp_log.specs.Log.{Record}
-use Rattle.lsp_replay.specs.Parts.{part_data, refreshed}
-use Rattle.lsp_replay.specs.inside.Bodies.{body_view}
-use Rattle.lsp_replay.specs.inside.Parts.{found_now}
-use Rattle.lsp_replay.specs.inside.Verdicts.{verdict_view}
+use Rattle.lsp_replay.proofs.Prelude.{sym, ◌∙◌, option_map, string_bytes, Record, part_data, refreshed, body_view, found_now, verdict_view}
 use Rattle.lsp_replay.proofs.Reports.PartLemmas.{found_next, part_continues, part_ends}
 use Rattle.lsp_replay.proofs.printer.partial.ReplayPartPrinter.print.Goals as goal
 

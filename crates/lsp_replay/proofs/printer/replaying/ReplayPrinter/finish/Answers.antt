@@ -1,4 +1,4 @@
-use Rattle.std.proofs.Common.{rules, refl}
+use Rattle.lsp_replay.proofs.Prelude.{rules, refl}
 use Rattle.lsp_replay.proofs.Reports.ReportLemmas.{report_part}
 use Rattle.lsp_replay.proofs.printer.replaying.ReplayPrinter.finish.Goals as goal
 

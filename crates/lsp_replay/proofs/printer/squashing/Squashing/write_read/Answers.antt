@@ -1,7 +1,4 @@
-use Rattle.std.proofs.Common.{◌≢◌, inr}
-use Rattle.std.proofs.lemmas.Result.{err_from_is_err_and}
-use Rattle.lsp_replay.specs.Session.{bad}
-use Rattle.lsp_replay.specs.inside.Verdicts.{verdict_view}
+use Rattle.lsp_replay.proofs.Prelude.{◌≢◌, inr, err_from_is_err_and, bad, verdict_view}
 use Rattle.lsp_replay.proofs.Records.TakenLemmas.{seen_joined, seen_open, unjoined}
 use Rattle.lsp_replay.proofs.Squash.SquashingLemmas.{told_as_it_is, told_bad, told_more, told_next, told_too_long}
 use Rattle.lsp_replay.proofs.printer.squashing.Squashing.write_read.Goals as goal

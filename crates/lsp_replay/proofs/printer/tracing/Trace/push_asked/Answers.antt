@@ -1,11 +1,5 @@
-use Rattle.std.proofs.Common.{◌≡◌, List, ℕ, ap, ◌∙◌}
-use Rattle.lsp_log.specs.declared.record.Sender.{Sender}
+use Rattle.lsp_replay.proofs.Prelude.{◌≡◌, List, ℕ, ap, ◌∙◌, Sender, Version, reading, incoming_of, is_json, body_read, from_client, from_server}
 use Rattle.lsp_log.specs.declared.record.Sender.TheVariants as side
-use Rattle.lsp_log.specs.declared.record.Version.{Version}
-use Rattle.lsp_message.specs.Message.{reading}
-use Rattle.lsp_server.specs.Incoming.{incoming_of}
-use Rattle.lsp_replay.specs.Trace.{is_json}
-use Rattle.lsp_replay.specs.inside.Bodies.{body_read, from_client, from_server}
 use Rattle.lsp_replay.proofs.printer.tracing.Trace.push_asked.Goals as goal
 
 -- the bytes that were read of a server's record are its body

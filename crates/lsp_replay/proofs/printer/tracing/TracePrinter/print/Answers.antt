@@ -1,13 +1,5 @@
-use Rattle.std.proofs.Common.{◌≡◌, ◌++◌, ◌∷◌, sym, subst, ◌∙◌}
-use Rattle.std.proofs.lemmas.List.{nil_from_length}
-use Rattle.lsp_log.specs.Log.{Record}
-use Rattle.lsp_message.specs.Message.{reading}
-use Rattle.lsp_server.specs.Incoming.{incoming_of}
-use Rattle.lsp_stream.specs.Ports.{one_more}
-use Rattle.lsp_replay.specs.RunOutput.{written_first}
-use Rattle.lsp_replay.specs.Trace.{first_members, tracing}
+use Rattle.lsp_replay.proofs.Prelude.{◌≡◌, ◌++◌, ◌∷◌, sym, subst, ◌∙◌, nil_from_length, Record, reading, incoming_of, one_more, written_first, first_members, tracing, lines_in}
 use Rattle.lsp_replay.specs.declared.printer.tracing.Trace.{Trace}
-use Rattle.lsp_replay.specs.inside.Lines.{lines_in}
 use Rattle.lsp_replay.proofs.KnownLemmas.{line_first}
 use Rattle.lsp_replay.proofs.Records.TakenLemmas.{seen_written}
 use Rattle.lsp_replay.proofs.Reports.TraceLemmas.{line_is}

@@ -1,4 +1,4 @@
-use Rattle.lsp_server.specs.Seen.{incoming_view}
+use Rattle.lsp_replay.proofs.Prelude.{incoming_view}
 use Rattle.lsp_replay.proofs.Reports.MemberLemmas.{first_is, on_ok}
 use Rattle.lsp_replay.proofs.printer.tracing.first.push_first.Goals as goal
 

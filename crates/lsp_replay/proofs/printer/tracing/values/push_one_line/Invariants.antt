@@ -1,5 +1,4 @@
-use Rattle.std.specs.Prelude.{◌≡◌, ◌≤◌, ◌++◌, ◌-◌, drop, length}
-use Rattle.lsp_replay.specs.Trace.{one_line}
+use Rattle.lsp_replay.proofs.Prelude.{◌≡◌, ◌≤◌, ◌++◌, ◌-◌, drop, length, one_line}
 use Rattle.lsp_replay.proofs.printer.tracing.values.push_one_line.Given as goal
 
 abbrev pub invariant-bytes : goal.invariant-bytes

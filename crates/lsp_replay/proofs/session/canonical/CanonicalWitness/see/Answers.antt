@@ -1,6 +1,4 @@
-use Rattle.std.proofs.Common.{◌≡◌, refl}
-use Rattle.lsp_message.specs.Seen.{change_view}
-use Rattle.lsp_server.specs.Planned.{store_of}
+use Rattle.lsp_replay.proofs.Prelude.{◌≡◌, refl, change_view, store_of}
 use Rattle.lsp_replay.proofs.Records.TakenLemmas.{plan_written}
 use Rattle.lsp_replay.proofs.session.canonical.CanonicalWitness.see.Goals as goal
 

@@ -1,7 +1,4 @@
-use Rattle.std.proofs.Common.{◌≡◌, ◌↔◌, Some, subst}
-use Rattle.std.specs.Str.{chars}
-use Rattle.lsp_text.specs.Units.{units_in}
-use Rattle.lsp_store.specs.UnitsBefore.{HasUnitsBefore}
+use Rattle.lsp_store.proofs.Prelude.{◌≡◌, ◌↔◌, Some, subst, chars, units_in, HasUnitsBefore}
 use Rattle.lsp_store.proofs.store.document.Document.offset_of_units.Goals as goal
 
 pub returns : goal.returns

@@ -1,6 +1,4 @@
-use Rattle.std.proofs.Common.{ap, sum_by, arith}
-use Rattle.std.proofs.lemmas.Str.{IsUtf8-past_char}
-use Rattle.lsp_text.specs.Units.{units_in}
+use Rattle.lsp_store.proofs.Prelude.{ap, sum_by, arith, IsUtf8-past_char, units_in}
 use Rattle.lsp_store.proofs.Queries.UnitsBeforeLemmas.{chars_none, units_few, units_next}
 use Rattle.lsp_store.proofs.store.document.units.counted.Goals as goal
 

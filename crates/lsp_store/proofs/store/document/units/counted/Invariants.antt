@@ -1,6 +1,5 @@
+use Rattle.lsp_store.proofs.Prelude.{chars_rest, units_in}
 use Rattle.std.proofs.Common.{◌≡◌, ◌+◌, IsUtf8, chars, sum_by}
-use Rattle.std.specs.Str.Iter.{chars_rest}
-use Rattle.lsp_text.specs.Units.{units_in}
 use Rattle.lsp_store.proofs.store.document.units.counted.Given as goal
 
 abbrev pub invariant-loop-c : goal.invariant-loop-c

@@ -1,7 +1,4 @@
-use Rattle.std.proofs.Common.{◌+◌, ap, arith, length, sum_by, sym, take}
-use Rattle.std.proofs.lemmas.List.{length-take}
-use Rattle.std.proofs.lemmas.Str.{IsCharBoundary-start, IsUtf8-take, chars-nil}
-use Rattle.lsp_text.specs.Units.{units_in}
+use Rattle.lsp_store.proofs.Prelude.{◌+◌, ap, arith, length, sum_by, sym, take, length-take, IsCharBoundary-start, IsUtf8-take, chars-nil, units_in}
 use Rattle.lsp_store.proofs.Queries.UnitsBeforeLemmas.{units_few}
 use Rattle.lsp_store.proofs.Queries.UnitsPassedLemmas.{chunk_counted}
 use Rattle.lsp_store.proofs.store.document.units.counted_to.Goals as goal

@@ -1,6 +1,5 @@
+use Rattle.lsp_store.proofs.Prelude.{IsCharBoundary, units_in}
 use Rattle.std.proofs.Common.{◌≡◌, ◌≤◌, ◌-◌, chars, sum_by, take}
-use Rattle.std.specs.Str.{IsCharBoundary}
-use Rattle.lsp_text.specs.Units.{units_in}
 use Rattle.lsp_store.proofs.store.document.units.counted_to.Given as goal
 
 abbrev pub invariant-loop-offset : goal.invariant-loop-offset

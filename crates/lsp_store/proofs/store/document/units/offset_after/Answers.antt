@@ -1,7 +1,4 @@
-use Rattle.std.proofs.Common.{ℕ, ◌≡◌, ◌↔◌, Option, Some, subst, sym}
-use Rattle.std.specs.Str.{chars}
-use Rattle.lsp_text.specs.Units.{units_in}
-use Rattle.lsp_store.specs.UnitsBefore.{HasUnitsBefore}
+use Rattle.lsp_store.proofs.Prelude.{ℕ, ◌≡◌, ◌↔◌, Option, Some, subst, sym, chars, units_in, HasUnitsBefore}
 use Rattle.lsp_store.proofs.Queries.UnitsBeforeLemmas.{passed_found, some_units}
 use Rattle.lsp_store.proofs.store.document.units.offset_after.Goals as goal
 

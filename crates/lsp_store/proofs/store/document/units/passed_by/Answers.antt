@@ -1,7 +1,4 @@
-use Rattle.std.proofs.Common.{arith}
-use Rattle.std.proofs.lemmas.Str.{IsUtf8-past_char}
-use Rattle.std.specs.Str.{chars}
-use Rattle.lsp_text.specs.Units.{units_in}
+use Rattle.lsp_store.proofs.Prelude.{arith, IsUtf8-past_char, chars, units_in}
 use Rattle.lsp_store.proofs.Queries.UnitsBeforeLemmas.{passed_few, passed_more, passed_next}
 use Rattle.lsp_store.proofs.store.document.units.passed_by.Goals as goal
 

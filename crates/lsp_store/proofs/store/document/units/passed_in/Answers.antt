@@ -1,7 +1,4 @@
-use Rattle.std.proofs.Common.{arith}
-use Rattle.std.proofs.lemmas.Str.{IsCharBoundary-start}
-use Rattle.std.specs.Str.{chars}
-use Rattle.lsp_text.specs.Units.{units_in}
+use Rattle.lsp_store.proofs.Prelude.{arith, IsCharBoundary-start, chars, units_in}
 use Rattle.lsp_store.proofs.Queries.UnitsBeforeLemmas.{passed_none}
 use Rattle.lsp_store.proofs.Queries.UnitsPassedLemmas.{chunk_few, chunk_next, chunk_passed, chunk_stops, passed_end}
 use Rattle.lsp_store.proofs.store.document.units.passed_in.Goals as goal

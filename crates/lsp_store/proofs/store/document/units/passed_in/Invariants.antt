@@ -1,7 +1,5 @@
+use Rattle.lsp_store.proofs.Prelude.{IsCharBoundary, units_in, HasPassed}
 use Rattle.std.proofs.Common.{◌-◌, chars, drop}
-use Rattle.std.specs.Str.{IsCharBoundary}
-use Rattle.lsp_text.specs.Units.{units_in}
-use Rattle.lsp_store.specs.inside.UnitsPassed.{HasPassed}
 use Rattle.lsp_store.proofs.store.document.units.passed_in.Given as goal
 
 abbrev pub invariant-loop-offset : goal.invariant-loop-offset

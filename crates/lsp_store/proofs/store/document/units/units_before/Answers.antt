@@ -1,8 +1,4 @@
-use Rattle.std.proofs.Common.{◌∙◌, refl, subst, sym, take}
-use Rattle.std.proofs.lemmas.Bool.{false≢true}
-use Rattle.std.specs.Str.{chars}
-use Rattle.lsp_text.specs.Units.{units_in}
-use Rattle.lsp_store.specs.UnitsBefore.{HasUnitsBefore}
+use Rattle.lsp_store.proofs.Prelude.{◌∙◌, refl, subst, sym, take, false≢true, chars, units_in, HasUnitsBefore}
 use Rattle.lsp_store.proofs.Queries.UnitsBeforeLemmas.{before_has, none_before, none_is, only_count}
 use Rattle.lsp_store.proofs.store.document.units.units_before.Goals as goal
 

@@ -1,6 +1,4 @@
-use Rattle.std.proofs.Common.{◌∙◌, sym, take}
-use Rattle.std.proofs.lemmas.List.{length-take-le}
-use Rattle.std.proofs.lemmas.Str.{IsUtf8-take}
+use Rattle.lsp_store.proofs.Prelude.{◌∙◌, sym, take, length-take-le, IsUtf8-take}
 use Rattle.lsp_text.proofs.Counting.LeadLemmas.{utf8_units_of_text}
 use Rattle.lsp_store.proofs.store.document.units.units_to.Goals as goal
 

@@ -1,9 +1,7 @@
-use Rattle.std.proofs.Common.{◌∙◌, refl, sym, rules, w32, arith}
-use Rattle.std.proofs.lemmas.Int.{to_z-of_z}
-use Rattle.lsp_store.specs.Opened.{entry_under}
+use Rattle.lsp_store.proofs.Prelude.{◌∙◌, refl, sym, rules, w32, arith, to_z-of_z, entry_under}
 use Rattle.lsp_store.proofs.Tables.RefusalLemmas.{many_refused, long_refused, fit_accepted}
-use Rattle.lsp_store.proofs.store.stored.Stored.check_change.Goals as goal
 use Rattle.lsp_store.proofs.store.stored.Stored.check_change.Goals.{then-changes-max_changes-via-then-changes-max_changes, then-changes-max_changes-via-else-changes-max_changes+then-not-fits}
+use Rattle.lsp_store.proofs.store.stored.Stored.check_change.Goals as goal
 
 pub returns-then-changes-max_changes-clause-error : goal.returns-then-changes-max_changes-clause-error
 returns-then-changes-max_changes-clause-error c units uri =

@@ -1,12 +1,6 @@
-use Rattle.std.proofs.Common.{◌≡◌, ◌∙◌, Err, ap, inr, rules, w32, to_z, of_z}
-use Rattle.std.proofs.lemmas.Int.{to_z-of_z}
-use Rattle.std.proofs.lemmas.Result.{err_from_is_err_and}
-use Rattle.lsp_text.specs.Units.{units_in}
+use Rattle.lsp_store.proofs.Prelude.{◌≡◌, ◌∙◌, Err, ap, inr, rules, w32, to_z, of_z, to_z-of_z, err_from_is_err_and, units_in, BatchFault, NoMemory, store_fault_of}
 use Rattle.lsp_store.proofs.Tables.RefusalLemmas.{meaning_accepted, meaning_within, memory_told, text_told}
-use Rattle.lsp_edit.specs.declared.indexed.fault.BatchFault.{BatchFault}
 use Rattle.lsp_edit.specs.declared.indexed.fault.BatchFault.TheVariants as faults
-use Rattle.lsp_store.specs.declared.fault.StoreFault.TheVariants.{NoMemory}
-use Rattle.lsp_store.specs.Faults.{store_fault_of}
 use Rattle.lsp_store.proofs.store.stored.Stored.plan.Goals as goal
 
 pub returns-in_err-check_change-clause-error : goal.returns-in_err-check_change-clause-error
@@ -26,10 +20,7 @@ pub returns-in-Err-clause-error : goal.returns-in-Err-clause-error
 returns-in-Err-clause-error c = λ uri.
     let version : to_z w32 (of_z w32 c.args.version) ≡ c.args.version = to_z-of_z w32 c.args.version (search rules) in
     let may = rw version at (c.in_ok-check_change.ensures.may uri (units_in c.args.encoding)) in
-    rw (
-      c.from.ensures,
-      may,
-    ) (text_told c.args.limits.now c.args.self.now.text _ _
+    rw (c.from.ensures, may) (text_told c.args.limits.now c.args.self.now.text _ _
     (rw c.max_text-max_len.ensures.value at c.in-Err.ensures.error))
 
 pub returns-in-Err-clause-memory : goal.returns-in-Err-clause-memory
