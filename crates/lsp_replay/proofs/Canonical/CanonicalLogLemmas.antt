@@ -13,9 +13,8 @@ none_unless_answered server (Some p) verdict (inr e) = rw e refl
 
 pub heard_as : (s : Session) (announced : Option (Option Encoding))
     → ((judge_server s announced).verdict ≡ recorded) ⊎ ((judge_server s announced).verdict ≡ bad)
-heard_as s None = inl refl
 heard_as s (Some None) = inr refl
-heard_as s (Some (Some encoding)) = inl refl
+heard_as s _ = inl refl
 
 -- A server's record has no canonical message.
 pub heard_has_none : (server : ServerData) (change : Option ChangeData) (s : Session)
@@ -37,16 +36,13 @@ step_changed : (phase : Phase) (s : ServerData) (p : ChangeData)
 step_changed Running s p e =
     obeyed_changed s (command_refusal s.config.limits s.table (change_command s p))
     (table_after s.table (change_command s p)) e
-step_changed New s p e = cc
-step_changed Down s p e = cc
-step_changed Ended s p e = cc
+step_changed _ s p e = cc
 
 unless_bad_is : (a b : Bool) (s : Session) (j : Judged) (answer : AnswerData Sent)
     → (if a then judged bad s else if b then judged bad s else j).verdict ≡ answered answer → j.verdict
     ≡ answered answer
-unless_bad_is true b s j answer e = cc
-unless_bad_is false true s j answer e = cc
 unless_bad_is false false s j answer e = e
+unless_bad_is _ _ s j answer e = cc
 
 same_answer : (a b : AnswerData Sent) → answered a ≡ answered b → a ≡ b
 same_answer a b e = cc

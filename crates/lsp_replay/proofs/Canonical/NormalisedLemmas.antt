@@ -25,9 +25,8 @@ abbrev pub Passes : Verdict → Type 0
 Passes verdict = (r : Record) (g : RecordOutput) → unless_bad r verdict g ≡ g
 
 pub passes : (verdict : Verdict) (r : Record) (g : RecordOutput) → (unless_bad r verdict g).end ≡ None → Passes verdict
-passes (answered answer) r g e = λ q h. refl
-passes recorded r g e = λ q h. refl
 passes bad r g e = absurd (let bad_one : Some (Err (BadLog r.head.place)) ≡ None = e in cc)
+passes _ r g e = λ q h. refl
 
 -- ---- one record
 
@@ -200,9 +199,8 @@ module _ (limits : LimitsData) (ranges : AreInRange limits) where
 due_same : (limits : LimitsData) (ranges : AreInRange limits) (at : ℕ) (version : Version) (s : Session)
     (rs : List Record) → is_line_due version (normal_from limits ranges at version s rs) ≡ is_line_due version rs
 due_same limits ranges at One s [] = refl
-due_same limits ranges at One s (r ∷ rs) = refl
-due_same limits ranges at Two s [] = refl
 due_same limits ranges at Two s (r ∷ rs) = refl
+due_same limits ranges at _ s _ = refl
 
 all_is : (limits : LimitsData) (ranges : AreInRange limits) (version : Version) (rs : List Record) (bytes : List ℕ)
     → ((rs ≡ []) → bytes ≡ [])

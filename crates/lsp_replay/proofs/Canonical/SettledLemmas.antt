@@ -40,10 +40,8 @@ same_change : (server : ServerData) (p again : ChangeData) (phase : Phase)
     ≡ after_change (units_in (session_encoding server)) server.table p.uri p.version
     (map content_change_from_data p.changes)
     → step_in phase server (did_change (Some again)) ≡ step_in phase server (did_change (Some p))
-same_change server p again New may also same = refl
-same_change server p again Down may also same = refl
-same_change server p again Ended may also same = refl
 same_change server p again Running may also same = grind (arith, common_steps)
+same_change server p again _ may also same = refl
 
 module _ (server : ServerData) (p : ChangeData) (ranges : AreInRange server.config.limits)
     (received : IsHeldState server.config.limits server) (proper : IsProperAsked p)

@@ -13,15 +13,13 @@ abbrev pub twin : Session → ℕ → Session
 twin s n = record s { records = n }
 
 abbrev pub IsGood : Verdict → Type 0
-IsGood (answered answer) = ⊤
-IsGood recorded = ⊤
 IsGood bad = ⊥
+IsGood _ = ⊤
 
 good_tests : (a b : Bool) (s : Session) (j : Judged)
     → IsGood (if a then judged bad s else if b then judged bad s else j).verdict → (a ≡ false) × (b ≡ false)
-good_tests true b s j good = absurd good
-good_tests false true s j good = absurd good
 good_tests false false s j good = (refl, refl)
+good_tests _ _ s j good = absurd good
 
 handled_on : (s : Session) (version : Version) (m : IncomingData) → is_ended s.server.phase ≡ false → is_early s m
     ≡ false
@@ -61,22 +59,12 @@ hears_result u id encoding kind proper =
 abbrev pub Follows : Session → AnswerData OutgoingData → Type 0
 Follows u (reply m) = judge_server u (encoding_for u.expected (reading (body_of m)))
     ≡ judged recorded (record u { expected = None })
-Follows u changed = u.expected ≡ None
-Follows u dropped = u.expected ≡ None
-Follows u ignored = u.expected ≡ None
-Follows u already_ended = u.expected ≡ None
-Follows u (refused why) = u.expected ≡ None
-Follows u (exits status) = u.expected ≡ None
+Follows u _ = u.expected ≡ None
 
 follows_none : (u : Session) (answer : AnswerData OutgoingData) → u.expected ≡ None → Follows u answer
 follows_none u (reply m) none = ap (λ (e : Option IdData). judge_server u (encoding_for e (reading (body_of m)))) none
     ∙ (λ i. judged recorded (record u { expected = none i }))
-follows_none u changed none = none
-follows_none u dropped none = none
-follows_none u ignored none = none
-follows_none u already_ended none = none
-follows_none u (refused why) none = none
-follows_none u (exits status) none = none
+follows_none u _ none = none
 
 abbrev pub waits : Phase → IncomingData → Option IdData
 waits phase m = if is_new phase then expected_of Two m None else None
@@ -115,24 +103,13 @@ begun s n server id offers proper =
 pub follows_step : (s : Session) (n : ℕ) (phase : Phase) (server : ServerData) (m : IncomingData) → IsProperIncoming m
     → FollowsStep s n phase server m
 follows_step s n New server (initialize id (Some offers)) proper = begun s n server id offers proper
-follows_step s n New server (initialize id None) proper = refl
-follows_step s n New server not_json proper = refl
-follows_step s n New server (not_a_message id) proper = refl
-follows_step s n New server (response id) proper = refl
-follows_step s n New server (shutdown id) proper = refl
-follows_step s n New server (other_request id method) proper = refl
-follows_step s n New server exit proper = refl
-follows_step s n New server (did_open params) proper = refl
-follows_step s n New server (did_change params) proper = refl
-follows_step s n New server (did_close params) proper = refl
-follows_step s n New server (other_notification method) proper = refl
 follows_step s n Running server m proper =
     follows_none (rest_after s n (step_in Running server m).state (as_sent (step_in Running server m).answer) None)
     (step_in Running server m).answer refl
 follows_step s n Down server m proper =
     follows_none (rest_after s n (step_in Down server m).state (as_sent (step_in Down server m).answer) None)
     (step_in Down server m).answer refl
-follows_step s n Ended server m proper = refl
+follows_step s n _ server _ proper = refl
 
 -- ---- a client's record is judged alike in both logs
 

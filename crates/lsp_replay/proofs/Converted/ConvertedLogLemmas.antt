@@ -55,9 +55,8 @@ five a b c d e = append_assoc ((a ++ b) ++ c) d e ∙ ap (λ z. z ++ (d ++ e)) (
     ∙ append_assoc a (b ++ c) (d ++ e)
 
 good_gives : (r : Record) (verdict : Verdict) (g : RecordOutput) → (unless_bad r verdict g).end ≡ None → IsGood verdict
-good_gives r (answered answer) g e = tt
-good_gives r recorded g e = tt
 good_gives r bad g e = let wrong : Some (Err (BadLog r.head.place)) ≡ None = e in absurd (cc)
+good_gives r _ g e = tt
 
 judged_client : (s : Session) (r : Record) → r.head.version ≡ One → r.head.side ≡ Client → judge s r
     ≡ counted (judge_client s One (incoming_of (reading r.body)))

@@ -51,17 +51,9 @@ changed_version params =
     (document_and_changes params) (any (document_and_changes params))
 
 abbrev HasVersion : IncomingData → Type 0
-HasVersion not_json = ⊤
-HasVersion (not_a_message id) = ⊤
-HasVersion (response id) = ⊤
-HasVersion (initialize id offers) = ⊤
-HasVersion (shutdown id) = ⊤
-HasVersion (other_request id method) = ⊤
-HasVersion exit = ⊤
 HasVersion (did_open params) = OnSome IsOpenVersion params
 HasVersion (did_change params) = OnSome IsChangeVersion params
-HasVersion (did_close params) = ⊤
-HasVersion (other_notification method) = ⊤
+HasVersion _ = ⊤
 
 either_version : (b : Bool) (x y : IncomingData) → HasVersion x → HasVersion y → HasVersion (if b then x else y)
 either_version true x y p q = p
@@ -73,9 +65,8 @@ message_version (msg.notification method params) = grind (arith, common_steps, e
 message_version (msg.response id outcome) = tt
 
 reading_version : (r : Reading) → HasVersion (incoming_of r)
-reading_version msg.not_json = tt
-reading_version (msg.not_a_message id) = tt
 reading_version (msg.message m) = message_version m
+reading_version _ = tt
 
 -- ---- the versions of a table
 
@@ -112,52 +103,20 @@ obeyed_versions s (Some refusal) next kept is = kept
 
 step_versions : (phase : Phase) (s : ServerData) (m : IncomingData) → HasVersion m → AreVersions s.table
     → AreVersions (step_in phase s m).state.table
-step_versions Ended s m has kept = kept
-step_versions New s not_json has kept = kept
-step_versions New s (not_a_message id) has kept = kept
-step_versions New s (response id) has kept = kept
-step_versions New s exit has kept = kept
 step_versions New s (initialize id None) has kept = kept
-step_versions New s (initialize id (Some offers)) has kept = kept
-step_versions New s (shutdown id) has kept = kept
-step_versions New s (other_request id method) has kept = kept
-step_versions New s (did_open params) has kept = kept
-step_versions New s (did_change params) has kept = kept
-step_versions New s (did_close params) has kept = kept
-step_versions New s (other_notification method) has kept = kept
-step_versions Running s not_json has kept = kept
-step_versions Running s (not_a_message id) has kept = kept
-step_versions Running s (response id) has kept = kept
-step_versions Running s exit has kept = kept
-step_versions Running s (initialize id offers) has kept = kept
-step_versions Running s (shutdown id) has kept = kept
-step_versions Running s (other_request id method) has kept = kept
-step_versions Running s (did_open None) has kept = kept
 step_versions Running s (did_open (Some p)) has kept =
     obeyed_versions s (open_refusal s.config.limits s.table p) (after_open s.table p) kept
     (versions_open s.table p kept has)
-step_versions Running s (did_change None) has kept = kept
 step_versions Running s (did_change (Some p)) has kept =
     let units = units_in (session_encoding s) in
     let batch = map content_change_from_data p.changes in
     obeyed_versions s (change_refusal s.config.limits units s.table p.uri p.version batch)
     (after_change units s.table p.uri p.version batch) kept
     (versions_change units s.table p.uri p.version batch kept has)
-step_versions Running s (did_close None) has kept = kept
 step_versions Running s (did_close (Some p)) has kept =
     obeyed_versions s (close_refusal s.table p.uri) (after_close s.table p.uri) kept (versions_close s.table p.uri kept)
-step_versions Running s (other_notification method) has kept = kept
 step_versions Down s not_json has kept = kept
-step_versions Down s (not_a_message id) has kept = kept
-step_versions Down s (response id) has kept = kept
-step_versions Down s exit has kept = kept
-step_versions Down s (initialize id offers) has kept = kept
-step_versions Down s (shutdown id) has kept = kept
-step_versions Down s (other_request id method) has kept = kept
-step_versions Down s (did_open params) has kept = kept
-step_versions Down s (did_change params) has kept = kept
-step_versions Down s (did_close params) has kept = kept
-step_versions Down s (other_notification method) has kept = kept
+step_versions _ s _ has kept = kept
 
 -- ---- the documents that are known
 
@@ -174,17 +133,15 @@ numbered_without uri (mention ∷ mentions) are =
     grind (arith, common_steps, bytes_eq, cases_Bool, (numbered_without uri mentions are.1))
 
 numbered_take : (n : ℕ) (mentions : List Mention) → AreNumbered mentions → AreNumbered (take n mentions)
-numbered_take zero mentions are = tt
-numbered_take (suc n) [] are = tt
 numbered_take (suc n) (mention ∷ mentions) are = (are.0, numbered_take n mentions are.1)
+numbered_take _ _ are = tt
 
 numbered_more : (counts : Bool) (uri : Option (List ℕ)) (count : ℕ) (mentions : List Mention) → IsCount count
     → AreNumbered mentions → AreNumbered (mentioned counts uri count mentions)
 numbered_more true (Some uri) count mentions is are =
     numbered_take most_mentions (record { uri = uri; number = count } ∷ without uri mentions)
     (is, numbered_without uri mentions are)
-numbered_more true None count mentions is are = are
-numbered_more false uri count mentions is are = are
+numbered_more _ _ count mentions is are = are
 
 last_count : (uri : List ℕ) (mentions : List Mention) → AreNumbered mentions → OnSome IsCount (last_record uri mentions)
 last_count uri [] are = tt
@@ -199,14 +156,7 @@ found_count (Some uri) mentions are = last_count uri mentions are
 mention_fits : (mentions : List Mention) (uri : Option (List ℕ)) (verdict : Verdict) → AreNumbered mentions
     → OnSome IsCount (last_for mentions uri verdict)
 mention_fits mentions uri (answered (refused refusal)) are = found_count uri mentions are
-mention_fits mentions uri (answered (AnswerData.reply m)) are = tt
-mention_fits mentions uri (answered changed) are = tt
-mention_fits mentions uri (answered AnswerData.dropped) are = tt
-mention_fits mentions uri (answered AnswerData.ignored) are = tt
-mention_fits mentions uri (answered (AnswerData.exits status)) are = tt
-mention_fits mentions uri (answered AnswerData.already_ended) are = tt
-mention_fits mentions uri recorded are = tt
-mention_fits mentions uri bad are = tt
+mention_fits mentions uri _ are = tt
 
 either_fits : (b : Bool) (x y : Option ℕ) → OnSome IsCount x → OnSome IsCount y → OnSome IsCount (if b then x else y)
 either_fits true x y h k = h
@@ -368,18 +318,13 @@ row_id : (method id : Option Data) (value : Data) → OnSome IsHeld method → O
 row_id (Some (string s)) None value text is params = (text, params)
 row_id (Some (string s)) (Some id) value text is params =
     on_then IsProperId MessageId _ (λ i p. (p, text)) (id_in id) (id_held id is)
-row_id None None value text is params = tt
 row_id None (Some null) value text is params = response_id None (msg.outcome_in value) tt
 row_id None (Some (boolean b)) value text is params = named_id (boolean b) (msg.outcome_in value) is
 row_id None (Some (number n)) value text is params = named_id (number n) (msg.outcome_in value) is
 row_id None (Some (string s)) value text is params = named_id (string s) (msg.outcome_in value) is
 row_id None (Some (array ds)) value text is params = named_id (array ds) (msg.outcome_in value) is
 row_id None (Some (object ms)) value text is params = named_id (object ms) (msg.outcome_in value) is
-row_id (Some null) id value text is params = tt
-row_id (Some (boolean b)) id value text is params = tt
-row_id (Some (number n)) id value text is params = tt
-row_id (Some (array ds)) id value text is params = tt
-row_id (Some (object ms)) id value text is params = tt
+row_id _ _ value text is params = tt
 
 version_id : (two : Bool) (found : Option MessageData) → OnSome MessageId found
     → OnSome MessageId (if two then found else None)
@@ -456,14 +401,7 @@ is_change_body : (server : ServerData) (p : ChangeData) (verdict : Verdict) (bod
     → canonical_if server (Some p) verdict ≡ Some body → canonical_change_body server p ≡ body
 is_change_body server p (answered changed) body e =
     let some : Some (canonical_change_body server p) ≡ Some body = e in cc
-is_change_body server p (answered (AnswerData.reply m)) body e = absurd (let no : None ≡ Some body = e in cc)
-is_change_body server p (answered AnswerData.dropped) body e = absurd (let no : None ≡ Some body = e in cc)
-is_change_body server p (answered AnswerData.ignored) body e = absurd (let no : None ≡ Some body = e in cc)
-is_change_body server p (answered (refused why)) body e = absurd (let no : None ≡ Some body = e in cc)
-is_change_body server p (answered (AnswerData.exits status)) body e = absurd (let no : None ≡ Some body = e in cc)
-is_change_body server p (answered AnswerData.already_ended) body e = absurd (let no : None ≡ Some body = e in cc)
-is_change_body server p recorded body e = absurd (let no : None ≡ Some body = e in cc)
-is_change_body server p bad body e = absurd (let no : None ≡ Some body = e in cc)
+is_change_body server p _ body e = absurd (let no : None ≡ Some body = e in cc)
 
 visible_change : (uri : List ℕ) (version : ℤ) (batch : List ContentChange)
     → are_visible (change_body uri version batch) ≡ true

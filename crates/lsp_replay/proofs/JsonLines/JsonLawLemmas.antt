@@ -7,9 +7,8 @@ by_verdict : (verdict : Verdict) (r : Record) (line : List ℕ) (value : Json) (
     → IsJsonLine line value → AreJsonLines c.out values
     → AreJsonLines (followed_by (unless_bad r verdict (writes line)).out (unless_bad r verdict (writes line)).end c).out
     (unless_bad_value verdict value values)
-by_verdict (answered answer) r line value c values is more = (line, c.out, refl, is, more)
-by_verdict recorded r line value c values is more = (line, c.out, refl, is, more)
 by_verdict bad r line value c values is more = refl
+by_verdict _ r line value c values is more = (line, c.out, refl, is, more)
 
 module _ (limits : LimitsData) (ranges : AreInRange limits) (details : Details) where
   lines_json : (known : Known) (s : Session) (rs : List Record) → All (λ (r : Record). r.head.place < 2 ^ 64) rs

@@ -44,9 +44,8 @@ version_if (Some entry) is = an_integer entry.version (wider entry.version is)
 text_if : (is_asked : Bool) (entry : Option DocumentItem) → OnSome (λ (e : DocumentItem). IsUtf8 e.text) entry
     → IsValueIf (text_json is_asked entry) (text_value is_asked entry)
 unfolding json_string
-text_if false entry is = tt
-text_if true None is = tt
 text_if true (Some entry) is = a_string entry.text is
+text_if _ _ is = tt
 
 reason_by : (b : Bool) (limits : LimitsData) (m : IncomingData) (renamed : Bool) (answer : AnswerData Sent)
     → IsValueIf (if b then Some (codes "\"" ++ reason_words limits (change_in m) answer ++ renamed_words renamed
@@ -60,8 +59,7 @@ reason_by true limits m renamed answer =
 reason_if : (limits : LimitsData) (m : IncomingData) (renamed : Bool) (verdict : Verdict)
     → IsValueIf (reason_json limits m renamed verdict) (reason_value limits m renamed verdict)
 reason_if limits m renamed (answered answer) = reason_by (is_refused answer) limits m renamed answer
-reason_if limits m renamed recorded = tt
-reason_if limits m renamed bad = tt
+reason_if limits m renamed _ = tt
 
 -- ---- notes
 

@@ -98,12 +98,8 @@ either_visible false x y h k = k refl
 letter_high : (a b c d e f : Bool) (x : ℕ) → (a ≡ true → 32 ≤ x)
     → (l : ℕ) → l ≡ cond a x (cond b 98 (cond c 102 (cond d 110 (cond e 114 (cond f 116 0))))) → 0 < l → 32 ≤ l
 letter_high true b c d e f x h l is some = let high = h refl in omega (arith, is)
-letter_high false true c d e f x h l is some = omega (arith, is)
-letter_high false false true d e f x h l is some = omega (arith, is)
-letter_high false false false true e f x h l is some = omega (arith, is)
-letter_high false false false false true f x h l is some = omega (arith, is)
-letter_high false false false false false true x h l is some = omega (arith, is)
 letter_high false false false false false false x h l is some = absurd (let never : ⊥ = omega (arith, is) in never)
+letter_high false _ _ _ _ _ x h l is some = omega (arith, is)
 
 special_high : (x : ℕ) → ((x == 34) || (x == 92)) ≡ true → 32 ≤ x
 special_high x e = grind (arith, common_steps, or_cases, inl, eqb-true, inr)
@@ -137,13 +133,12 @@ visible_comma false = refl
 
 mutual
   pub visible_compact : (d : Data) → are_visible (compact_text d) ≡ true
-  visible_compact null = refl
   visible_compact (boolean true) = refl
-  visible_compact (boolean false) = refl
   visible_compact (number n) = visible_number n
   visible_compact (string s) = visible_quoted s
   visible_compact (array ds) = visible_items false ds
   visible_compact (object ms) = visible_members false ms
+  visible_compact _ = refl
 
   visible_items : (later : Bool) (ds : Items) → are_visible (items_text later ds) ≡ true
   visible_items later no_items = refl

@@ -8,16 +8,9 @@ use Rattle.json.proofs.Printed.Numbers.{lex-number, in_word-ended}
 
 -- the lexemes of a token
 abbrev pub token_lexemes : Token → List Lexeme
-token_lexemes begin_object = token begin_object ∷ []
-token_lexemes end_object = token end_object ∷ []
-token_lexemes begin_array = token begin_array ∷ []
-token_lexemes end_array = token end_array ∷ []
 token_lexemes (key s) = token (string s) ∷ colon ∷ []
-token_lexemes (string s) = token (string s) ∷ []
-token_lexemes (number s) = token (number s) ∷ []
-token_lexemes (boolean b) = token (boolean b) ∷ []
-token_lexemes null = token null ∷ []
 token_lexemes bad = []
+token_lexemes it = token it ∷ []
 
 -- the lexemes of tokens that are printed, with or without a value before them
 abbrev pub lexemes : Bool → List Token → List Lexeme
@@ -35,15 +28,7 @@ ends_before : (ts : List Token) (r : List ℕ) → (ended true ts ≡ true → e
 unfolding print_from
 ends_before [] r h = h refl
 ends_before (begin_object ∷ ts) r h = refl
-ends_before (end_object ∷ ts) r h = refl
-ends_before (begin_array ∷ ts) r h = refl
-ends_before (end_array ∷ ts) r h = refl
-ends_before (key s ∷ ts) r h = refl
-ends_before (string s ∷ ts) r h = refl
-ends_before (number s ∷ ts) r h = refl
-ends_before (boolean b ∷ ts) r h = refl
-ends_before (null ∷ ts) r h = refl
-ends_before (bad ∷ ts) r h = refl
+ends_before _ r h = refl
 
 pub lex-quoted : (s r : List ℕ) → lex between (quoted s ++ r) ≡ token (string s) ∷ lex between r
 unfolding lex
@@ -63,10 +48,8 @@ lex-token_text (string s) r h end = lex-quoted s r
 lex-token_text (number s) r h end = lex-number s r h (end refl)
 lex-token_text (boolean true) r h end =
     ap₂ (λ b l. token (cond b (boolean true) bad) ∷ l) (end refl) (in_word-ended r (end refl))
-lex-token_text (boolean false) r h end =
-    ap₂ (λ b l. token (cond b (boolean false) bad) ∷ l) (end refl) (in_word-ended r (end refl))
-lex-token_text null r h end = ap₂ (λ b l. token (cond b null bad) ∷ l) (end refl) (in_word-ended r (end refl))
 lex-token_text bad r h end = absurd h
+lex-token_text t r h end = ap₂ (λ b l. token (cond b t bad) ∷ l) (end refl) (in_word-ended r (end refl))
 
 lex-comma : (b : Bool) (r : List ℕ) → lex between (cond b (44 ∷ []) [] ++ r) ≡ cond b (comma ∷ []) [] ++ lex between r
 unfolding lex
@@ -103,15 +86,7 @@ place after = cond after after_value fresh
 no_colon : (ts : List Token) (ls : List Lexeme) → begins_colon ls ≡ false → begins_colon (lexemes true ts ++ ls) ≡ false
 no_colon [] ls h = h
 no_colon (begin_object ∷ ts) ls h = refl
-no_colon (end_object ∷ ts) ls h = refl
-no_colon (begin_array ∷ ts) ls h = refl
-no_colon (end_array ∷ ts) ls h = refl
-no_colon (key s ∷ ts) ls h = refl
-no_colon (string s ∷ ts) ls h = refl
-no_colon (number s ∷ ts) ls h = refl
-no_colon (boolean b ∷ ts) ls h = refl
-no_colon (null ∷ ts) ls h = refl
-no_colon (bad ∷ ts) ls h = refl
+no_colon _ ls h = refl
 
 -- the tokens of the lexemes of tokens, before other lexemes
 pub punctuate-printed : (after : Bool) (ts : List Token) (ls : List Lexeme) → ArePrintable ts → begins_colon ls ≡ false

@@ -17,40 +17,22 @@ plain_side Client = refl
 plain_side Server = refl
 
 plain_fault : (fault : StoreFault) → IsPlain (fault_code fault)
-plain_fault AlreadyOpen = refl
-plain_fault TooManyDocuments = refl
-plain_fault TextTooLong = refl
-plain_fault NotOpen = refl
-plain_fault (StaleVersion current) = refl
-plain_fault TooManyChanges = refl
 plain_fault (Edit (InsideCharacter change side)) = refl
-plain_fault (Edit (ReversedRange change)) = refl
-plain_fault (Edit NoMemoryToEdit) = refl
-plain_fault (BodyTooLong len) = refl
-plain_fault NoMemory = refl
+plain_fault _ = refl
 
 plain_refusal : (refusal : Refusal) → IsPlain (server_refusal_code refusal)
 plain_refusal BadParams = refl
 plain_refusal (Store fault) = plain_fault fault
 
 plain_code : (code : Option ErrorCode) → IsPlain (code_word code)
-plain_code None = refl
 plain_code (Some ParseError) = refl
-plain_code (Some InvalidRequest) = refl
-plain_code (Some MethodNotFound) = refl
-plain_code (Some InvalidParams) = refl
-plain_code (Some ServerNotInitialized) = refl
+plain_code _ = refl
 
 pub plain_verdict : (verdict : Verdict) → IsPlain (verdict_word verdict)
 plain_verdict (answered (reply m)) = plain_code m.code
-plain_verdict (answered changed) = refl
-plain_verdict (answered dropped) = refl
-plain_verdict (answered ignored) = refl
 plain_verdict (answered (refused refusal)) = plain_refusal refusal
 plain_verdict (answered (exits status)) = plain_decimal status
-plain_verdict (answered already_ended) = refl
-plain_verdict recorded = refl
-plain_verdict bad = refl
+plain_verdict _ = refl
 
 -- ---- the words of a reason
 
@@ -86,35 +68,23 @@ plain_idle : (p : Option ChangeData) → IsPlain (idle_words p)
 plain_idle p = either_plain (is_idle p) (codes ", and it has no changes") [] refl refl
 
 plain_store : (limits : LimitsData) (p : Option ChangeData) (fault : StoreFault) → IsPlain (store_reason limits p fault)
-plain_store limits p AlreadyOpen = refl
 plain_store limits p TooManyDocuments = plain_decimal limits.max_docs
 plain_store limits p TextTooLong = plain_decimal limits.max_text
-plain_store limits p NotOpen = refl
 plain_store limits p (StaleVersion current) =
     simp (list_all-append is_ascii_plain, plain_version p, plain_signed current, plain_idle p)
 plain_store limits p TooManyChanges = simp (list_all-append is_ascii_plain, plain_decimal limits.max_changes)
 plain_store limits p (Edit fault) = plain_edit p fault
-plain_store limits p (BodyTooLong len) = refl
-plain_store limits p NoMemory = refl
+plain_store limits p _ = refl
 
 plain_error : (code : Option ErrorCode) → IsPlain (error_reason code)
-plain_error None = refl
 plain_error (Some ParseError) = refl
-plain_error (Some InvalidRequest) = refl
-plain_error (Some MethodNotFound) = refl
-plain_error (Some InvalidParams) = refl
-plain_error (Some ServerNotInitialized) = refl
+plain_error _ = refl
 
 plain_reason : (limits : LimitsData) (p : Option ChangeData) (answer : AnswerData Sent)
     → IsPlain (reason_words limits p answer)
 plain_reason limits p (reply m) = plain_error m.code
-plain_reason limits p changed = refl
-plain_reason limits p dropped = refl
-plain_reason limits p ignored = refl
-plain_reason limits p (refused BadParams) = refl
 plain_reason limits p (refused (Store fault)) = plain_store limits p fault
-plain_reason limits p (exits status) = refl
-plain_reason limits p already_ended = refl
+plain_reason limits p _ = refl
 
 pub plain_reason_with : (limits : LimitsData) (p : Option ChangeData) (answer : AnswerData Sent) (renamed : Bool)
     → IsPlain (reason_words limits p answer ++ renamed_words renamed)
@@ -135,10 +105,7 @@ plain_past : (sent taken : Position) → IsPlain (past_words sent taken)
 plain_past sent taken = either_plain (sent.line == taken.line) _ _ refl refl
 
 pub plain_note : (note : Note) → IsPlain (note_words note)
-plain_note OpenAlready = refl
-plain_note LoneReturn = refl
 plain_note (OldVersion sent current) = simp (list_all-append is_ascii_plain, plain_signed)
-plain_note NoChanges = refl
 plain_note (WholeText index) =
     plain-append (change_words index) (codes " is the whole text, and the server asked for ranges")
     (plain_change index) refl
@@ -155,3 +122,4 @@ plain_note (PastEnd index side sent taken) =
 plain_note (WrongLength index sent replaced characters) = simp (list_all-append is_ascii_plain, plain_decimal)
 plain_note (SameText index) = plain-append (change_words index) (codes " changes nothing") (plain_change index) refl
 plain_note (OtherSaved line) = simp (list_all-append is_ascii_plain, plain_decimal)
+plain_note _ = refl

@@ -15,10 +15,8 @@ are_visible (x ∷ xs) = nat_le 32 x && are_visible xs
 
 -- the mode of the lexer where a string is read so far
 abbrev pub mode_in : Within → Mode
-mode_in plain = in_string
 mode_in after_backslash = in_escape
-mode_in after_u = in_string
-mode_in (after_high high) = in_string
+mode_in _ = in_string
 
 pub record Closed (drops : ℕ → Bool) (c : Within) (xs s : List ℕ) : Type 0 where
   pub inside : List ℕ
@@ -48,16 +46,12 @@ if_some false o s h = absurd (let no : None ≡ Some s = h in cc)
 
 in_any : (c : Class) (x : ℕ) (xs : List ℕ) (k : Mode → List Lexeme) → lex_byte in_escape c x xs k ≡ k in_string
 in_any quote x xs k = refl
-in_any backslash x xs k = refl
-in_any operator x xs k = refl
-in_any space x xs k = refl
-in_any other x xs k = refl
+in_any _ x xs k = refl
 
 stays_inside : (o s : Bool) (x : ℕ) (r : List ℕ) (k : Mode → List Lexeme)
     → lex_byte in_string (cond o operator (cond s space other)) x r k ≡ k in_string
-stays_inside true s x r k = refl
 stays_inside false true x r k = refl
-stays_inside false false x r k = refl
+stays_inside _ _ x r k = refl
 
 lex-inside : (x : ℕ) (r : List ℕ) → (x ≡ 34 → ⊥) → (x ≡ 92 → ⊥) → lex in_string (x ∷ r) ≡ lex in_string r
 unfolding lex
@@ -86,10 +80,7 @@ hex x h = grind (arith, common_steps, cases_lt, inl, lt-ltb, inr)
 all_four : (p q r t : Bool) (v u : ℕ) → cond (p && q && r && t) (Some v) None ≡ Some u
     → (p ≡ true) × (q ≡ true) × (r ≡ true) × (t ≡ true)
 all_four true true true true v u h = (refl, refl, refl, refl)
-all_four true true true false v u h = absurd (let no : None ≡ Some u = h in cc)
-all_four true true false t v u h = absurd (let no : None ≡ Some u = h in cc)
-all_four true false r t v u h = absurd (let no : None ≡ Some u = h in cc)
-all_four false q r t v u h = absurd (let no : None ≡ Some u = h in cc)
+all_four _ _ _ _ v u h = absurd (let no : None ≡ Some u = h in cc)
 
 pub record AreHex (a b c d : ℕ) : Type 0 where
   pub first : IsHex a
@@ -317,19 +308,8 @@ module _ (drops : ℕ → Bool) (kept : (x : ℕ) → 32 ≤ x → drops x ≡ f
 
   pub closed : (c : Within) (xs : List ℕ) → Closes c xs
   unfolding content
-  closed plain [] s h = absurd (let no : None ≡ Some s = h in cc)
   closed plain (x ∷ xs) s h = plain_byte x xs (closed plain xs) (closed after_backslash xs) s h
-  closed after_backslash [] s h = absurd (let no : None ≡ Some s = h in cc)
   closed after_backslash (x ∷ xs) s h = escaped_byte x xs (closed after_u xs) (closed plain xs) s h
-  closed after_u [] s h = absurd (let no : None ≡ Some s = h in cc)
-  closed after_u (a ∷ []) s h = absurd (let no : None ≡ Some s = h in cc)
-  closed after_u (a ∷ b ∷ []) s h = absurd (let no : None ≡ Some s = h in cc)
-  closed after_u (a ∷ b ∷ c ∷ []) s h = absurd (let no : None ≡ Some s = h in cc)
   closed after_u (a ∷ b ∷ c ∷ d ∷ xs) s h = unit a b c d xs (λ high. closed (after_high high) xs) (closed plain xs) s h
-  closed (after_high v) [] s h = absurd (let no : None ≡ Some s = h in cc)
-  closed (after_high v) (x ∷ []) s h = absurd (let no : None ≡ Some s = h in cc)
-  closed (after_high v) (x ∷ u ∷ []) s h = absurd (let no : None ≡ Some s = h in cc)
-  closed (after_high v) (x ∷ u ∷ a ∷ []) s h = absurd (let no : None ≡ Some s = h in cc)
-  closed (after_high v) (x ∷ u ∷ a ∷ b ∷ []) s h = absurd (let no : None ≡ Some s = h in cc)
-  closed (after_high v) (x ∷ u ∷ a ∷ b ∷ c ∷ []) s h = absurd (let no : None ≡ Some s = h in cc)
   closed (after_high v) (x ∷ u ∷ a ∷ b ∷ c ∷ d ∷ xs) s h = pair v x u a b c d xs (closed plain xs) s h
+  closed _ _ s h = absurd (let no : None ≡ Some s = h in cc)

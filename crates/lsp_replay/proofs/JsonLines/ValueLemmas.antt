@@ -23,12 +23,9 @@ ended-append b (t ∷ ts) us = ended-append (ends t) ts us
 
 mutual
   ended-json : (b : Bool) (j : Json) → ended b (json_tokens j) ≡ true
-  ended-json b json.null = refl
-  ended-json b (json.boolean v) = refl
-  ended-json b (json.number s) = refl
-  ended-json b (json.string s) = refl
   ended-json b (json.array js) = ended-items false js
   ended-json b (json.object ms) = ended-members false ms
+  ended-json b _ = refl
 
   ended-items : (b : Bool) (js : Items) → ended b (items_tokens js) ≡ true
   ended-items b json.no_items = refl
@@ -302,9 +299,8 @@ front_visible c front name l is =
 -- bytes that are a value, if there is one
 abbrev pub IsValueIf : Option (List ℕ) → Option Json → Type 0
 IsValueIf None None = ⊤
-IsValueIf None (Some j) = ⊥
-IsValueIf (Some bytes) None = ⊥
 IsValueIf (Some bytes) (Some j) = IsValue bytes j
+IsValueIf _ _ = ⊥
 
 front_utf8 : (front bytes rest : List ℕ) {j : Json} → are_ascii front ≡ true → IsValue bytes j → IsUtf8 rest
     → IsUtf8 (front ++ (bytes ++ rest))
@@ -335,11 +331,10 @@ pub a_member_if : (front name rest : List ℕ) (o : Option (List ℕ)) (v : Opti
     → IsFront front name → IsValueIf o v → AreMembers rest ms
     → AreMembers (member front o ++ rest) (member_if name v ms)
 a_member_if front name rest None None ms is value more = more
-a_member_if front name rest None (Some j) ms is value more = absurd value
-a_member_if front name rest (Some bytes) None ms is value more = absurd value
 a_member_if front name rest (Some bytes) (Some j) ms is value more =
     subst (λ l. AreMembers l (json.member name j ms)) (sym (append_assoc front bytes rest))
     (a_member front name bytes rest j ms is value more)
+a_member_if front name rest _ _ ms is value more = absurd value
 
 -- a line that is an object, from its first member on
 pub an_object : (front name bytes rest : List ℕ) (j : Json) (ms : Members)
@@ -365,17 +360,15 @@ an_object front name bytes rest j ms is ascii value more =
 -- the texts of some members are these values
 abbrev pub AreRead : List (List ℕ × Option (List ℕ)) → List (List ℕ × Option Json) → Type 0
 AreRead [] [] = ⊤
-AreRead [] (v ∷ vs) = ⊥
-AreRead (t ∷ ts) [] = ⊥
 AreRead (t ∷ ts) (v ∷ vs) = IsFront t.0 v.0 × IsValueIf t.1 v.1 × AreRead ts vs
+AreRead _ _ = ⊥
 
 pub last_read : (ts : List (List ℕ × Option (List ℕ))) (vs : List (List ℕ × Option Json)) → AreRead ts vs
     → AreMembers (last_members ts) (members_with vs)
 last_read [] [] are = no_more
-last_read [] (v ∷ vs) are = absurd are
-last_read (t ∷ ts) [] are = absurd are
 last_read (t ∷ ts) (v ∷ vs) are =
     a_member_if t.0 v.0 (last_members ts) t.1 v.1 (members_with vs) are.0 are.1 (last_read ts vs are.2)
+last_read _ _ are = absurd are
 
 -- a member whose value is a text between quotation marks
 pub a_quoted : (front name s rest : List ℕ) (ms : Members) → IsFront front name → IsPlain s → AreMembers rest ms

@@ -32,60 +32,40 @@ placed p begin_array b k h = (tt, (fresh, (allowed (may_begin p) begin_array k f
 placed p end_array b k h = (tt, (after_value, (allowed (may_close p) end_array k after_value h).1))
 placed p (key s) b k h = no_bad h
 placed p (string s) true k h = (tt, (after_key, (allowed (may_begin p) (key s) k after_key h).1))
-placed p (string s) false k h = (tt, (after_value, (allowed (may_begin p) (string s) k after_value h).1))
 placed p (number s) b k h =
     let both = allowed (may_begin p) (number s) k after_value h in (both.0, (after_value, both.1))
-placed p (boolean v) b k h = (tt, (after_value, (allowed (may_begin p) (boolean v) k after_value h).1))
-placed p null b k h = (tt, (after_value, (allowed (may_begin p) null k after_value h).1))
 placed p bad b k h = no_bad h
+placed p t _ k h = (tt, (after_value, (allowed (may_begin p) t k after_value h).1))
 
 -- after a word comes what may come after a value
 word_placed : (p : Place) (t : Token) (b : Bool) (k : Place → List Token) → is_word t ≡ true
     → ArePrintable (place_token p t b k) → ArePrintable (k after_value)
-word_placed p begin_object b k w h = absurd (cc)
-word_placed p end_object b k w h = absurd (cc)
-word_placed p begin_array b k w h = absurd (cc)
-word_placed p end_array b k w h = absurd (cc)
-word_placed p (key s) b k w h = absurd (cc)
-word_placed p (string s) b k w h = absurd (cc)
 word_placed p (number s) b k w h = (allowed (may_begin p) (number s) k after_value h).1
 word_placed p (boolean v) b k w h = (allowed (may_begin p) (boolean v) k after_value h).1
 word_placed p null b k w h = (allowed (may_begin p) null k after_value h).1
-word_placed p bad b k w h = absurd (cc)
+word_placed p _ b k w h = absurd (cc)
 
 later : (p : Place) (l : Lexeme) (ls : List Lexeme) → ArePrintable (punctuate p (l ∷ ls)) → Goes (λ q. punctuate q ls)
 unfolding punctuate
 later p (token t) ls h = (placed p t (begins_colon ls) (λ q. punctuate q ls) h).1
-later fresh comma ls h = no_bad h
 later after_value comma ls h = (after_comma, h)
-later after_comma comma ls h = no_bad h
-later after_key comma ls h = no_bad h
-later fresh colon ls h = no_bad h
-later after_value colon ls h = no_bad h
-later after_comma colon ls h = no_bad h
 later after_key colon ls h = (fresh, h)
+later _ _ ls h = no_bad h
 
 -- ---- what may come after a value
 
 -- no value begins after a value
 no_value : (t : Token) (b : Bool) (k : Place → List Token) → is_word t ≡ true
     → ArePrintable (place_token after_value t b k) → ⊥
-no_value begin_object b k w h = absurd (cc)
-no_value end_object b k w h = absurd (cc)
-no_value begin_array b k w h = absurd (cc)
-no_value end_array b k w h = absurd (cc)
-no_value (key s) b k w h = absurd (cc)
-no_value (string s) b k w h = absurd (cc)
 no_value (number s) b k w h = no_bad h
 no_value (boolean v) b k w h = no_bad h
 no_value null b k w h = no_bad h
-no_value bad b k w h = absurd (cc)
+no_value _ b k w h = absurd (cc)
 
 no_string : (o : Option (List ℕ)) (b : Bool) (k : Place → List Token)
     → ArePrintable (place_token after_value (string_token o) b k) → ⊥
-no_string None b k h = no_bad h
 no_string (Some s) true k h = no_bad h
-no_string (Some s) false k h = no_bad h
+no_string _ _ k h = no_bad h
 
 abbrev is_quote : Class → Bool
 is_quote quote = true
@@ -94,10 +74,8 @@ is_quote c = false
 quote_by : (q b o s : Bool) → is_quote (cond q quote (cond b backslash (cond o operator (cond s space other)))) ≡ true
     → q ≡ true
 quote_by true b o s h = refl
-quote_by false true o s h = absurd (cc)
-quote_by false false true s h = absurd (cc)
 quote_by false false false true h = absurd (cc)
-quote_by false false false false h = absurd (cc)
+quote_by false _ _ _ h = absurd (cc)
 
 quote_is : (x : ℕ) → class x ≡ quote → 32 ≤ x
 quote_is x e = grind (arith, common_steps, eqb-true, quote_by)
@@ -113,11 +91,10 @@ module _ (drops : ℕ → Bool) (breaks : (x : ℕ) → drops x ≡ true → (x 
   unfolding punctuate
   ends_by true b o s x xs k h = absurd (no_string (content plain xs) _ _ h)
   ends_by false true o s x xs k h = no_bad h
-  ends_by false false true s x xs k h = refl
-  ends_by false false false true x xs k h = refl
   ends_by false false false false x xs k h =
       let printable = (placed after_value (word (x ∷ xs)) _ _ h).0 in
       absurd (no_value (word (x ∷ xs)) _ _ (word_is drops kept (x ∷ xs) printable).0 h)
+  ends_by false false _ _ x xs k h = refl
 
   pub lex-break : (x : ℕ) (xs : List ℕ) → (x ≡ 10) ⊎ (x ≡ 13) → lex between (x ∷ xs) ≡ lex between xs
   unfolding lex
@@ -149,16 +126,9 @@ module _ (drops : ℕ → Bool) (breaks : (x : ℕ) → drops x ≡ true → (x 
   -- ---- the same lexemes
 
   word_lexemes : (t : Token) → is_word t ≡ true → token_lexemes t ≡ token t ∷ []
-  word_lexemes begin_object h = refl
-  word_lexemes end_object h = refl
-  word_lexemes begin_array h = refl
-  word_lexemes end_array h = refl
   word_lexemes (key s) h = absurd (cc)
-  word_lexemes (string s) h = refl
-  word_lexemes (number s) h = refl
-  word_lexemes (boolean b) h = refl
-  word_lexemes null h = refl
   word_lexemes bad h = absurd (cc)
+  word_lexemes _ h = refl
 
   number_long : (s : List ℕ) → after_number s ≡ Some [] → 0 < length s
   unfolding after_number
@@ -166,17 +136,11 @@ module _ (drops : ℕ → Bool) (breaks : (x : ℕ) → drops x ≡ true → (x 
   number_long (x ∷ s) h = omega arith
 
   word_long : (t : Token) → is_word t ≡ true → IsPrintable t → 0 < length (token_text t)
-  word_long begin_object w h = absurd (cc)
-  word_long end_object w h = absurd (cc)
-  word_long begin_array w h = absurd (cc)
-  word_long end_array w h = absurd (cc)
-  word_long (key s) w h = absurd (cc)
-  word_long (string s) w h = absurd (cc)
   word_long (number s) w h = number_long s h
   word_long (boolean true) w h = omega arith
   word_long (boolean false) w h = omega arith
   word_long null w h = omega arith
-  word_long bad w h = absurd (cc)
+  word_long _ w h = absurd (cc)
 
   lex-class : (c : Class) (x : ℕ) (xs : List ℕ) → class x ≡ c
       → lex between (x ∷ xs) ≡ lex_byte between c x xs (λ m. lex m xs)
@@ -294,10 +258,9 @@ module _ (drops : ℕ → Bool) (breaks : (x : ℕ) → drops x ≡ true → (x 
 
 -- is the place one after a value, or after a comma, which only a value ends?
 abbrev pub after : Place → Bool
-after fresh = false
 after after_value = true
 after after_comma = true
-after after_key = false
+after _ = false
 
 module _ (ms : List Lexeme) (no_colon : begins_colon ms ≡ false) where
   abbrev Then : Bool → List Token → List Token
@@ -306,8 +269,7 @@ module _ (ms : List Lexeme) (no_colon : begins_colon ms ≡ false) where
   colon_same : (ls : List Lexeme) → begins_colon (ls ++ ms) ≡ begins_colon ls
   colon_same [] = no_colon
   colon_same (token t ∷ ls) = refl
-  colon_same (comma ∷ ls) = refl
-  colon_same (colon ∷ ls) = refl
+  colon_same _ = refl
 
   allowed_then : (b : Bool) (t : Token) (k j : Place → List Token) (q : Place) (c : Bool) → ends t ≡ after q
       → ArePrintable (if_allowed b t k q) → (ArePrintable (k q) → j q ≡ Then (after q) (k q))
@@ -329,31 +291,18 @@ module _ (ms : List Lexeme) (no_colon : begins_colon ms ≡ false) where
   placed_then p (key s) b k j c next h = no_bad h
   placed_then p (string s) true k j c next h =
       allowed_then (may_begin p) (key s) k j after_key c refl h (next after_key)
-  placed_then p (string s) false k j c next h =
-      allowed_then (may_begin p) (string s) k j after_value c refl h (next after_value)
-  placed_then p (number s) b k j c next h =
-      allowed_then (may_begin p) (number s) k j after_value c refl h (next after_value)
-  placed_then p (boolean v) b k j c next h =
-      allowed_then (may_begin p) (boolean v) k j after_value c refl h (next after_value)
-  placed_then p null b k j c next h = allowed_then (may_begin p) null k j after_value c refl h (next after_value)
   placed_then p bad b k j c next h = no_bad h
+  placed_then p t _ k j c next h = allowed_then (may_begin p) t k j after_value c refl h (next after_value)
 
   pub punctuate-then : (ls : List Lexeme) (p : Place) → ArePrintable (punctuate p ls)
       → punctuate p (ls ++ ms) ≡ Then (after p) (punctuate p ls)
   unfolding punctuate
   punctuate-then [] fresh h = refl
   punctuate-then [] after_value h = refl
-  punctuate-then [] after_comma h = no_bad h
-  punctuate-then [] after_key h = no_bad h
   punctuate-then (token t ∷ ls) p h =
       ap (λ b. place_token p t b (λ q. punctuate q (ls ++ ms))) (colon_same ls)
       ∙ placed_then p t (begins_colon ls) (λ q. punctuate q ls) (λ q. punctuate q (ls ++ ms)) (after p)
       (λ q k. punctuate-then ls q k) h
-  punctuate-then (comma ∷ ls) fresh h = no_bad h
   punctuate-then (comma ∷ ls) after_value h = punctuate-then ls after_comma h
-  punctuate-then (comma ∷ ls) after_comma h = no_bad h
-  punctuate-then (comma ∷ ls) after_key h = no_bad h
-  punctuate-then (colon ∷ ls) fresh h = no_bad h
-  punctuate-then (colon ∷ ls) after_value h = no_bad h
-  punctuate-then (colon ∷ ls) after_comma h = no_bad h
   punctuate-then (colon ∷ ls) after_key h = punctuate-then ls fresh h
+  punctuate-then _ _ h = no_bad h

@@ -13,16 +13,10 @@ pub record Word (drops : ℕ → Bool) (text : List ℕ) (t : Token) : Type 0 wh
 
 -- is a token a number, `true`, `false` or `null`?
 abbrev pub is_word : Token → Bool
-is_word begin_object = false
-is_word end_object = false
-is_word begin_array = false
-is_word end_array = false
-is_word (key s) = false
-is_word (string s) = false
 is_word (number s) = true
 is_word (boolean b) = true
 is_word null = true
-is_word bad = false
+is_word _ = false
 
 module _ (drops : ℕ → Bool) (kept : (x : ℕ) → 32 ≤ x → drops x ≡ false) where
   -- what is left of a text after its first bytes, none of which is left out

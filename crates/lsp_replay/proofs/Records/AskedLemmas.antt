@@ -68,12 +68,9 @@ id_number (negative z) fits = fits
 id_number (float x) fits = tt
 
 pub id_held : (d : Data) → IsHeld d → OnSome IsProperId (id_in d)
-id_held null received = tt
-id_held (boolean b) received = tt
 id_held (number n) received = id_number n received
 id_held (string s) received = received
-id_held (array ds) received = tt
-id_held (object ms) received = tt
+id_held _ received = tt
 
 -- ---- messages
 
@@ -83,9 +80,8 @@ IsProperMessage (msg.notification method params) = OnSome IsHeld params
 IsProperMessage (msg.response id outcome) = ⊤
 
 abbrev IsProperReading : Reading → Type 0
-IsProperReading msg.not_json = ⊤
-IsProperReading (msg.not_a_message id) = ⊤
 IsProperReading (msg.message m) = IsProperMessage m
+IsProperReading _ = ⊤
 
 found_or : {A : Type 0} (P : A → Type 0) (f : A → Reading) (o : Option A) (d : Reading)
     → ((a : A) → P a → IsProperReading (f a)) → OnSome P o → IsProperReading d → IsProperReading (option_map_or f o d)
@@ -111,18 +107,10 @@ row_proper : (method id : Option Data) (value : Data) → OnSome IsHeld id → O
 row_proper (Some (string s)) None value is received = received
 row_proper (Some (string s)) (Some id) value is received =
     on_then IsProperId IsProperMessage _ (λ i p. (p, received)) (id_in id) (id_held id is)
-row_proper None None value is received = tt
 row_proper None (Some null) value is received = response_proper None (msg.outcome_in value)
-row_proper None (Some (boolean b)) value is received = tt
 row_proper None (Some (number n)) value is received = named_proper (number n) (msg.outcome_in value)
 row_proper None (Some (string s)) value is received = named_proper (string s) (msg.outcome_in value)
-row_proper None (Some (array ds)) value is received = tt
-row_proper None (Some (object ms)) value is received = tt
-row_proper (Some null) id value is received = tt
-row_proper (Some (boolean b)) id value is received = tt
-row_proper (Some (number n)) id value is received = tt
-row_proper (Some (array ds)) id value is received = tt
-row_proper (Some (object ms)) id value is received = tt
+row_proper _ _ value is received = tt
 
 version_proper : (two : Bool) (found : Option MessageData) → OnSome IsProperMessage found
     → OnSome IsProperMessage (if two then found else None)
@@ -228,17 +216,10 @@ changed_held params received =
 -- ---- what is asked
 
 abbrev pub IsProperIncoming : IncomingData → Type 0
-IsProperIncoming not_json = ⊤
-IsProperIncoming (not_a_message id) = ⊤
-IsProperIncoming (response id) = ⊤
 IsProperIncoming (initialize id offers) = IsProperId id
-IsProperIncoming (shutdown id) = ⊤
-IsProperIncoming (other_request id method) = ⊤
-IsProperIncoming exit = ⊤
 IsProperIncoming (did_open params) = OnSome IsTextOpened params
 IsProperIncoming (did_change params) = OnSome IsProperAsked params
-IsProperIncoming (did_close params) = ⊤
-IsProperIncoming (other_notification method) = ⊤
+IsProperIncoming _ = ⊤
 
 either_asked : (b : Bool) (x y : IncomingData) → IsProperIncoming x → IsProperIncoming y
     → IsProperIncoming (if b then x else y)
@@ -257,9 +238,8 @@ asked_message (msg.notification method params) proper =
 asked_message (msg.response id outcome) proper = tt
 
 asked_reading : (r : Reading) → IsProperReading r → IsProperIncoming (incoming_of r)
-asked_reading msg.not_json proper = tt
-asked_reading (msg.not_a_message id) proper = tt
 asked_reading (msg.message m) proper = asked_message m proper
+asked_reading _ proper = tt
 
 -- What a body asks is proper.
 pub asked_proper : (body : List ℕ) → IsProperIncoming (incoming_of (reading body))

@@ -32,10 +32,8 @@ pub received_is : (s : Session) (read : BodyData) (p : ChangeData) → IsReceive
 received_is s read p received = rw (received.running, received.known) received.is
 
 runs : (phase : Phase) → is_running phase ≡ true → phase ≡ Running
-runs New e = absurd (let wrong : false ≡ true = e in cc)
 runs Running e = refl
-runs Down e = absurd (let wrong : false ≡ true = e in cc)
-runs Ended e = absurd (let wrong : false ≡ true = e in cc)
+runs _ e = absurd (let wrong : false ≡ true = e in cc)
 
 unknown : (expected : Option IdData) → is_none expected ≡ true → expected ≡ None
 unknown None e = refl
@@ -43,8 +41,7 @@ unknown (Some id) e = absurd (let wrong : false ≡ true = e in cc)
 
 both_true : (a b : Bool) → (a && b) ≡ true → (a ≡ true) × (b ≡ true)
 both_true true true e = (refl, refl)
-both_true true false e = absurd (let wrong : false ≡ true = e in cc)
-both_true false b e = absurd (let wrong : false ≡ true = e in cc)
+both_true _ _ e = absurd (let wrong : false ≡ true = e in cc)
 
 -- what isn't received
 module _ (s : Session) (read : BodyData) (never : (p : ChangeData) → IsReceived s read p → ⊥) where
@@ -90,12 +87,8 @@ module _ (s : Session) (version : Version) (p : ChangeData) where
   unless_received Running at None waits never = absurd (never at waits)
   unless_received Running at (Some id) waits never =
       early s version p (λ (e : s.expected ≡ None). let wrong : None ≡ Some id = sym e ∙ waits in cc)
-  unless_received New at expected waits never =
-      idle s version p (λ (e : s.server.phase ≡ Running). let wrong : New ≡ Running = sym at ∙ e in cc)
-  unless_received Down at expected waits never =
-      idle s version p (λ (e : s.server.phase ≡ Running). let wrong : Down ≡ Running = sym at ∙ e in cc)
-  unless_received Ended at expected waits never =
-      idle s version p (λ (e : s.server.phase ≡ Running). let wrong : Ended ≡ Running = sym at ∙ e in cc)
+  unless_received it at expected waits never =
+      idle s version p (λ (e : s.server.phase ≡ Running). let wrong : it ≡ Running = sym at ∙ e in cc)
 
 module _ (s : Session) (read : BodyData) (never : (p : ChangeData) → IsReceived s read p → ⊥) where
   pub not_accepted : accepted_if (change_of read) (judge_read s read).verdict ≡ None
@@ -115,15 +108,7 @@ pub accepted_is : (change : Option ChangeData) (verdict : Verdict) (p : ChangeDa
     → accepted_if change verdict ≡ Some p → (change ≡ Some p) × (verdict ≡ answered changed)
 accepted_is (Some q) (answered changed) p e =
     let some : Some q ≡ Some p = e in let same : q ≡ p = cc in (ap Some same, refl)
-accepted_is None verdict p e = absurd (let wrong : None ≡ Some p = e in cc)
-accepted_is (Some q) recorded p e = absurd (let wrong : None ≡ Some p = e in cc)
-accepted_is (Some q) bad p e = absurd (let wrong : None ≡ Some p = e in cc)
-accepted_is (Some q) (answered (reply m)) p e = absurd (let wrong : None ≡ Some p = e in cc)
-accepted_is (Some q) (answered dropped) p e = absurd (let wrong : None ≡ Some p = e in cc)
-accepted_is (Some q) (answered ignored) p e = absurd (let wrong : None ≡ Some p = e in cc)
-accepted_is (Some q) (answered already_ended) p e = absurd (let wrong : None ≡ Some p = e in cc)
-accepted_is (Some q) (answered (refused why)) p e = absurd (let wrong : None ≡ Some p = e in cc)
-accepted_is (Some q) (answered (exits status)) p e = absurd (let wrong : None ≡ Some p = e in cc)
+accepted_is _ _ p e = absurd (let wrong : None ≡ Some p = e in cc)
 
 abbrev pub body_of : ServerData → Option ChangeData → Option (List ℕ)
 body_of server None = None
@@ -131,13 +116,5 @@ body_of server (Some p) = Some (canonical_change_body server p)
 
 pub canonical_is : (server : ServerData) (change : Option ChangeData) (verdict : Verdict)
     → canonical_if server change verdict ≡ body_of server (accepted_if change verdict)
-canonical_is server None verdict = refl
-canonical_is server (Some p) recorded = refl
-canonical_is server (Some p) bad = refl
 canonical_is server (Some p) (answered changed) = refl
-canonical_is server (Some p) (answered (reply m)) = refl
-canonical_is server (Some p) (answered dropped) = refl
-canonical_is server (Some p) (answered ignored) = refl
-canonical_is server (Some p) (answered already_ended) = refl
-canonical_is server (Some p) (answered (refused why)) = refl
-canonical_is server (Some p) (answered (exits status)) = refl
+canonical_is server _ _ = refl

@@ -78,12 +78,10 @@ module _ (s : Session) (version : Version) (p : ChangeData) where
       → (judge_client s version (did_change (Some p))).verdict ≡ answered changed
       → (s.server.phase ≡ Running) × (s.expected ≡ None)
   runs Running is None none e = (is, none)
-  runs Running is (Some id) some e = absurd (let wrong = rw (is, some) at e in cc)
   runs New is None none e = absurd (let wrong = rw (is, none) at e in cc)
-  runs New is (Some id) some e = absurd (let wrong = rw (is, some) at e in cc)
-  runs Down is None none e = absurd (let wrong = rw (is, none) at e in cc)
   runs Down is (Some id) some e = absurd (let wrong = rw (is, some) at e in cc)
   runs Ended is expected waits e = absurd (let wrong = rw is at e in cc)
+  runs _ is _ it e = absurd (let wrong = rw (is, it) at e in cc)
 
 -- what it is that a record is accepted for
 pub was_accepted : (s : Session) (r : Record) (p : ChangeData) → change_in (incoming_of (reading r.body)) ≡ Some p

@@ -144,12 +144,6 @@ module _ (n : ℕ) (shorter : GoodUpTo n) where
   good_high : (high : ℕ) (ys : List ℕ) → is_high_surrogate high ≡ true → length ys < n → IsUtf8 ys
       → GoodText (content (after_high high) ys)
   unfolding content
-  good_high high [] is small text = tt
-  good_high high (s ∷ []) is small text = tt
-  good_high high (s ∷ u ∷ []) is small text = tt
-  good_high high (s ∷ u ∷ a ∷ []) is small text = tt
-  good_high high (s ∷ u ∷ a ∷ b ∷ []) is small text = tt
-  good_high high (s ∷ u ∷ a ∷ b ∷ c ∷ []) is small text = tt
   good_high high (s ∷ u ∷ a ∷ b ∷ c ∷ d ∷ zs) is small text =
       cond_both ((s == 92) && (u == 117)) _ None GoodText
       (λ e.
@@ -165,13 +159,10 @@ module _ (n : ℕ) (shorter : GoodUpTo n) where
       tt
       (λ l fits more. after_low high zs is (omega arith) more (Some l)))
       (λ e. tt)
+  good_high high _ is small text = tt
 
   good_u : (ys : List ℕ) → length ys < n → IsUtf8 ys → GoodText (content after_u ys)
   unfolding content
-  good_u [] small text = tt
-  good_u (a ∷ []) small text = tt
-  good_u (a ∷ b ∷ []) small text = tt
-  good_u (a ∷ b ∷ c ∷ []) small text = tt
   good_u (a ∷ b ∷ c ∷ d ∷ zs) small text =
       behind_hex a b c d zs (code_unit a b c d) (hex_good a b c d) text
       (λ found. GoodText
@@ -179,6 +170,7 @@ module _ (n : ℕ) (shorter : GoodUpTo n) where
       (cond (is_low_surrogate u) None (prepend (encode_utf8 u) (content plain zs)))) found)) tt
       (λ u fits more.
       grind (arith, common_steps, cond_both, good_high, encoded, unit_scalar))
+  good_u _ small text = tt
 
   short_then : (y : ℕ) (zs : List ℕ) (found : Option ℕ) → ShortAt y found → length zs < n → IsUtf8 (y ∷ zs)
       → GoodText (option_and_then (λ c. prepend (c ∷ []) (content plain zs)) found)

@@ -60,33 +60,16 @@ none_some server change verdict body e = absurd (cc)
 
 by_change : (server : ServerData) (change : Option ChangeData) (verdict : Verdict) (body : List ℕ)
     → canonical_if server change verdict ≡ Some body → CaseOf server change verdict body
-by_change server None verdict body e = none_some server None verdict body e
 by_change server (Some p) (answered changed) body e = let some : Some (canonical_change_body server p) ≡ Some body =
     e in let is : canonical_change_body server p ≡ body = cc in (p, refl, refl, sym is)
-by_change server (Some p) (answered (reply m)) body e = none_some server (Some p) (answered (reply m)) body e
-by_change server (Some p) (answered dropped) body e = none_some server (Some p) (answered dropped) body e
-by_change server (Some p) (answered ignored) body e = none_some server (Some p) (answered ignored) body e
-by_change server (Some p) (answered already_ended) body e = none_some server (Some p) (answered already_ended) body e
-by_change server (Some p) (answered (refused why)) body e = none_some server (Some p) (answered (refused why)) body e
-by_change server (Some p) (answered (exits status)) body e = none_some server (Some p) (answered (exits status)) body e
-by_change server (Some p) recorded body e = none_some server (Some p) recorded body e
-by_change server (Some p) bad body e = none_some server (Some p) bad body e
+by_change server change verdict body e = none_some server change verdict body e
 
 no_change : (m : IncomingData) (p : ChangeData) → None ≡ Some p → m ≡ did_change (Some p)
 no_change m p e = absurd (cc)
 
 pub asks_change : (m : IncomingData) (p : ChangeData) → change_in m ≡ Some p → m ≡ did_change (Some p)
 asks_change (did_change params) p e = ap did_change e
-asks_change not_json p e = no_change not_json p e
-asks_change (not_a_message id) p e = no_change (not_a_message id) p e
-asks_change (response id) p e = no_change (response id) p e
-asks_change (initialize id offers) p e = no_change (initialize id offers) p e
-asks_change (shutdown id) p e = no_change (shutdown id) p e
-asks_change (other_request id method) p e = no_change (other_request id method) p e
-asks_change exit p e = no_change exit p e
-asks_change (did_open params) p e = no_change (did_open params) p e
-asks_change (did_close params) p e = no_change (did_close params) p e
-asks_change (other_notification method) p e = no_change (other_notification method) p e
+asks_change m p e = no_change m p e
 
 case_of : (server : ServerData) (m : IncomingData) (verdict : Verdict) (body : List ℕ)
     → canonical_if server (change_in m) verdict ≡ Some body → IsNormalCase server m verdict body

@@ -25,9 +25,8 @@ module _ (n m : ℕ) where
 
   alike_server : (s : Session) (announced : Option (Option Encoding))
       → AreAlike (judge_server s announced) (judge_server (numbered n m s) announced)
-  alike_server s None = (refl, (n, m, refl))
   alike_server s (Some None) = (refl, (n, m, refl))
-  alike_server s (Some (Some encoding)) = (refl, (n, m, refl))
+  alike_server s _ = (refl, (n, m, refl))
 
   alike_incoming : (s : Session) (version : Version) (x : IncomingData) → AreAlike (judge_client s version x)
       (judge_client (numbered n m s) version x)

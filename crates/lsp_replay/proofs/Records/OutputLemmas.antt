@@ -4,9 +4,8 @@ use Rattle.lsp_replay.proofs.Prelude.{◌≡◌, ◌≢◌, List, ◌∷◌, ref
 -- a record that is in the log
 pub unless_not : (r : Record) (verdict : Verdict) (given : RecordOutput) → verdict ≢ bad → unless_bad r verdict given
     ≡ given
-unless_not r (answered answer) given not_bad = refl
-unless_not r recorded given not_bad = refl
 unless_not r bad given not_bad = absurd (not_bad refl)
+unless_not r _ given not_bad = refl
 
 module _ {State : Type 0} (view : View State) (state : State) (s : Session) (r : Record) where
   pub output_after : (given : RecordOutput) → view.record_output state s r (judge s r) ≡ given → (next : State)

@@ -9,12 +9,10 @@ use Rattle.json.specs.Json as json
 
 abbrev mutual
   JsonText : json.Json → Type 0
-  JsonText json.null = ⊤
-  JsonText (json.boolean b) = ⊤
-  JsonText (json.number s) = ⊤
   JsonText (json.string s) = IsUtf8 s
   JsonText (json.array js) = ItemsText js
   JsonText (json.object ms) = MembersText ms
+  JsonText _ = ⊤
 
   ItemsText : json.Items → Type 0
   ItemsText json.no_items = ⊤
@@ -49,30 +47,13 @@ OnEnd (Some ts) = AllText ts
 
 text_end : (ts : List Token) → AllText ts → OnEnd (after_end_array ts)
 unfolding OnEnd
-text_end [] has = tt
-text_end (Token.begin_object ∷ ts) has = tt
-text_end (Token.end_object ∷ ts) has = tt
-text_end (Token.begin_array ∷ ts) has = tt
 text_end (Token.end_array ∷ ts) has = has.1
-text_end (Token.key s ∷ ts) has = tt
-text_end (Token.string s ∷ ts) has = tt
-text_end (Token.number s ∷ ts) has = tt
-text_end (Token.boolean b ∷ ts) has = tt
-text_end (Token.null ∷ ts) has = tt
-text_end (Token.bad ∷ ts) has = tt
+text_end _ has = tt
 
 text_key : (ts : List Token) → AllText ts → RecordOutput (λ (k : Option (List ℕ)). ⊤) (read_key ts)
-text_key [] has = tt
-text_key (Token.begin_object ∷ ts) has = tt
 text_key (Token.end_object ∷ ts) has = (tt, has.1)
-text_key (Token.begin_array ∷ ts) has = tt
-text_key (Token.end_array ∷ ts) has = tt
 text_key (Token.key s ∷ ts) has = (tt, has.1)
-text_key (Token.string s ∷ ts) has = tt
-text_key (Token.number s ∷ ts) has = tt
-text_key (Token.boolean b ∷ ts) has = tt
-text_key (Token.null ∷ ts) has = tt
-text_key (Token.bad ∷ ts) has = tt
+text_key _ has = tt
 
 module _ (p : Parse json.Json) (parses : Parses JsonText p) where
   item_turn : (more : Parse json.Items) → Parses ItemsText more → (ts : List Token) → AllText ts
@@ -102,18 +83,14 @@ module _ (p : Parse json.Json) (parses : Parses JsonText p) where
 
 one_level : (a : Parse json.Items) (o : Parse json.Members) → Parses ItemsText a → Parses MembersText o
     → Parses JsonText (value_with a o)
-one_level a o p q [] has = tt
 one_level a o p q (Token.begin_object ∷ ts) has =
     mapped MembersText JsonText json.object (λ ms x. x) (o ts) (q ts has.1)
-one_level a o p q (Token.end_object ∷ ts) has = tt
 one_level a o p q (Token.begin_array ∷ ts) has = mapped ItemsText JsonText json.array (λ js x. x) (a ts) (p ts has.1)
-one_level a o p q (Token.end_array ∷ ts) has = tt
-one_level a o p q (Token.key s ∷ ts) has = tt
 one_level a o p q (Token.string s ∷ ts) has = (has.0, has.1)
 one_level a o p q (Token.number s ∷ ts) has = (tt, has.1)
 one_level a o p q (Token.boolean b ∷ ts) has = (tt, has.1)
 one_level a o p q (Token.null ∷ ts) has = (tt, has.1)
-one_level a o p q (Token.bad ∷ ts) has = tt
+one_level a o p q _ has = tt
 
 parses_value : (d : ℕ) → Parses JsonText (value d)
 unfolding value
@@ -206,13 +183,12 @@ number_read s = search (either_num, a_negative, a_natural)
 
 mutual
   held_of_json : (j : json.Json) → JsonText j → OnSome IsHeld (of_json j)
-  held_of_json json.null has = tt
-  held_of_json (json.boolean b) has = tt
   held_of_json (json.number s) has = on_map NumFits IsHeld number (λ a x. x) (number_of s) (number_read s).fits
   held_of_json (json.string s) has = has
   held_of_json (json.array js) has = on_map ItemsAreHeld IsHeld array (λ ds x. x) (of_items js) (held_of_items js has)
   held_of_json (json.object ms) has = on_map MembersAreHeld IsHeld object (λ ds x. x) (of_members ms no_members)
       (held_of_members ms no_members has tt)
+  held_of_json _ has = tt
 
   held_of_items : (js : json.Items) → ItemsText js → OnSome ItemsAreHeld (of_items js)
   held_of_items json.no_items has = tt
@@ -229,9 +205,8 @@ mutual
 
 last_text : (o : Option (json.Json × List Token)) → RecordOutput JsonText o
     → OnSome JsonText (option_and_then (λ p. if_last p.0 p.1) o)
-last_text None has = tt
 last_text (Some (j, [])) has = has.0
-last_text (Some (j, t ∷ ts)) has = tt
+last_text _ has = tt
 
 -- What is read from a text has texts.
 pub read_held : (text : List ℕ) (d : Data) → IsUtf8 text → read text ≡ Some d → IsHeld d

@@ -57,45 +57,18 @@ change_step limits s (Some p) proper received =
 -- A step keeps it.
 step_held : (limits : LimitsData) (phase : Phase) (s : ServerData) (m : IncomingData) → IsProperIncoming m
     → IsHeldState limits s → IsHeldState limits (step_in phase s m).state
-step_held limits Ended s m proper received = received
-step_held limits New s not_json proper received = received
-step_held limits New s (not_a_message id) proper received = received
-step_held limits New s (response id) proper received = received
 step_held limits New s exit proper received = record { limit = received.limit; table = received.table }
-step_held limits New s (initialize id None) proper received = received
 step_held limits New s (initialize id (Some offers)) proper received =
     record { limit = received.limit; table = received.table }
-step_held limits New s (shutdown id) proper received = received
-step_held limits New s (other_request id method) proper received = received
-step_held limits New s (did_open params) proper received = received
-step_held limits New s (did_change params) proper received = received
-step_held limits New s (did_close params) proper received = received
-step_held limits New s (other_notification method) proper received = received
-step_held limits Running s not_json proper received = received
-step_held limits Running s (not_a_message id) proper received = received
-step_held limits Running s (response id) proper received = received
 step_held limits Running s exit proper received = record { limit = received.limit; table = received.table }
-step_held limits Running s (initialize id offers) proper received = received
 step_held limits Running s (shutdown id) proper received = record { limit = received.limit; table = received.table }
-step_held limits Running s (other_request id method) proper received = received
 step_held limits Running s (did_open params) proper received = open_step limits s params proper received
 step_held limits Running s (did_change params) proper received = change_step limits s params proper received
-step_held limits Running s (did_close None) proper received = received
 step_held limits Running s (did_close (Some p)) proper received =
     obeyed_held limits s (close_refusal s.table p.uri) _ received
     (λ e. within_close limits s.table p.uri received.table)
-step_held limits Running s (other_notification method) proper received = received
-step_held limits Down s not_json proper received = received
-step_held limits Down s (not_a_message id) proper received = received
-step_held limits Down s (response id) proper received = received
 step_held limits Down s exit proper received = record { limit = received.limit; table = received.table }
-step_held limits Down s (initialize id offers) proper received = received
-step_held limits Down s (shutdown id) proper received = received
-step_held limits Down s (other_request id method) proper received = received
-step_held limits Down s (did_open params) proper received = received
-step_held limits Down s (did_change params) proper received = received
-step_held limits Down s (did_close params) proper received = received
-step_held limits Down s (other_notification method) proper received = received
+step_held limits _ s _ proper received = received
 
 pub step_on_held : (limits : LimitsData) (s : ServerData) (m : IncomingData) → IsProperIncoming m → IsHeldState limits s
     → IsHeldState limits (step_on s m).state

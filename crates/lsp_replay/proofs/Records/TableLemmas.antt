@@ -62,53 +62,21 @@ obeyed_keeps uri s m None next keeps other = keeps other
 obeyed_keeps uri s m (Some refusal) next keeps other = refl
 
 step_keeps : (phase : Phase) (uri : List ℕ) (s : ServerData) (m : IncomingData) → Keeps uri s m (step_in phase s m)
-step_keeps Ended uri s m other = refl
-step_keeps New uri s not_json other = refl
-step_keeps New uri s (not_a_message id) other = refl
-step_keeps New uri s (response id) other = refl
-step_keeps New uri s exit other = refl
 step_keeps New uri s (initialize id None) other = refl
-step_keeps New uri s (initialize id (Some offers)) other = refl
-step_keeps New uri s (shutdown id) other = refl
-step_keeps New uri s (other_request id method) other = refl
-step_keeps New uri s (did_open params) other = refl
-step_keeps New uri s (did_change params) other = refl
-step_keeps New uri s (did_close params) other = refl
-step_keeps New uri s (other_notification method) other = refl
-step_keeps Running uri s not_json other = refl
-step_keeps Running uri s (not_a_message id) other = refl
-step_keeps Running uri s (response id) other = refl
-step_keeps Running uri s exit other = refl
-step_keeps Running uri s (initialize id offers) other = refl
-step_keeps Running uri s (shutdown id) other = refl
-step_keeps Running uri s (other_request id method) other = refl
-step_keeps Running uri s (did_open None) other = refl
 step_keeps Running uri s (did_open (Some p)) other =
     obeyed_keeps uri s (did_open (Some p)) (open_refusal s.config.limits s.table p) (after_open s.table p)
     (same_open s.table p uri) other
-step_keeps Running uri s (did_change None) other = refl
 step_keeps Running uri s (did_change (Some p)) other =
     let units = units_in (session_encoding s) in
     let batch = map content_change_from_data p.changes in
     obeyed_keeps uri s (did_change (Some p)) (change_refusal s.config.limits units s.table p.uri p.version batch)
     (after_change units s.table p.uri p.version batch)
     (same_changed units s.table p.uri p.version batch uri) other
-step_keeps Running uri s (did_close None) other = refl
 step_keeps Running uri s (did_close (Some p)) other =
     obeyed_keeps uri s (did_close (Some p)) (close_refusal s.table p.uri) (after_close s.table p.uri)
     (same_closed s.table p.uri uri) other
-step_keeps Running uri s (other_notification method) other = refl
 step_keeps Down uri s not_json other = refl
-step_keeps Down uri s (not_a_message id) other = refl
-step_keeps Down uri s (response id) other = refl
-step_keeps Down uri s exit other = refl
-step_keeps Down uri s (initialize id offers) other = refl
-step_keeps Down uri s (shutdown id) other = refl
-step_keeps Down uri s (other_request id method) other = refl
-step_keeps Down uri s (did_open params) other = refl
-step_keeps Down uri s (did_change params) other = refl
-step_keeps Down uri s (did_close params) other = refl
-step_keeps Down uri s (other_notification method) other = refl
+step_keeps _ uri s _ other = refl
 
 -- ---- a record
 

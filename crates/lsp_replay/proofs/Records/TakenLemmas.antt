@@ -30,11 +30,7 @@ step_refused server p running refusal is = rw (running, is) refl
 
 is_changed : (a : Answer) → answer_view a ≡ changed → a ≡ Changed
 is_changed Changed e = refl
-is_changed (Reply frame code) e = absurd (cc)
-is_changed Dropped e = absurd (cc)
-is_changed Ignored e = absurd (cc)
-is_changed (Refused refusal) e = absurd (cc)
-is_changed (Exit status) e = absurd (cc)
+is_changed _ e = absurd (cc)
 
 -- An answer in place of a plan is a refusal.
 pub answered_some : (server : ServerData) (p : ChangeData) → server.phase ≡ Running → (a : Answer)

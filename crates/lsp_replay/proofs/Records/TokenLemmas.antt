@@ -6,16 +6,9 @@ use Rattle.json.specs.Lex.{Lexeme, token, comma, colon, Class, quote, backslash,
 use Rattle.lsp_replay.proofs.Records.ContentLemmas.{GoodText, content_utf8, behind_ascii}
 
 abbrev HasText : Token → Type 0
-HasText Token.begin_object = ⊤
-HasText Token.end_object = ⊤
-HasText Token.begin_array = ⊤
-HasText Token.end_array = ⊤
 HasText (Token.key s) = IsUtf8 s
 HasText (Token.string s) = IsUtf8 s
-HasText (Token.number s) = ⊤
-HasText (Token.boolean b) = ⊤
-HasText Token.null = ⊤
-HasText Token.bad = ⊤
+HasText _ = ⊤
 
 abbrev pub AllText : List Token → Type 0
 AllText [] = ⊤
@@ -23,8 +16,7 @@ AllText (t ∷ ts) = HasText t × AllText ts
 
 abbrev LexemeText : Lexeme → Type 0
 LexemeText (token t) = HasText t
-LexemeText comma = ⊤
-LexemeText colon = ⊤
+LexemeText _ = ⊤
 
 abbrev LexemesText : List Lexeme → Type 0
 LexemesText [] = ⊤
@@ -81,19 +73,13 @@ lexemes_byte between quote x xs k text rest =
     (text_of_string (content plain xs) (content_utf8 xs (text refl)), rest in_string)
 lexemes_byte between backslash x xs k text rest = (tt, rest in_word)
 lexemes_byte between operator x xs k text rest = (no_text_operator x, rest between)
-lexemes_byte between space x xs k text rest = rest between
 lexemes_byte between other x xs k text rest = (no_text_word (x ∷ xs), rest in_word)
-lexemes_byte in_word quote x xs k text rest = rest in_word
-lexemes_byte in_word backslash x xs k text rest = rest in_word
 lexemes_byte in_word operator x xs k text rest = (no_text_operator x, rest between)
 lexemes_byte in_word space x xs k text rest = rest between
-lexemes_byte in_word other x xs k text rest = rest in_word
 lexemes_byte in_string quote x xs k text rest = rest between
 lexemes_byte in_string backslash x xs k text rest = rest in_escape
-lexemes_byte in_string operator x xs k text rest = rest in_string
-lexemes_byte in_string space x xs k text rest = rest in_string
-lexemes_byte in_string other x xs k text rest = rest in_string
 lexemes_byte in_escape c x xs k text rest = rest in_string
+lexemes_byte m _ x xs k text rest = rest m
 
 lexemes_text : (m : Mode) (xs : List ℕ) → Quotes xs → LexemesText (lex m xs)
 unfolding lex
@@ -117,17 +103,13 @@ placed_text p Token.end_array b k has rest = allowed_text (may_close p) Token.en
 placed_text p (Token.key s) b k has rest = (tt, tt)
 placed_text p (Token.string s) true k has rest = allowed_text (may_begin p) (Token.key s) k after_key has rest
 placed_text p (Token.string s) false k has rest = allowed_text (may_begin p) (Token.string s) k after_value has rest
-placed_text p (Token.number s) b k has rest = allowed_text (may_begin p) (Token.number s) k after_value tt rest
-placed_text p (Token.boolean c) b k has rest = allowed_text (may_begin p) (Token.boolean c) k after_value tt rest
-placed_text p Token.null b k has rest = allowed_text (may_begin p) Token.null k after_value tt rest
 placed_text p Token.bad b k has rest = (tt, tt)
+placed_text p t b k has rest = allowed_text (may_begin p) t k after_value tt rest
 
 tokens_text : (p : Place) (ls : List Lexeme) → LexemesText ls → AllText (punctuate p ls)
 unfolding punctuate
 tokens_text fresh [] has = tt
 tokens_text after_value [] has = tt
-tokens_text after_comma [] has = (tt, tt)
-tokens_text after_key [] has = (tt, tt)
 tokens_text fresh (token t ∷ ls) has = placed_text fresh t (begins_colon ls) (λ next. punctuate next ls) has.0
     (λ q. tokens_text q ls has.1)
 tokens_text after_value (token t ∷ ls) has = placed_text after_value t (begins_colon ls) (λ next. punctuate next ls)
@@ -136,14 +118,9 @@ tokens_text after_comma (token t ∷ ls) has = placed_text after_comma t (begins
     has.0 (λ q. tokens_text q ls has.1)
 tokens_text after_key (token t ∷ ls) has = placed_text after_key t (begins_colon ls) (λ next. punctuate next ls) has.0
     (λ q. tokens_text q ls has.1)
-tokens_text fresh (comma ∷ ls) has = (tt, tt)
 tokens_text after_value (comma ∷ ls) has = tokens_text after_comma ls has.1
-tokens_text after_comma (comma ∷ ls) has = (tt, tt)
-tokens_text after_key (comma ∷ ls) has = (tt, tt)
-tokens_text fresh (colon ∷ ls) has = (tt, tt)
-tokens_text after_value (colon ∷ ls) has = (tt, tt)
-tokens_text after_comma (colon ∷ ls) has = (tt, tt)
 tokens_text after_key (colon ∷ ls) has = tokens_text fresh ls has.1
+tokens_text _ _ has = (tt, tt)
 
 pub text_tokens : (text : List ℕ) → IsUtf8 text → AllText (tokens text)
 text_tokens text u =

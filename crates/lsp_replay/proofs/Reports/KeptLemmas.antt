@@ -92,18 +92,8 @@ close_same table uri p true is = inl (rw is refl)
 close_same table uri p false is = inr (rw is refl, λ e. e)
 
 same_table : (table : List DocumentItem) (uri : List ℕ) (m : IncomingData) → Keeps table uri m table
-same_table table uri not_json = inr (refl, λ e. e)
-same_table table uri (not_a_message id) = inr (refl, λ e. e)
-same_table table uri (response id) = inr (refl, λ e. e)
-same_table table uri exit = inr (refl, λ e. e)
-same_table table uri (initialize id offers) = inr (refl, λ e. e)
-same_table table uri (shutdown id) = inr (refl, λ e. e)
-same_table table uri (other_request id method) = inr (refl, λ e. e)
-same_table table uri (did_open params) = inr (refl, λ e. e)
-same_table table uri (did_change params) = inr (refl, λ e. e)
-same_table table uri (did_close None) = inr (refl, λ e. e)
 same_table table uri (did_close (Some p)) = close_same table uri p (bytes_eq p.uri uri) refl
-same_table table uri (other_notification method) = inr (refl, λ e. e)
+same_table table uri _ = inr (refl, λ e. e)
 
 close_kept : (s : ServerData) (uri : List ℕ) (p : CloseData) (b : Bool) → bytes_eq p.uri uri ≡ b
     → Keeps s.table uri (did_close (Some p)) (step_in Running s (did_close (Some p))).state.table
@@ -115,30 +105,9 @@ close_kept s uri p false is = inr (
 
 step_kept : (phase : Phase) (s : ServerData) (uri : List ℕ) (m : IncomingData)
     → Keeps s.table uri m (step_in phase s m).state.table
-step_kept Ended s uri m = same_table s.table uri m
-step_kept New s uri not_json = same_table s.table uri not_json
-step_kept New s uri (not_a_message id) = same_table s.table uri (not_a_message id)
-step_kept New s uri (response id) = same_table s.table uri (response id)
-step_kept New s uri exit = same_table s.table uri exit
 step_kept New s uri (initialize id None) = same_table s.table uri (initialize id None)
-step_kept New s uri (initialize id (Some offers)) = same_table s.table uri (initialize id (Some offers))
-step_kept New s uri (shutdown id) = same_table s.table uri (shutdown id)
-step_kept New s uri (other_request id method) = same_table s.table uri (other_request id method)
-step_kept New s uri (did_open params) = same_table s.table uri (did_open params)
-step_kept New s uri (did_change params) = same_table s.table uri (did_change params)
-step_kept New s uri (did_close params) = same_table s.table uri (did_close params)
-step_kept New s uri (other_notification method) = same_table s.table uri (other_notification method)
-step_kept Running s uri not_json = same_table s.table uri not_json
-step_kept Running s uri (not_a_message id) = same_table s.table uri (not_a_message id)
-step_kept Running s uri (response id) = same_table s.table uri (response id)
-step_kept Running s uri exit = same_table s.table uri exit
-step_kept Running s uri (initialize id offers) = same_table s.table uri (initialize id offers)
-step_kept Running s uri (shutdown id) = same_table s.table uri (shutdown id)
-step_kept Running s uri (other_request id method) = same_table s.table uri (other_request id method)
-step_kept Running s uri (did_open None) = same_table s.table uri (did_open None)
 step_kept Running s uri (did_open (Some p)) =
     inr (refl, obeyed_stays s (open_refusal s.config.limits s.table p) _ uri (stays_open s.table p uri))
-step_kept Running s uri (did_change None) = same_table s.table uri (did_change None)
 step_kept Running s uri (did_change (Some p)) =
     inr (
       refl,
@@ -147,20 +116,9 @@ step_kept Running s uri (did_change (Some p)) =
           (stays_changed (units_in (session_encoding s)) s.table p.uri p.version
           (map content_change_from_data p.changes) uri),
     )
-step_kept Running s uri (did_close None) = same_table s.table uri (did_close None)
 step_kept Running s uri (did_close (Some p)) = close_kept s uri p (bytes_eq p.uri uri) refl
-step_kept Running s uri (other_notification method) = same_table s.table uri (other_notification method)
 step_kept Down s uri not_json = same_table s.table uri not_json
-step_kept Down s uri (not_a_message id) = same_table s.table uri (not_a_message id)
-step_kept Down s uri (response id) = same_table s.table uri (response id)
-step_kept Down s uri exit = same_table s.table uri exit
-step_kept Down s uri (initialize id offers) = same_table s.table uri (initialize id offers)
-step_kept Down s uri (shutdown id) = same_table s.table uri (shutdown id)
-step_kept Down s uri (other_request id method) = same_table s.table uri (other_request id method)
-step_kept Down s uri (did_open params) = same_table s.table uri (did_open params)
-step_kept Down s uri (did_change params) = same_table s.table uri (did_change params)
-step_kept Down s uri (did_close params) = same_table s.table uri (did_close params)
-step_kept Down s uri (other_notification method) = same_table s.table uri (other_notification method)
+step_kept _ s uri m = same_table s.table uri m
 
 client_kept : (s : Session) (version : Version) (uri : List ℕ) (m : IncomingData)
     → Keeps s.server.table uri m (judge_client s version m).session.server.table
@@ -177,9 +135,8 @@ client_kept s version uri m = by (is_ended s.server.phase) (is_early s m)
 
 pub heard_table : (s : Session) (announced : Option (Option Encoding)) → (judge_server s announced).session.server.table
     ≡ s.server.table
-heard_table s None = refl
 heard_table s (Some None) = refl
-heard_table s (Some (Some encoding)) = refl
+heard_table s _ = refl
 
 -- ---- the last text over a record
 

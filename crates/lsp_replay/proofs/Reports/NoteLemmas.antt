@@ -109,8 +109,7 @@ module _ (units : ℕ → ℕ) (text : List ℕ) (utf8 : IsUtf8 text) (range : R
     (new_utf8 : IsUtf8 new) where
   no_memory : (number : ℕ) (why : Fault) → batch_fault_of (fault_at number why) ≡ NoMemory → ⊥
   no_memory number InsideStart is = absurd (cc)
-  no_memory number InsideStop is = absurd (cc)
-  no_memory number Reversed is = absurd (cc)
+  no_memory number _ is = absurd (cc)
 
   pub no_range_left : replaced_by units (chars text) (Some range) ≡ None
       → result_ok (text_within 1073741824 text (meaning units (chars text) (alone range new))) ≡ None
@@ -167,11 +166,10 @@ one_change terms text change =
 pub one_noted : (terms : Terms) (text : List ℕ) (changes : List Change) (change : Change) → length changes ≡ 1
     → change ≡ get_or changes 0 change → batch_notes terms text (map content_change changes)
     ≡ change_notes terms (chars text) 0 (content_change change)
-one_noted terms text [] change one is = absurd (omega (arith, one))
 one_noted terms text (first ∷ []) change one is =
     one_change terms text (content_change first) ∙ ap (λ (c : Change). change_notes terms (chars text) 0
     (content_change c)) (sym is)
-one_noted terms text (first ∷ second ∷ more) change one is = absurd (omega (arith, one))
+one_noted terms text _ change one is = absurd (omega (arith, one))
 
 -- How far changes were noted: what there is to note of the rest leads to all.
 pub record Noting (terms : Terms) (all : List Note) (index : ℕ) (rest : List Change) (left : List ℕ)

@@ -66,10 +66,9 @@ module _ (table : List DocumentItem) (several : Bool) (a b : Option (List ℕ)) 
   pub found_alike : (asked opened found : Option (List ℕ)) → last_text_in found a table ≡ last_text_in found b table
       → refreshed table (found_if asked opened (with_text found several a))
       ≡ refreshed table (found_if asked opened (with_text found several b))
-  found_alike None opened found same = ap (with_text found several) same
-  found_alike (Some asked) None found same = ap (with_text found several) same
   found_alike (Some asked) (Some uri) found same =
       if_alike (bytes_eq uri asked) (ends_so uri asked && not (is_named asked found)) uri found same
+  found_alike _ _ found same = ap (with_text found several) same
 
 -- ---- the document that is found after a record
 

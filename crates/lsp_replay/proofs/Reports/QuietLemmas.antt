@@ -3,8 +3,7 @@ use Rattle.lsp_replay.proofs.Prelude.{◌≡◌, ℕ, List, [], ◌∷◌, ◌++
 
 quiet_gives : (r : Record) (verdict : Verdict) → (unless_bad r verdict (writes [])).out ≡ []
 quiet_gives r (answered answer) = refl
-quiet_gives r recorded = refl
-quiet_gives r bad = refl
+quiet_gives r _ = refl
 
 quiet_on : (out : List ℕ) (end : Option (Result Outcome EngineFault)) (c : RunOutput) → out ≡ [] → c.out ≡ []
     → (followed_by out end c).out ≡ []

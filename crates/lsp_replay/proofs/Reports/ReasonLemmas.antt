@@ -30,12 +30,10 @@ module _ (s : Session) (version : Version) (p : ChangeData) where
   quiet_in : (phase : Phase) → s.server.phase ≡ phase → (expected : Option IdData) → s.expected ≡ expected
       → (phase ≡ Running → expected ≡ None → ⊥) → IsQuiet (judge_client s version (did_change (Some p))).verdict
   quiet_in Running is None none never = absurd (never refl refl)
-  quiet_in Running is (Some id) some never = rw (is, some) tt
   quiet_in New is None none never = rw (is, none) tt
-  quiet_in New is (Some id) some never = rw (is, some) tt
-  quiet_in Down is None none never = rw (is, none) tt
   quiet_in Down is (Some id) some never = rw (is, some) tt
   quiet_in Ended is expected waits never = rw is tt
+  quiet_in _ is _ it never = rw (is, it) tt
 
 if_none : (change : Option ChangeData) (b : Bool) → change ≡ None → (if b then change else None) ≡ None
 if_none change true e = e
@@ -98,12 +96,7 @@ module _ (listing : Listing) (limits : LimitsData) (number : ℕ) (uri : Option 
   quiet_listed change recorded q = refl
   quiet_listed change bad q = refl
   quiet_listed change (answered dropped) q = refl
-  quiet_listed change (answered (reply m)) q = absurd q
-  quiet_listed change (answered changed) q = absurd q
-  quiet_listed change (answered ignored) q = absurd q
-  quiet_listed change (answered already_ended) q = absurd q
-  quiet_listed change (answered (refused why)) q = absurd q
-  quiet_listed change (answered (exits status)) q = absurd q
+  quiet_listed change _ q = absurd q
 
   pub listed_at : (s : Session) (head : Head) (body : List ℕ)
       → listed_line listing limits number uri asked (received_of s (body_read head.version head.side body)) seen
@@ -118,12 +111,7 @@ quiet_strict : (change : Option ChangeData) (verdict : Verdict) → IsQuiet verd
 quiet_strict change recorded q = refl
 quiet_strict change bad q = refl
 quiet_strict change (answered dropped) q = refl
-quiet_strict change (answered (reply m)) q = absurd q
-quiet_strict change (answered changed) q = absurd q
-quiet_strict change (answered ignored) q = absurd q
-quiet_strict change (answered already_ended) q = absurd q
-quiet_strict change (answered (refused why)) q = absurd q
-quiet_strict change (answered (exits status)) q = absurd q
+quiet_strict change _ q = absurd q
 
 pub strict_at : (s : Session) (head : Head) (body : List ℕ)
     → is_strict_refusal (received_of s (body_read head.version head.side body)) (judge_at s head body).verdict
@@ -135,18 +123,12 @@ quiet_reason : (limits : LimitsData) (renamed : Bool) (change : Option ChangeDat
 quiet_reason limits renamed change recorded q = refl
 quiet_reason limits renamed change bad q = refl
 quiet_reason limits renamed change (answered dropped) q = refl
-quiet_reason limits renamed change (answered (reply m)) q = absurd q
-quiet_reason limits renamed change (answered changed) q = absurd q
-quiet_reason limits renamed change (answered ignored) q = absurd q
-quiet_reason limits renamed change (answered already_ended) q = absurd q
-quiet_reason limits renamed change (answered (refused why)) q = absurd q
-quiet_reason limits renamed change (answered (exits status)) q = absurd q
+quiet_reason limits renamed change _ q = absurd q
 
 reason_same : (limits : LimitsData) (m : IncomingData) (renamed : Bool) (verdict : Verdict)
     → reason_of limits (change_in m) renamed verdict ≡ reason_json limits m renamed verdict
 reason_same limits m renamed (answered answer) = refl
-reason_same limits m renamed recorded = refl
-reason_same limits m renamed bad = refl
+reason_same limits m renamed _ = refl
 
 pub reason_at : (limits : LimitsData) (renamed : Bool) (s : Session) (head : Head) (body : List ℕ)
     → reason_of limits (received_of s (body_read head.version head.side body)) renamed (judge_at s head body).verdict

@@ -12,8 +12,7 @@ text_if is_asked document = if is_asked then option_map (λ (entry : DocumentIte
 text_member : (is_asked : Bool) (document : Option DocumentItem) → text_json is_asked document
     ≡ option_map json_string (text_if is_asked document)
 text_member true (Some entry) = refl
-text_member true None = refl
-text_member false document = refl
+text_member _ _ = refl
 
 module _ (details : Details) (known : Known) (s : Session) (r : Record) (m : IncomingData) where
   abbrev j : Judged
@@ -87,8 +86,6 @@ module _ (details : Details) (known : Known) (s : Session) (r : Record) (m : Inc
 -- ---- the text after a record
 
 word_changed : (verdict : Verdict) → bytes_eq (verdict_word verdict) (codes "changed") ≡ has_changed verdict
-word_changed bad = refl
-word_changed recorded = refl
 word_changed (answered (reply m)) = by m.code
   where
     by : (code : Option ErrorCode) → bytes_eq (code_word code) (codes "changed") ≡ false
@@ -98,12 +95,7 @@ word_changed (answered (reply m)) = by m.code
     by (Some MethodNotFound) = refl
     by (Some InvalidParams) = refl
     by (Some ServerNotInitialized) = refl
-word_changed (answered changed) = refl
-word_changed (answered dropped) = refl
-word_changed (answered ignored) = refl
-word_changed (answered (refused refusal)) = refl
-word_changed (answered (exits status)) = refl
-word_changed (answered already_ended) = refl
+word_changed _ = refl
 
 abbrev text_in : List DocumentItem → List ℕ → Option (List ℕ)
 text_in table uri = option_map (λ (entry : DocumentItem). entry.text) (entry_at table uri)
@@ -111,11 +103,10 @@ text_in table uri = option_map (λ (entry : DocumentItem). entry.text) (entry_at
 -- the text in the line of an accepted record about the document
 text_there : (asked here : Bool) (table : List DocumentItem) (uri : List ℕ) (other : Option (List ℕ)) → asked ≡ true
     → (here && is_document uri other) ≡ true → text_if (asked && here) (document_after table other) ≡ text_in table uri
-text_there asked false table uri other is both = absurd (let wrong : false ≡ true = both in cc)
-text_there asked true table uri None is both = absurd (let wrong : false ≡ true = both in cc)
 text_there asked true table uri (Some other) is both =
     ap (λ (b : Bool). text_if (b && true) (entry_at table other)) is
     ∙ ap (λ (u : List ℕ). text_in table u) (sym ((bytes_eq-Decides uri other).0 both))
+text_there asked _ table uri _ is both = absurd (let wrong : false ≡ true = both in cc)
 
 module _ (details : Details) (known : Known) (s : Session) (r : Record) (uri : List ℕ)
     (asked : details.texts ≡ true) where

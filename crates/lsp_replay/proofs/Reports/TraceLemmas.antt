@@ -11,9 +11,8 @@ either false x y n p q = q
 
 of_server : (s : Session) (announced : Option (Option Encoding)) → (judge_server s announced).session.records
     ≡ s.records
-of_server s None = refl
 of_server s (Some None) = refl
-of_server s (Some (Some encoding)) = refl
+of_server s _ = refl
 
 of_incoming : (s : Session) (version : Version) (m : IncomingData) → (judge_client s version m).session.records
     ≡ s.records

@@ -105,18 +105,13 @@ module _ (log_rules : LogRules) (run_output : List Record → RunOutput) (receiv
       → (fault ≡ TooManyTurns → AppendsShort unflushed received_now received_new ((now []).last s.line_due))
       → IsLastFault fault → IsProgress log_rules run_output received input [] s now received_now
       → IsEndFault log_rules run_output unflushed input received received_new place fault
-  last_fault unflushed place s now received_now received_new Read quiet nothing cut short kind w = absurd kind
   last_fault unflushed place s now received_now received_new Write quiet nothing cut short kind w =
       broken_last s now received_now received_new quiet nothing cut w
-  last_fault unflushed place s now received_now received_new (Frame fault) quiet nothing cut short kind w = absurd kind
-  last_fault unflushed place s now received_now received_new (Truncated at) quiet nothing cut short kind w = absurd kind
-  last_fault unflushed place s now received_now received_new (BodyTooLong at) quiet nothing cut short kind w =
-      absurd kind
   last_fault unflushed place s now received_now received_new NoMemory quiet nothing cut short kind w =
       broken_last s now received_now received_new quiet nothing cut w
   last_fault unflushed place s now received_now received_new TooManyTurns quiet nothing cut short kind w =
       short_last unflushed s now received_now received_new quiet nothing (short refl) w
-  last_fault unflushed place s now received_now received_new (BadLog at) quiet nothing cut short kind w = absurd kind
+  last_fault unflushed place s now received_now received_new _ quiet nothing cut short kind w = absurd kind
 
   -- Nothing was written of what the end gives.
   pub went_whole_records : (s : Splitter) (now : List Record → RunOutput) (received_now received_new : Option (List ℕ))

@@ -194,15 +194,14 @@ module _ (log_rules : LogRules) (run_output : List Record → RunOutput) (left r
   piece_fault : (state : PortState) (input : List ℕ) (received_new : Option (List ℕ)) (fault : EngineFault)
       → IsPieceFault log_rules run_output state.unflushed input received received_new fault
       → IsRunFault log_rules run_output state input received received_new fault
-  piece_fault state input received_new Read why = absurd why
   piece_fault state input received_new Write why = inl why
   piece_fault state input received_new (Frame fault) why = why
-  piece_fault state input received_new (Truncated place) why = absurd why
   piece_fault state input received_new (BodyTooLong place) why = why
   piece_fault state input received_new NoMemory why = inl why
   piece_fault state input received_new TooManyTurns why = inl why
   piece_fault state input received_new (BadLog place) (inl why) = inl why
   piece_fault state input received_new (BadLog place) (inr why) = inr (inl why)
+  piece_fault state input received_new _ why = absurd why
 
   pub ran_into_fault : (left_now : Option (List ℕ)) (ended : Bool) (state : PortState) (place : ℕ) (piece : List ℕ)
       (s : Splitter) (now : List Record → RunOutput) (received_now received_new : Option (List ℕ)) (fault : EngineFault)
@@ -217,14 +216,11 @@ module _ (log_rules : LogRules) (run_output : List Record → RunOutput) (left r
       → state.ended ≡ true → place ≡ place_after 0 (length input)
       → IsEndFault log_rules run_output state.unflushed input received received_new place fault
       → IsRunFault log_rules run_output state input received received_new fault
-  end_fault state input place received_new Read error placed why = absurd why
   end_fault state input place received_new Write error placed why = inr (error, why)
-  end_fault state input place received_new (Frame fault) error placed why = absurd why
   end_fault state input place received_new (Truncated at) error placed why = (error, why.0 ∙ placed, why.1)
-  end_fault state input place received_new (BodyTooLong at) error placed why = absurd why
   end_fault state input place received_new NoMemory error placed why = inr (error, why)
   end_fault state input place received_new TooManyTurns error placed why = inr (inl (error, why))
-  end_fault state input place received_new (BadLog at) error placed why = absurd why
+  end_fault state input place received_new _ error placed why = absurd why
 
   pub ran_into_end_fault : (left_now : Option (List ℕ)) (ended : Bool) (state : PortState) (place : ℕ) (s : Splitter)
       (now : List Record → RunOutput) (received_now received_new : Option (List ℕ)) (fault : EngineFault) → state.ended

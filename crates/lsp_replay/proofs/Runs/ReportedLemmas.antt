@@ -7,10 +7,8 @@ use Rattle.lsp_replay.proofs.Runs.EngineLemmas.{still_short}
 module _ (last : List ℕ) where
   stopped_none : (ended : Bool) (rest : List ℕ) (stop : Option (Result Outcome EngineFault))
       (answer : Result Outcome EngineFault) → stop ≡ Some answer → last_if ended rest stop last ≡ []
-  stopped_none false rest stop answer e = refl
-  stopped_none true (x ∷ rest) stop answer e = refl
-  stopped_none true [] (Some other) answer e = refl
   stopped_none true [] None answer e = absurd (let wrong : None ≡ Some answer = e in cc)
+  stopped_none _ _ _ answer e = refl
 
   open_none : (ended : Bool) (rest : List ℕ) (stop : Option (Result Outcome EngineFault)) → ended ≡ false
       → last_if ended rest stop last ≡ []
@@ -19,9 +17,8 @@ module _ (last : List ℕ) where
 
   rest_none : (ended : Bool) (rest : List ℕ) (stop : Option (Result Outcome EngineFault)) → (rest ≡ [] → ⊥)
       → last_if ended rest stop last ≡ []
-  rest_none false rest stop some = refl
-  rest_none true (x ∷ rest) stop some = refl
   rest_none true [] stop some = absurd (some refl)
+  rest_none _ _ stop some = refl
 
   due_last : (ended : Bool) (rest : List ℕ) (stop : Option (Result Outcome EngineFault)) → ended ≡ true → rest ≡ []
       → stop ≡ None → last_if ended rest stop last ≡ last
@@ -137,16 +134,15 @@ module _ (log_rules : LogRules) (run_output : List Record → RunOutput) (state 
   of_fault : (fault : EngineFault) → IsFaultReported log_rules run_output state input old new all fault
       → Reported (Err fault)
   of_fault Read r = grind (arith, common_steps, of_records, open_none)
-  of_fault Write r = of_first_part (Err Write) refl (λ written left. tt) r
   of_fault (Frame fault) r =
       of_passed (Err (Frame fault)) (malformed_some log_rules.max_body input fault all r.0) r.1 (λ on. (on, r.0))
   of_fault (Truncated place) r = of_passed (Err (Truncated place)) r.2.some r.3 (λ on. (r.0, r.1, on, r.2))
   of_fault (BodyTooLong place) r = of_end (Err (BodyTooLong place)) (Err (BodyTooLong place)) r (λ e. e)
-  of_fault NoMemory r = of_first_part (Err NoMemory) refl (λ written left. tt) r
   of_fault TooManyTurns r = of_short r
   of_fault (BadLog place) (inl r) = of_end (Err (BadLog place)) (Err (BadLog place)) r (λ e. inl e)
   of_fault (BadLog place) (inr r) =
       of_passed (Err (BadLog place)) (bad_some input place all r.0) r.1 (λ on. inr (on, r.0))
+  of_fault fault r = of_first_part (Err fault) refl (λ written left. tt) r
 
   pub by_cause : (result : Result Outcome EngineFault) → IsRunReport log_rules run_output state input old new all result
       → Reported result

@@ -111,6 +111,5 @@ passed_result flushes old new (Err fault) ok err holds not_write not_turns =
 
 -- A read after all was flushed notes nothing.
 pub in_time : (early flushed : Bool) → flushed ≡ true → (early || not flushed) ≡ early
-in_time true flushed is = refl
-in_time false true is = refl
 in_time false false is = sym is
+in_time _ _ is = refl

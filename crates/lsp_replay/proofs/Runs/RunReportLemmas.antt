@@ -54,8 +54,7 @@ behind_marks : (version : Version) (side other : Sender) (a b : List ℕ) → ma
 behind_marks One side other a b e = e
 behind_marks Two Client Client a b e = ap (drop 1) e
 behind_marks Two Server Server a b e = ap (drop 1) e
-behind_marks Two Client Server a b e = ap (drop 1) e
-behind_marks Two Server Client a b e = ap (drop 1) e
+behind_marks Two _ _ a b e = ap (drop 1) e
 
 malformed_rest : (max_body : ℕ) (input : List ℕ) (fault : FrameFault) (log : Log) → IsMalformed max_body input fault log
     → HasNoRecord max_body log
@@ -202,7 +201,6 @@ module _ (first_of : FirstLaw) (same_version : VersionLaw) (log_rules : LogRules
   fault_told Read r = let error = reached (IsUnfinished log_rules input) (λ log is. is.none) r.1 in
       (r.0, error.0, error.1)
   fault_told Write (inl b) = inl (broken b)
-  fault_told Write (inr b) = inr (cut b)
   fault_told (Frame fault) r =
       reached (IsMalformed log_rules.max_body input fault) (λ log is. malformed_rest log_rules.max_body input fault log
       is) r
@@ -210,7 +208,6 @@ module _ (first_of : FirstLaw) (same_version : VersionLaw) (log_rules : LogRules
       (r.0, r.1, error.0, error.1)
   fault_told (BodyTooLong place) stopped = ended_by (Err (BodyTooLong place)) stopped
   fault_told NoMemory (inl r) = inl (stopped_short r)
-  fault_told NoMemory (inr b) = inr (cut b)
   fault_told TooManyTurns (inl r) = inl (ran_out r)
   fault_told TooManyTurns (inr (inl b)) = inr (inl (short_end b))
   fault_told TooManyTurns (inr (inr r)) = let error = reached (IsUnfinished log_rules input) (λ log is. is.none) r.1 in
@@ -219,6 +216,7 @@ module _ (first_of : FirstLaw) (same_version : VersionLaw) (log_rules : LogRules
   fault_told (BadLog place) (inr (inl r)) =
       inr (reached (IsBadMark input place) (λ log is. bad_rest log_rules.max_body input place log is) r)
   fault_told (BadLog place) (inr (inr is)) = absurd (refused place is)
+  fault_told _ (inr b) = inr (cut b)
 
   ok_told : (outcome : Outcome) → (Stopped log_rules run_output input received_old received_new (Ok outcome)
       ⊎ ((state.ended ≡ true) × AtEnd log_rules run_output input received_old received_new outcome))
@@ -250,18 +248,17 @@ module _ (same_version : VersionLaw) (log_rules : LogRules) (run_output : List R
       → IsBadFromStart received_old received_new (Err fault)
   fault_answered Read r = absurd (unread r.1.log r.1.reads)
   fault_answered Write (inl b) = absurd (unread b.log b.reads)
-  fault_answered Write (inr b) = absurd (unread b.1.log b.1.reads)
   fault_answered (Frame fault) r = absurd (unread r.log r.reads)
   fault_answered (Truncated place) r = absurd (unread r.2.log r.2.reads)
   fault_answered (BodyTooLong place) stopped = absurd (unread stopped.log stopped.reads)
   fault_answered NoMemory (inl r) = absurd (unread r.log r.reads)
-  fault_answered NoMemory (inr b) = absurd (unread b.1.log b.1.reads)
   fault_answered TooManyTurns (inl r) = absurd (unread r.log r.reads)
   fault_answered TooManyTurns (inr (inl b)) = absurd (unread b.1.broken.log b.1.broken.reads)
   fault_answered TooManyTurns (inr (inr r)) = absurd (unread r.1.log r.1.reads)
   fault_answered (BadLog place) (inl stopped) = absurd (unread stopped.log stopped.reads)
   fault_answered (BadLog place) (inr (inl r)) = absurd (unread r.log r.reads)
   fault_answered (BadLog place) (inr (inr is)) = (ap (λ (p : ℕ). Err (BadLog p)) is.placed, is.wrote)
+  fault_answered _ (inr b) = absurd (unread b.1.log b.1.reads)
 
   ok_answered : (outcome : Outcome) → (Stopped log_rules run_output input received_old received_new (Ok outcome)
       ⊎ ((state.ended ≡ true) × AtEnd log_rules run_output input received_old received_new outcome))

@@ -9,9 +9,8 @@ use Rattle.lsp_replay.proofs.Converted.ConvertedLogLemmas.{converted_law}
 -- ---- no record ends the run of `normalise` or `convert` well
 
 abbrev pub IsNotOk : Option (Result Outcome EngineFault) → Type 0
-IsNotOk None = ⊤
 IsNotOk (Some (Ok outcome)) = ⊥
-IsNotOk (Some (Err fault)) = ⊤
+IsNotOk _ = ⊤
 
 pub not_ok_on : (out : List ℕ) (end : Option (Result Outcome EngineFault)) (c : RunOutput) → IsNotOk end
     → IsNotOk c.stop → IsNotOk (followed_by out end c).stop
@@ -20,9 +19,8 @@ not_ok_on out (Some answer) c here later = here
 
 pub unless_not_ok : (r : Record) (verdict : Verdict) (g : RecordOutput) → IsNotOk g.end
     → IsNotOk (unless_bad r verdict g).end
-unless_not_ok r (answered answer) g not_ok = not_ok
-unless_not_ok r recorded g not_ok = not_ok
 unless_not_ok r bad g not_ok = tt
+unless_not_ok r _ g not_ok = not_ok
 
 written_not_ok : (max_body : ℕ) (r : Record) (front : List ℕ) (canonical : Option (List ℕ))
     → IsNotOk (written max_body r front canonical).end
@@ -55,9 +53,8 @@ converted_not_ok s (r ∷ rs) =
 
 stops_not_ok : (stop : Option (Result Outcome EngineFault)) (outcome : Outcome) → IsNotOk stop
     → stop ≢ Some (Ok outcome)
-stops_not_ok None outcome not_ok e = absurd (cc)
 stops_not_ok (Some (Ok other)) outcome not_ok e = not_ok
-stops_not_ok (Some (Err fault)) outcome not_ok e = absurd (cc)
+stops_not_ok _ outcome not_ok e = absurd (cc)
 
 -- ---- where no record ends the run well, an outcome is that of the end
 

@@ -87,11 +87,8 @@ module _ (log_rules : LogRules) (run_output : List Record → RunOutput) (receiv
       → IsReadAs log_rules input log → log.records ≡ w.records ++ r ∷ [] → IsQuiet now
       → IsHandleFault now unflushed received_now received_new r fault → IsPieceFault log_rules run_output unflushed
       input received received_new fault
-  record_fault unflushed log more s now received_now received_new r Read w reads is quiet why = absurd why
   record_fault unflushed log more s now received_now received_new r Write w reads is quiet why =
       broken_at log more s now received_now received_new r w reads is why
-  record_fault unflushed log more s now received_now received_new r (Frame fault) w reads is quiet why = absurd why
-  record_fault unflushed log more s now received_now received_new r (Truncated place) w reads is quiet why = absurd why
   record_fault unflushed log more s now received_now received_new r (BodyTooLong place) w reads is quiet why =
       went_to_end log more s now received_now received_new r (Err (BodyTooLong place)) w reads is why
   record_fault unflushed log more s now received_now received_new r NoMemory w reads is quiet why =
@@ -100,6 +97,7 @@ module _ (log_rules : LogRules) (run_output : List Record → RunOutput) (receiv
       short_at unflushed log more s now received_now received_new r w reads is why
   record_fault unflushed log more s now received_now received_new r (BadLog place) w reads is quiet why =
       inl (went_to_end log more s now received_now received_new r (Err (BadLog place)) w reads is why)
+  record_fault unflushed log more s now received_now received_new r _ w reads is quiet why = absurd why
 
   -- a fault in front of the next record
   pub split_faults : (unflushed : Bool) (more : List ℕ) (s : Splitter) (now : List Record → RunOutput)
@@ -107,17 +105,13 @@ module _ (log_rules : LogRules) (run_output : List Record → RunOutput) (receiv
       (w : IsProgress log_rules run_output received input more s now received_now)
       → IsQuiet now → Appends received_now received_new [] → IsSplitFault log_rules.max_body input
       (log_at s w.records more) fault → IsPieceFault log_rules run_output unflushed input received received_new fault
-  split_faults unflushed more s now received_now received_new Read w quiet nothing why = absurd why
-  split_faults unflushed more s now received_now received_new Write w quiet nothing why = absurd why
   split_faults unflushed more s now received_now received_new (Frame fault) w quiet nothing why =
       went_so_far more s now received_now received_new _ w quiet nothing why
-  split_faults unflushed more s now received_now received_new (Truncated place) w quiet nothing why = absurd why
-  split_faults unflushed more s now received_now received_new (BodyTooLong place) w quiet nothing why = absurd why
   split_faults unflushed more s now received_now received_new NoMemory w quiet nothing why =
       went_so_far more s now received_now received_new (λ _. Unit {0}) w quiet nothing tt
-  split_faults unflushed more s now received_now received_new TooManyTurns w quiet nothing why = absurd why
   split_faults unflushed more s now received_now received_new (BadLog place) w quiet nothing why =
       inr (went_so_far more s now received_now received_new _ w quiet nothing why)
+  split_faults unflushed more s now received_now received_new _ w quiet nothing why = absurd why
 
   -- The record that is held was handled.
   held_record : (s : Splitter) (head : Head) (raw body : List ℕ) → head ≡ record_head s → raw ≡ s.framer.buffered

@@ -25,11 +25,10 @@ module _ (s : Session) (version : Version) (p : ChangeData) where
   idle_phase : (phase : Phase) → s.server.phase ≡ phase → phase ≢ Running → (expected : Option IdData) → s.expected
       ≡ expected → accepted_if (Some p) (judge_client s version (did_change (Some p))).verdict ≡ None
   idle_phase New is idle None none = rw (is, none) refl
-  idle_phase New is idle (Some id) some = rw (is, some) refl
-  idle_phase Down is idle None none = rw (is, none) refl
   idle_phase Down is idle (Some id) some = rw (is, some) refl
   idle_phase Ended is idle expected waits = rw is refl
   idle_phase Running is idle expected waits = absurd (idle refl)
+  idle_phase _ is idle _ it = rw (is, it) refl
 
   pub idle : s.server.phase ≢ Running
       → accepted_if (Some p) (judge_client s version (did_change (Some p))).verdict ≡ None
@@ -38,10 +37,8 @@ module _ (s : Session) (version : Version) (p : ChangeData) where
   early_phase : (phase : Phase) → s.server.phase ≡ phase → (expected : Option IdData) → s.expected ≡ expected → expected
       ≢ None → accepted_if (Some p) (judge_client s version (did_change (Some p))).verdict ≡ None
   early_phase phase is None none some = absurd (some refl)
-  early_phase New is (Some id) waits some = rw (is, waits) refl
-  early_phase Down is (Some id) waits some = rw (is, waits) refl
   early_phase Ended is (Some id) waits some = rw is refl
-  early_phase Running is (Some id) waits some = rw (is, waits) refl
+  early_phase _ is (Some id) waits some = rw (is, waits) refl
 
   pub early : s.expected ≢ None → accepted_if (Some p) (judge_client s version (did_change (Some p))).verdict ≡ None
   early some = early_phase s.server.phase refl s.expected refl some

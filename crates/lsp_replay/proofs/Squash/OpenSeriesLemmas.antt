@@ -104,11 +104,10 @@ module _ (t : ServerData) (p : ChangeData) (entry : DocumentItem) (found : entry
 newer_yet : (a b c : ℤ) → int_le a b ≡ false → int_le b c ≡ false → int_le a c ≡ false
 newer_yet (pos a) (pos b) (pos c) over more = lt-leb a c (omega (arith, leb-false a b over, leb-false b c more))
 newer_yet (pos a) b (negsuc c) over more = refl
-newer_yet (pos a) (negsuc b) (pos c) over more = absurd (let wrong : true ≡ false = more in cc)
 newer_yet (negsuc a) (pos b) c over more = absurd (let wrong : true ≡ false = over in cc)
-newer_yet (negsuc a) (negsuc b) (pos c) over more = absurd (let wrong : true ≡ false = more in cc)
 newer_yet (negsuc a) (negsuc b) (negsuc c) over more =
     lt-leb c a (omega (arith, leb-false b a over, leb-false c b more))
+newer_yet _ (negsuc b) (pos c) over more = absurd (let wrong : true ≡ false = more in cc)
 
 newer_still : (lenient : Bool) (a b c : ℤ) → (not lenient && int_le a b) ≡ false → (not lenient && int_le b c) ≡ false
     → (not lenient && int_le a c) ≡ false

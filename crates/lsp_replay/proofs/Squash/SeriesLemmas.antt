@@ -197,24 +197,11 @@ module _ (s : Session) (r : Record) (t : Session) (rs : List Record)
       → by_changes series change verdict ≡ by_bytes (kept_of series) change verdict
   same series None bad opens = refl
   same series (Some p) bad opens = refl
-  same series None recorded opens = other series
-  same series (Some p) recorded opens = other series
   same series None (answered (reply m)) opens = other series
-  same series None (answered changed) opens = other series
-  same series None (answered dropped) opens = other series
-  same series None (answered ignored) opens = other series
-  same series None (answered (refused refusal)) opens = other series
-  same series None (answered (exits status)) opens = other series
-  same series None (answered already_ended) opens = other series
-  same series (Some p) (answered (reply m)) opens = other series
-  same series (Some p) (answered dropped) opens = other series
-  same series (Some p) (answered ignored) opens = other series
-  same series (Some p) (answered (refused refusal)) opens = other series
-  same series (Some p) (answered (exits status)) opens = other series
-  same series (Some p) (answered already_ended) opens = other series
   same series (Some p) (answered changed) opens =
       let found = opens p refl refl in
       accepted series p found.0 found.1
+  same series _ _ opens = other series
 
 -- ---- all records
 

@@ -16,36 +16,20 @@ change_end server p front bytes (Some series) =
 
 step_end : (server : ServerData) (r : Record) (front : List ℕ) (series : Option OpenSeries) (change : Option ChangeData)
     (v : Verdict) → (step_if server r front series change v).end ≡ (single server r front change v).end
-step_end server r front series None bad = refl
-step_end server r front series (Some p) bad = refl
-step_end server r front series None recorded = refl
-step_end server r front series (Some p) recorded = refl
 step_end server r front series None (answered (reply m)) = refl
-step_end server r front series None (answered changed) = refl
-step_end server r front series None (answered dropped) = refl
-step_end server r front series None (answered ignored) = refl
-step_end server r front series None (answered (refused refusal)) = refl
-step_end server r front series None (answered (exits status)) = refl
-step_end server r front series None (answered already_ended) = refl
-step_end server r front series (Some p) (answered (reply m)) = refl
-step_end server r front series (Some p) (answered dropped) = refl
-step_end server r front series (Some p) (answered ignored) = refl
-step_end server r front series (Some p) (answered (refused refusal)) = refl
-step_end server r front series (Some p) (answered (exits status)) = refl
-step_end server r front series (Some p) (answered already_ended) = refl
 step_end server r front series (Some p) (answered changed) =
     ⊎_elim (λ (long : nat_lt server.config.limits.max_body (length (canonical_change_body server p)) ≡ true). rw long
     refl)
     (λ (within : nat_lt server.config.limits.max_body (length (canonical_change_body server p)) ≡ false). rw within
     (change_end server p front _ series))
     (cases_Bool (nat_lt server.config.limits.max_body (length (canonical_change_body server p))))
+step_end server r front series _ _ = refl
 
 pub stop_on : (out bytes : List ℕ) (end also : Option (Result Outcome EngineFault)) (c d : RunOutput) → end ≡ also
     → c.stop ≡ d.stop → (followed_by out end c).stop ≡ (followed_by bytes also d).stop
 stop_on out bytes None None c d same stops = stops
-stop_on out bytes None (Some a) c d same stops = absurd (cc)
-stop_on out bytes (Some e) None c d same stops = absurd (cc)
 stop_on out bytes (Some e) (Some a) c d same stops = same
+stop_on out bytes _ _ c d same stops = absurd (cc)
 
 pub stops_in : (s : Session) (series : Option OpenSeries) (rs : List Record) → (squashed_in s series rs).stop
     ≡ (run_output_in normalising s rs).stop
@@ -58,9 +42,8 @@ stops_in s series (r ∷ rs) =
 outcome_on : (out bytes : List ℕ) (end also : Option (Result Outcome EngineFault)) (c d : RunOutput) → end ≡ also
     → c.outcome ≡ d.outcome → (followed_by out end c).outcome ≡ (followed_by bytes also d).outcome
 outcome_on out bytes None None c d same outcomes = outcomes
-outcome_on out bytes None (Some a) c d same outcomes = absurd (cc)
-outcome_on out bytes (Some e) None c d same outcomes = absurd (cc)
 outcome_on out bytes (Some e) (Some a) c d same outcomes = refl
+outcome_on out bytes _ _ c d same outcomes = absurd (cc)
 
 -- Its status and counts are those of `normalise`.
 pub outcome_in : (s : Session) (series : Option OpenSeries) (rs : List Record) → (squashed_in s series rs).outcome

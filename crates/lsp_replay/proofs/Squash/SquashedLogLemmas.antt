@@ -260,9 +260,8 @@ module _ (settings : Settings) (ranges : AreInRange settings.limits) (log : Log)
       (refl, alike_self s, refl) each goes
 
   not_due : (version : Version) (qs : List Record) → NonEmpty qs → is_line_due version qs ≡ false
-  not_due One qs some = refl
   not_due Two [] some = absurd some
-  not_due Two (q ∷ qs) some = refl
+  not_due _ _ some = refl
 
   line_is : (version : Version) (qs : List Record) → NonEmpty qs → first_line (is_line_due version []) qs
       ≡ line_of version

@@ -8,16 +8,9 @@ pub step_other : (server : ServerData) (r : Record) (front : List ℕ) (series :
     → step_if server r front series change verdict ≡ other_step r front series
 step_other server r front series change bad not_bad none = absurd (not_bad refl)
 step_other server r front series None recorded not_bad none = refl
-step_other server r front series (Some p) recorded not_bad none = refl
-step_other server r front series None (answered answer) not_bad none = refl
 step_other server r front series (Some p) (answered changed) not_bad none =
     absurd (let wrong : Some (canonical_change_body server p) ≡ None = none in cc)
-step_other server r front series (Some p) (answered (reply m)) not_bad none = refl
-step_other server r front series (Some p) (answered dropped) not_bad none = refl
-step_other server r front series (Some p) (answered ignored) not_bad none = refl
-step_other server r front series (Some p) (answered already_ended) not_bad none = refl
-step_other server r front series (Some p) (answered (refused why)) not_bad none = refl
-step_other server r front series (Some p) (answered (exits status)) not_bad none = refl
+step_other server r front series _ _ not_bad none = refl
 
 -- an accepted change
 pub step_changed : (server : ServerData) (r : Record) (front canonical : List ℕ) (series : Option OpenSeries)

@@ -41,10 +41,8 @@ written_end max_body r front other (Some body) = by (nat_lt max_body (length bod
 line_end : (server : ServerData) (c : Selection) (r : Record) (v : Verdict) → (single server (with_line c r) v).end
     ≡ (single server r v).end
 line_end server c r bad = refl
-line_end server c r recorded = written_end server.config.limits.max_body r (front_of (with_line c r).head)
-    (front_of r.head) (canonical_if server (change_in (incoming_of (reading r.body))) recorded)
-line_end server c r (answered a) = written_end server.config.limits.max_body r (front_of (with_line c r).head)
-    (front_of r.head) (canonical_if server (change_in (incoming_of (reading r.body))) (answered a))
+line_end server c r v = written_end server.config.limits.max_body r (front_of (with_line c r).head)
+    (front_of r.head) (canonical_if server (change_in (incoming_of (reading r.body))) v)
 
 -- ---- where the run ends
 
@@ -55,8 +53,7 @@ written_none max_body r front c e = ap (λ o. (written max_body r front o).end) 
 single_none : (server : ServerData) (r : Record) (v : Verdict) → v ≢ bad
     → canonical_if server (change_in (incoming_of (reading r.body))) v ≡ None → (single server r v).end ≡ None
 single_none server r bad not_bad none = absurd (not_bad refl)
-single_none server r recorded not_bad none = written_none server.config.limits.max_body r (front_of r.head) _ none
-single_none server r (answered a) not_bad none = written_none server.config.limits.max_body r (front_of r.head) _ none
+single_none server r _ not_bad none = written_none server.config.limits.max_body r (front_of r.head) _ none
 
 goes_on_after : (out : List ℕ) (end : Option (Result Outcome EngineFault)) (c : RunOutput) → end ≡ None
     → (followed_by out end c).stop ≡ c.stop
@@ -198,9 +195,8 @@ kept_due max_body version (r ∷ rs) s c before due each none =
 pub located_due : (version : Version) (at : ℕ) (rs : List Record) → is_line_due version (located_all at version rs)
     ≡ left_due (is_line_due version []) rs
 located_due One at [] = refl
-located_due One at (r ∷ rs) = refl
-located_due Two at [] = refl
 located_due Two at (r ∷ rs) = refl
+located_due _ at _ = refl
 
 -- ---- the same is written at other places
 
@@ -218,10 +214,8 @@ located_written max_body at r front (Some body) e = by (nat_lt max_body (length 
 located_single : (server : ServerData) (at : ℕ) (r : Record) (v : Verdict) → (single server r v).end ≡ None
     → single server (located at r) v ≡ single server r v
 located_single server at r bad e = absurd (let wrong : Some (Err (BadLog r.head.place)) ≡ None = e in cc)
-located_single server at r recorded e = located_written server.config.limits.max_body at r (front_of r.head)
-    (canonical_if server (change_in (incoming_of (reading r.body))) recorded) e
-located_single server at r (answered a) e = located_written server.config.limits.max_body at r (front_of r.head)
-    (canonical_if server (change_in (incoming_of (reading r.body))) (answered a)) e
+located_single server at r v e = located_written server.config.limits.max_body at r (front_of r.head)
+    (canonical_if server (change_in (incoming_of (reading r.body))) v) e
 
 pub each_located : (s : Session) (rs : List Record) (at : ℕ) (version : Version) → (run_output_in normalising s rs).stop
     ≡ None → run_output_in normalising s (located_all at version rs) ≡ run_output_in normalising s rs

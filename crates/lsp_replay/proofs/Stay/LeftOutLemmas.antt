@@ -91,20 +91,13 @@ module _ (server : ServerData) where
   idle Down (other_notification method) e = idle_notification Down method dropped refl refl refl
   idle Ended (other_notification method) e = wrong Ended (other_notification method) e
   idle phase not_json e = wrong phase not_json e
-  idle phase (not_a_message id) e = wrong phase (not_a_message id) e
-  idle phase (initialize id offers) e = wrong phase (initialize id offers) e
-  idle phase (shutdown id) e = wrong phase (shutdown id) e
-  idle phase exit e = wrong phase exit e
-  idle phase (did_open params) e = wrong phase (did_open params) e
-  idle phase (did_change params) e = wrong phase (did_change params) e
-  idle phase (did_close params) e = wrong phase (did_close params) e
+  idle phase m e = wrong phase m e
 
 early : (a b c : Bool) → c ≡ false → (a && b && c) ≡ false
 early a b true e = absurd (cc)
 early true true false e = refl
-early true false false e = refl
-early false true false e = refl
 early false false false e = refl
+early _ _ false e = refl
 
 expects_on : (b : Bool) (x y : Option IdData) → x ≡ y → (if b then x else y) ≡ y
 expects_on true x y e = e
@@ -154,14 +147,9 @@ module _ (s : Session) (version : Version) (m : IncomingData) (left_out : messag
 -- ---- a server's record
 
 no_result : (id : IdData) (body : Reading) → is_answer_to (Some id) body ≡ false → result_for id body ≡ None
-no_result id read.not_json e = refl
-no_result id (read.not_a_message other) e = refl
-no_result id (read.message (read.request other method params)) e = refl
-no_result id (read.message (read.notification method params)) e = refl
 no_result id (read.message (read.response None read.failed)) e = refl
-no_result id (read.message (read.response None (read.given result))) e = refl
-no_result id (read.message (read.response (Some other) read.failed)) e = refl
 no_result id (read.message (read.response (Some other) (read.given result))) e = rw e refl
+no_result id _ e = refl
 
 no_answer : (s : Session) (expected : Option IdData) (body : List ℕ) → is_answer_to expected (reading body) ≡ false
     → judge_server s (encoding_for expected (reading body)) ≡ judged recorded s
