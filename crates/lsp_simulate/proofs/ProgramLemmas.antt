@@ -1,7 +1,7 @@
 -- The command line is put together.
 use Rattle.lsp_simulate.proofs.Prelude.{◌≡◌, ◌∙◌, ◌++◌, ◌||◌, ap, refl, false, List, [], ◌∷◌, Result, Ok, Err, IfOk, codes, map, append_assoc, App, Rule, app_of, rule_of, AddsArg, with_rule, Choices, IsProgram, choice_rules, client_rules, flag_rules, server_rules}
 use Rattle.std.proofs.Math.Bool.{or-false}
-use Rattle.clap.specs.Words.{fields_of}
+use Rattle.clap.specs.declared.builder.command.Command.TheViews.{out-Command as fields_of}
 use Rattle.clap.specs.Simple.{on_top}
 use Rattle.clap.specs.declared.builder.arg.Arg.{Arg}
 use Rattle.clap.specs.declared.builder.command.Command.{Command}

@@ -1,7 +1,7 @@
 -- The command line is put together.
 use Rattle.lspsync.proofs.Prelude.{◌≡◌, ◌∙◌, ◌++◌, ◌||◌, ap, refl, false, List, [], ◌∷◌, Result, Ok, Err, IfOk, codes, map, append-nil, append_assoc, App, Rule, Text, app_of, rule_of, new_app, AddsArg, with_rule, with_subcommand, Choices, IsProgram, check_rules, compare_rules, detail_rules, encoding_rule, limit_rules, log_rule, logs_rule, part_rules, server_rules, writing_rules, Values}
 use Rattle.std.proofs.Math.Bool.{or-false}
-use Rattle.clap.specs.Words.{fields_of}
+use Rattle.clap.specs.declared.builder.command.Command.TheViews.{out-Command as fields_of}
 use Rattle.clap.specs.Simple.{on_top}
 use Rattle.clap.specs.declared.builder.arg.Arg.{Arg}
 use Rattle.clap.specs.declared.builder.command.Command.{Command}
