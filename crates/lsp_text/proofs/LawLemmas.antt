@@ -6,6 +6,7 @@ use Rattle.lsp_text.proofs.Positions.PlaceLemmas.{place_rises, place_order, plac
 use Rattle.lsp_text.proofs.TextLines.LineLemmas.{line_rises, line_has_start, in_content_line}
 use Rattle.lsp_text.proofs.TextLines.StartRowLemmas.{length-line_starts, start_at}
 use Rattle.lsp_text.proofs.Positions.ExactLemmas.{start_before}
+use Rattle.std.proofs.lemmas.Grind.{common_steps}
 
 pub rising_law : RisingLaw
 rising_law text j k before within = omega (arith, place_rises text j k (omega arith) within)
@@ -16,7 +17,7 @@ ends_law bytes utf8 = (refl, place_end (chars bytes) ∙ ap length (encodes-char
 pub boundary_law : BoundaryLaw
 boundary_law bytes place utf8 boundary =
     let found = index_at bytes place utf8 boundary in
-    let at = found.place_is in (found.index, grind (arith, common_steps, place_one))
+    (found.index, grind (arith, common_steps, place_one))
 
 -- The kept start of a line is the place of the line's start.
 start_place : (text : List ℕ) (line : ℕ) → line ≤ line_ends text → slice_index (start_places text) line
@@ -37,11 +38,9 @@ found_law text k line within found =
     let there : line ≤ line_ends text = omega (arith, count) in
     let start = line_has_start text line there in
     let low : line_start text line ≤ k =
-    place_order text (line_start text line) k (omega (arith, start.in_row))
-    (omega (arith, start_place text line there, found.at_most)) in
+    grind (arith, common_steps, place_order, (line_start text line), (start_place text line there)) in
     let rises : line_at text (line_start text line) ≤ line_at text k = line_rises text (line_start text line) k low in
-    let here : line_at text (line_start text line) ≡ line =
-    in_content_line text line (line_start text line) start.passes in
+    let here = in_content_line text line (line_start text line) start.passes in
     ⊎_elim
     (λ (h : line < line_at text k).
     let m = line_at text k in

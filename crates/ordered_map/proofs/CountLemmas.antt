@@ -1,6 +1,7 @@
 -- Counts of blocks, as slots change.
 use Rattle.ordered_map.proofs.Prelude.{◌≡◌, ◌≤◌, ◌<◌, ◌+◌, ◌-◌, ◌*◌, ◌/◌, ℕ, List, [], ◌∷◌, ◌++◌, length, set, min, slice_get, slice_index, Option, Some, None, arith, ⊎_elim, length-append, length-set, get_or-set_same, get_or-set_other, get_or_append_left, get_or_push, cases_eq, cases_lt, le-ltb, lt-ltb, slice_get_within, AreCounted, counted_last, live_to, somes, common_steps}
 use Rattle.ordered_map.proofs.SlotLemmas.{live_next, live_gap, live_past, live_rises, live_within, live_taken_after, live_taken_before, live_put_before, live_put_after, live_all}
+use Rattle.std.proofs.lemmas.Grind.{common_steps}
 
 module _ {X : Type 0} where
   -- a count fits among the items
@@ -53,9 +54,7 @@ module _ {X : Type 0} where
             (λ (same : block ≡ slot / 256).
             grind (arith, common_steps, get_or-set_same, live_taken_after, live_taken_before))
             (λ (other : block ≡ slot / 256 → ⊥).
-            let count : slice_index (set counts (slot / 256) (slice_index counts (slot / 256) - 1)) block
-            ≡ slice_index counts block
-            = get_or-set_other counts (slot / 256) block (slice_index counts (slot / 256) - 1) 0 other in
+            let count = get_or-set_other counts (slot / 256) block (slice_index counts (slot / 256) - 1) 0 other in
             ⊎_elim
             (λ (before : block < slot / 256).
             grind (arith, common_steps, live_taken_before))

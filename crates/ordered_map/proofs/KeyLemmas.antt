@@ -1,11 +1,12 @@
 -- Keys of slots, and the entries that they find.
-use Rattle.ordered_map.proofs.Prelude.{◌≡◌, ◌≤◌, ◌<◌, ◌+◌, ◌-◌, ℕ, zero, suc, Bool, true, false, List, [], ◌∷◌, ◌++◌, length, map, filter, set, slice_index_or as get_or, slice_get, position, is_some, option_map, Option, Some, None, String, string_bytes, string_eq, refl, sym, ap, ◌∙◌, subst, arith, true≢false, ⊎_elim, cases_Bool, cases_eq, cases_lt, get_or_push, length-map, length-set, length_push, map-append, map-set, set-append_left, set-get_or, position-Some, none-some, slice_get-get_or, slice_get_within, IsDistinct, swap_remove, keys_of, lookup, values_of, Global, is_key, slot_entry, IsOnly, has_key, vacated, with_value_in, common_steps}
+use Rattle.ordered_map.proofs.Prelude.{◌≡◌, ◌≤◌, ◌<◌, ◌+◌, ◌-◌, ℕ, zero, suc, Bool, true, false, List, [], ◌∷◌, ◌++◌, length, map, filter, set, slice_index_or as get_or, slice_get, position, is_some, option_map, Option, Some, None, String, string_bytes, string_eq, refl, sym, ap, ◌∙◌, arith, true≢false, ⊎_elim, cases_Bool, cases_eq, cases_lt, get_or_push, length-map, length-set, length_push, map-append, map-set, set-append_left, set-get_or, position-Some, none-some, slice_get-get_or, slice_get_within, IsDistinct, swap_remove, keys_of, lookup, values_of, Global, is_key, slot_entry, IsOnly, has_key, vacated, with_value_in, common_steps}
 use Rattle.std.proofs.Common.{IfSome}
 use Rattle.std.proofs.Math.Seq.{take-append_seam}
 use Rattle.std.proofs.lemmas.Map.Keys.{apart_from_distinct}
 use Rattle.std.specs.Cmp.Lexicographic.{nat_list_eq_equiv}
 use Rattle.indexmap.specs.IndexMap.{set_value_at}
 use Rattle.ordered_map.proofs.PositionLemmas.{none_within, position_is, position_none}
+use Rattle.std.proofs.lemmas.Grind.{common_steps}
 
 -- the last item takes the place of another
 swap_removed : {X : Type 0} (slots : List X) (slot : ℕ) (last default : X) → slot < length slots
@@ -175,7 +176,6 @@ module _ {V : Type 0} where
       → out ≡ slice_get pushed slot → IfSome out (λ last. after ≡ swap_remove pushed slot last)
       → after ≡ set slots slot (text, None)
   replaced slots pushed after slot text None within put out removed =
-      let longer : length pushed ≡ length slots + 1 = ap length put ∙ length_push slots (text, None) in
       absurd (none-some (get_or pushed slot (text, None)) (grind (arith, common_steps, slice_get-get_or)))
   replaced slots pushed after slot text (Some last) within put out removed =
       removed ∙ (ap (λ items. swap_remove items slot last) put ∙ swap_removed slots slot (text, None) last within)
@@ -213,8 +213,7 @@ module _ {V : Type 0} where
         grind (arith, common_steps, string_bytes, key_at, key_fails, cases_Bool, nat_list_eq_equiv.congr) in
         ⊎_elim
         (λ (same : other ≡ slot).
-        let put : content ≡ (text, None) = set_here slots slot (text, None) content
-        (subst (λ n. slice_get (set slots slot (text, None)) n ≡ Some content) same at) in
+        let put : content ≡ (text, None) = grind (arith, common_steps, set_here, slice_get) in
         ap (λ (pair : String Global × Option V). is_key bytes pair.0) put ∙ unlike)
         (λ (differ : other ≡ slot → ⊥).
         ⊎_elim

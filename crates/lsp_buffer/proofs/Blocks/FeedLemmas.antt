@@ -2,6 +2,7 @@
 use Rattle.lsp_buffer.proofs.Prelude.{ℕ, zero, suc, ◌≡◌, ◌+◌, ◌-◌, ◌<◌, ◌≤◌, true, List, [], ◌∷◌, ◌++◌, length, take, drop, get_or, slice_index, sum_by, ⊎_elim, refl, ap, ◌∙◌, arith, encode_utf8_all, chars, IsUtf8, encode, cases_lt, length-append, get_or-append_right, append-nil, encodes-chars, encode_ascii, length-encode, len_utf8_bounds, place_of, starts_line, line_at, line_ends, line_start, line_feed, IsPlace, units_between, line_rises, splits_none_past, in_content_line, line_has_start, place_end, head_of, common_steps}
 use Rattle.lsp_text.proofs.TextLines.StartLemmas.{AllHigh, encode_high}
 use Rattle.lsp_buffer.proofs.Blocks.SeamLemmas.{head}
+use Rattle.std.proofs.lemmas.Grind.{common_steps}
 
 -- The last one is a line feed.
 record EndsLine (bytes : List ℕ) : Type 0 where
@@ -40,8 +41,7 @@ empty_line units text feed =
     let ends : starts_line text (suc (length text - 1)) ≡ true = rw feed.feed refl in
     let last : line_at text (suc (length text - 1)) ≡ suc (line_at text (length text - 1)) = rw ends refl in
     let start = line_has_start text (line_ends text) (omega arith) in
-    let at : line_at text (line_start text (line_ends text)) ≡ line_ends text =
-    in_content_line text (line_ends text) (line_start text (line_ends text)) start.passes in
+    let at = in_content_line text (line_ends text) (line_start text (line_ends text)) start.passes in
     let end : line_start text (line_ends text) ≡ length text =
     ⊎_elim
     (λ (h : line_start text (line_ends text) < length text).

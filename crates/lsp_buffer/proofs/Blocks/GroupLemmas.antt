@@ -1,6 +1,7 @@
 -- Groups of blocks.
 use Rattle.lsp_buffer.proofs.Prelude.{ℕ, ◌≡◌, ◌+◌, ◌-◌, ◌*◌, ◌/◌, ◌<◌, ◌≤◌, ◌⊎◌, List, [], ◌∷◌, ◌++◌, length, take, drop, set, ⊎_elim, inl, inr, sym, ap, ◌∙◌, arith, subst, concat, cases_lt, drop-set-add, drop-set-lt, drop-take, get_or-append_right, get_or-set_other, get_or-set_same, get_or-take, get_or_append_left, length-append, length-set, length-take, length-take-le, take-append-le, take-set-le, take-take, Counts, AreBlocks, AreGroups, counts_of, AreFull, common_steps}
 use Rattle.lsp_buffer.proofs.Blocks.CountLemmas.{some_full, some_low}
+use Rattle.std.proofs.lemmas.Grind.{common_steps}
 
 -- One group more.
 pub groups_more : (blocks : List (List ℕ)) (groups now : List Counts) (counts : Counts) → AreGroups blocks groups
@@ -13,8 +14,7 @@ groups_more blocks groups now counts are more is now_is =
       within = omega (arith, more, length-append groups (counts ∷ []));
       counts = λ g h.
           ⊎_elim
-          (λ (earlier : g < length groups). get_or_append_left groups (counts ∷ []) (counts_of []) g earlier
-          ∙ are.counts g earlier)
+          (λ (earlier : g < length groups). grind (arith, common_steps, get_or_append_left, counts_of))
           (λ (later : length groups ≤ g).
           grind (arith, common_steps, length-append, get_or-append_right))
           (cases_lt g (length groups));
@@ -71,17 +71,11 @@ module _ (blocks : List (List ℕ)) (groups : List Counts) (index : ℕ) (block 
       (record {
         within = omega (arith, are.within, length-set blocks index block, length-set groups group counts);
         counts = λ g h.
-            let inside : g < length groups = omega (arith, h, length-set groups group counts) in
             ⊎_elim
             (λ (less : g < group).
             grind (arith, common_steps, get_or-set_other, same_group, inl))
             (λ (least : group ≤ g).
-            ⊎_elim
-            (λ (more : group < g).
-            grind (arith, common_steps, get_or-set_other, same_group, inr))
-            (λ (most : g ≤ group).
-            grind (arith, common_steps, get_or-set_same))
-            (cases_lt group g))
+            grind (arith, common_steps, get_or-set_other, same_group, inr, get_or-set_same, (cases_lt group g)))
             (cases_lt g group);
       })
 
@@ -103,6 +97,5 @@ groups_front blocks more groups now first are within some now_is =
         ≡ take 32 (drop from (take first blocks ++ more))
     front_same from h =
         sym (drop-take from 32 blocks) ∙
-        (ap (drop from) (sym (take-take (from + 32) first blocks h) ∙
-        sym (take-append-le (from + 32) (take first blocks) more (omega (arith, h, front_length)))) ∙
+        (ap (drop from) (grind (arith, common_steps, take-take, take-append-le, front_length)) ∙
         drop-take from 32 (take first blocks ++ more))

@@ -4,6 +4,7 @@ use Rattle.lsp_buffer.proofs.Prelude.{ℕ, zero, suc, ◌≡◌, ◌+◌, ◌-�
 use Rattle.lsp_text.proofs.Positions.NearLemmas.{exact_near}
 use Rattle.lsp_buffer.proofs.Blocks.SeamLemmas.{head, denoted_left, denoted_last, denoted_right, exact_right, head_right, seam_splits, beyond_splits}
 use Rattle.lsp_buffer.proofs.Blocks.BlockLemmas.{clear_chars, chars_close}
+use Rattle.std.proofs.lemmas.Grind.{common_steps}
 
 pub carried_none : (line : ℕ) → carried line 0 ≡ 0
 carried_none zero = refl
@@ -73,8 +74,7 @@ module _ (bytes front block rest : List ℕ) (are : AreThree bytes front block r
   c = chars rest
 
   chars_are : chars bytes ≡ chars front ++ (chars block ++ chars rest)
-  chars_are = ap chars are.whole ∙ (chars-append front (block ++ rest) are.front_utf8 ∙ ap (λ cs. chars front ++ cs)
-      (chars-append block rest are.block_utf8))
+  chars_are = ap chars are.whole ∙ (grind (arith, common_steps, chars-append))
 
   closes_chars : Closes (chars front)
   closes_chars = chars_close front are.front_utf8 are.closes
@@ -160,14 +160,7 @@ module _ (bytes front block rest : List ℕ) (are : AreThree bytes front block r
 
       placed : place ≡ length front + place_of (chars block ++ chars rest) j
       placed =
-          sym at ∙ (ap (place_of (chars bytes)) back ∙ (grind (
-            arith,
-            common_steps,
-            chars_are,
-            place_after,
-            closes_chars,
-            front_len,
-          )))
+          sym at ∙ (ap (place_of (chars bytes)) back ∙ (grind (arith, common_steps, chars_are, place_after, closes_chars, front_len)))
 
       block_end : place_of (chars block ++ chars rest) (length (chars block)) ≡ length block
       block_end = place_before (chars block) (chars rest) (length (chars block)) (omega arith)
@@ -190,8 +183,7 @@ module _ (bytes front block rest : List ℕ) (are : AreThree bytes front block r
       ◌≡◌ {A = Position} (exact_position units (chars bytes) index)
       (position_from (line_ends (chars front)) (head units (chars front)) (exact_position units (chars block) is.inner))
   exact_three units place index is whole =
-      let tail : length (chars block ++ chars rest) ≡ length (chars block) + length (chars rest) =
-      length-append (chars block) (chars rest) in
+      let tail = length-append (chars block) (chars rest) in
       let same : exact_position units (chars block ++ chars rest) is.inner ≡ exact_position units (chars block)
       is.inner =
       grind (arith, common_steps, exact_near, take-append-le, splits_before, seam_chars) in
@@ -215,8 +207,7 @@ module _ (bytes front block rest : List ℕ) (are : AreThree bytes front block r
   pub place_outer : (inner : ℕ) → IsPlace (chars block) inner → IsPlace (chars bytes) (length front + inner)
   place_outer inner at =
       let j = at.0 in
-      let tail : length (chars block ++ chars rest) ≡ length (chars block) + length (chars rest) =
-      length-append (chars block) (chars rest) in
+      let tail = length-append (chars block) (chars rest) in
       let size : length (chars bytes) ≡ length (chars front) + length (chars block ++ chars rest) =
       ap length chars_are ∙ length-append (chars front) (chars block ++ chars rest) in (
         length (chars front) + j,

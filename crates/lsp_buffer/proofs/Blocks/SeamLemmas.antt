@@ -1,12 +1,13 @@
 -- Two texts, one after the other, the first of which ends with no carriage return: the lines and positions of both by
 -- those of each.
-use Rattle.lsp_buffer.proofs.Prelude.{ℕ, zero, suc, ◌≡◌, ◌+◌, ◌-◌, ◌<◌, ◌≤◌, ◌==◌, Bool, true, false, cond, List, [], ◌∷◌, ◌++◌, length, take, drop, map, get_or, slice_index, filter, find, sum_by, nat_le, Option, Some, None, option_map, ⊎_elim, refl, sym, ap, ◌∙◌, arith, subst, le-ltb, lt-ltb, eqb-true, cases_Bool, cases_lt, lt-leb, false_from_ne_true, length-append, length-drop, get_or-append_right, get_or_append_left, take-append-le, drop-append-le, append-nil, take_all, drop-append-add, take-append-add, Position, starts_line, splits_crlf, line_at, line_ends, numbers_from, is_in_content, line_content, line_start, line_stop, units_between, exact_position, denoted, line_rises, splits_none_past, in_content_line, line_has_start, line_has_stop, IsStart, IsStop, last_stop, EndsClear, carried, common_steps}
+use Rattle.lsp_buffer.proofs.Prelude.{ℕ, zero, suc, ◌≡◌, ◌+◌, ◌-◌, ◌<◌, ◌≤◌, ◌==◌, Bool, true, false, cond, List, [], ◌∷◌, ◌++◌, length, drop, map, get_or, slice_index, filter, find, sum_by, nat_le, Option, Some, None, option_map, ⊎_elim, refl, sym, ap, ◌∙◌, arith, subst, le-ltb, lt-ltb, eqb-true, cases_Bool, cases_lt, lt-leb, false_from_ne_true, length-append, length-drop, get_or-append_right, get_or_append_left, take-append-le, drop-append-le, append-nil, take_all, drop-append-add, take-append-add, Position, starts_line, splits_crlf, line_at, line_ends, numbers_from, is_in_content, line_content, line_start, line_stop, units_between, exact_position, denoted, line_rises, splits_none_past, in_content_line, line_has_start, line_has_stop, IsStart, IsStop, last_stop, EndsClear, carried, common_steps}
 use Rattle.std.proofs.lemmas.Bool.Decides.{nat_tests}
 use Rattle.std.proofs.lemmas.List.Elements.{filter-append}
 use Rattle.std.proofs.lemmas.List.Sums.{sum_by-append}
 use Rattle.lsp_text.proofs.TextLines.StartRowLemmas.{first_starts}
 use Rattle.lsp_text.proofs.Counting.UnitLemmas.{units_rise}
 use Rattle.lsp_text.proofs.TextLines.SpliceLemmas.{filter_moved}
+use Rattle.std.proofs.lemmas.Grind.{common_steps}
 
 -- Rows of numbers.
 numbers_split : (first m n : ℕ) → numbers_from first (m + n) ≡ numbers_from first m ++ numbers_from (first + m) n
@@ -59,11 +60,9 @@ find_after : (wanted test : ℕ → Bool) (low n : ℕ) (ys : List ℕ) → ((k 
     → wanted k ≡ false) → find wanted (filter test (numbers_from low n) ++ ys) ≡ find wanted ys
 find_after wanted test low zero ys none = refl
 find_after wanted test low (suc n) ys none =
-    let later : find wanted (filter test (numbers_from (suc low) n) ++ ys) ≡ find wanted ys =
-    find_after wanted test (suc low) n ys (λ k o w. none k (omega arith) (omega arith)) in
+    let later = find_after wanted test (suc low) n ys (λ k o w. none k (omega arith) (omega arith)) in
     ⊎_elim
-    (λ (e : test low ≡ true). let fails : wanted low ≡ false = none low (omega arith) (omega arith) e in
-    rw (e, fails) later)
+    (λ (e : test low ≡ true). grind (arith, common_steps))
     (λ (e : test low ≡ false). rw e later)
     (cases_Bool (test low))
 
@@ -93,18 +92,12 @@ module _ (a b : List ℕ) (clear : EndsClear a) where
   seam_ends : (k : ℕ) → k ≤ length a → starts_line (a ++ b) k ≡ starts_line a k
   seam_ends zero h = refl
   seam_ends (suc k) h =
-      ⊎_elim
-      (λ (g : suc k < length a). rw (left_at a b k (omega arith), left_at a b (suc k) g) refl)
-      (λ (g : length a ≤ suc k). rw (left_at a b k (omega arith), last_at k (omega arith)) refl)
-      (cases_lt (suc k) (length a))
+      grind (arith, common_steps, left_at, last_at, (cases_lt (suc k) (length a)))
 
   pub seam_splits : (k : ℕ) → k ≤ length a → splits_crlf (a ++ b) k ≡ splits_crlf a k
   seam_splits zero h = refl
   seam_splits (suc k) h =
-      ⊎_elim
-      (λ (g : suc k < length a). rw (left_at a b k (omega arith), left_at a b (suc k) g) refl)
-      (λ (g : length a ≤ suc k). rw (left_at a b k (omega arith), last_at k (omega arith)) refl)
-      (cases_lt (suc k) (length a))
+      grind (arith, common_steps, left_at, last_at, (cases_lt (suc k) (length a)))
 
   pub seam_line : (k : ℕ) → k ≤ length a → line_at (a ++ b) k ≡ line_at a k
   seam_line zero h = refl
@@ -173,30 +166,23 @@ module _ (a b : List ℕ) (clear : EndsClear a) where
 
   pub start_left : (line : ℕ) → line ≤ line_ends a → line_start (a ++ b) line ≡ line_start a line
   start_left line h =
-      let one : IsStart (a ++ b) line (line_start (a ++ b) line) =
-      line_has_start (a ++ b) line (omega (arith, seam_count)) in
+      let one = line_has_start (a ++ b) line (omega (arith, seam_count)) in
       let two : IsStart a line (line_start a line) = line_has_start a line (omega arith) in
       let within : line_start a line ≤ length a = omega (arith, two.in_row) in
-      let low : line_start (a ++ b) line ≤ line_start a line =
-      one.least (line_start a line) (omega arith) (content_left line (line_start a line) within ∙ two.passes) in
+      let low = one.least (line_start a line) (omega arith) (content_left line (line_start a line) within ∙ two.passes) in
       let high : line_start a line ≤ line_start (a ++ b) line =
-      two.least (line_start (a ++ b) line) (omega arith)
-      (sym (content_left line (line_start (a ++ b) line) (omega arith)) ∙ one.passes) in
+      grind (arith, common_steps, line_start, content_left) in
       omega arith
 
   pub stop_left : (line : ℕ) → line < line_ends a → line_stop (a ++ b) line ≡ line_stop a line
   stop_left line h =
-      let one : IsStop (a ++ b) line (line_stop (a ++ b) line) =
-      line_has_stop (a ++ b) line (omega (arith, seam_count)) in
+      let one = line_has_stop (a ++ b) line (omega (arith, seam_count)) in
       let two : IsStop a line (line_stop a line) = line_has_stop a line (omega arith) in
       let within : line_stop a line ≤ length a = omega (arith, two.in_row) in
       let one_within : line_stop (a ++ b) line ≤ length a = inside line (line_stop (a ++ b) line) h one.passes in
-      let low : line_stop a line ≤ line_stop (a ++ b) line =
-      one.greatest (line_stop a line) (omega (arith, length-append a b)) (content_left line (line_stop a line) within
-      ∙ two.passes) in
+      let low = one.greatest (line_stop a line) (omega (arith, length-append a b)) (grind (arith, common_steps, content_left, line_stop)) in
       let high : line_stop (a ++ b) line ≤ line_stop a line =
-      two.greatest (line_stop (a ++ b) line) (omega arith) (sym (content_left line (line_stop (a ++ b) line) one_within)
-      ∙ one.passes) in
+      grind (arith, common_steps, line_stop, content_left) in
       omega arith
 
   -- A line of the second is moved, except that its first line goes on with the last of the first.
@@ -211,8 +197,7 @@ module _ (a b : List ℕ) (clear : EndsClear a) where
       let back : length a + (s - length a) ≡ s = omega arith in
       let here : is_in_content b line (s - length a) ≡ true = sym (content_right line (s - length a))
       ∙ (ap (is_in_content (a ++ b) (line_ends a + line)) back ∙ one.passes) in
-      let low : s ≤ length a + line_start b line =
-      one.least (length a + line_start b line) (omega arith) (content_right line (line_start b line) ∙ two.passes) in
+      let low = one.least (length a + line_start b line) (omega arith) (content_right line (line_start b line) ∙ two.passes) in
       let high : line_start b line ≤ s - length a = two.least (s - length a) (omega arith) here in
       omega arith
 
@@ -224,13 +209,11 @@ module _ (a b : List ℕ) (clear : EndsClear a) where
       let two : IsStop b line (line_stop b line) = line_has_stop b line h in
       let s : ℕ = line_stop (a ++ b) (line_ends a + line) in
       let low : length a + line_stop b line ≤ s =
-      one.greatest (length a + line_stop b line) (omega (arith, two.in_row, length-append a b))
-      (content_right line (line_stop b line) ∙ two.passes) in
+      grind (arith, common_steps, (line_stop b line), (length-append a b), (content_right line (line_stop b line))) in
       let back : length a + (s - length a) ≡ s = omega arith in
       let here : is_in_content b line (s - length a) ≡ true = sym (content_right line (s - length a))
       ∙ (ap (is_in_content (a ++ b) (line_ends a + line)) back ∙ one.passes) in
-      let high : s - length a ≤ line_stop b line =
-      two.greatest (s - length a) (omega (arith, one.in_row, length-append a b)) here in
+      let high = two.greatest (s - length a) (omega (arith, one.in_row, length-append a b)) here in
       omega arith
 
   -- The contents as rows.
@@ -238,8 +221,7 @@ module _ (a b : List ℕ) (clear : EndsClear a) where
       (numbers_from 0 (length a))
   content_row_left line h =
       let size : suc (length (a ++ b)) ≡ length a + suc (length b) = omega (arith, length-append a b) in
-      let later : filter (is_in_content (a ++ b) line) (numbers_from (0 + length a) (suc (length b))) ≡ [] =
-      none_pass (is_in_content (a ++ b) line) (0 + length a) (suc (length b)) (λ k o w. not_there k (omega arith)) in
+      let later = none_pass (is_in_content (a ++ b) line) (0 + length a) (suc (length b)) (λ k o w. not_there k (omega arith)) in
       ap (λ n. filter (is_in_content (a ++ b) line) (numbers_from 0 n)) size ∙
       (grind (arith, common_steps, numbers_split, filter-append, append-nil, same_pass, content_left))
     where
@@ -260,8 +242,6 @@ module _ (a b : List ℕ) (clear : EndsClear a) where
       (numbers_from 0 (length a))
   row_left line h =
       let size : suc (length a) ≡ length a + 1 = omega arith in
-      let later : filter (is_in_content a line) (numbers_from (0 + length a) 1) ≡ [] =
-      none_pass (is_in_content a line) (0 + length a) 1 (λ k o w. not_there k (omega arith)) in
       ap (λ n. filter (is_in_content a line) (numbers_from 0 n)) size ∙
       (grind (arith, common_steps, numbers_split, filter-append, append-nil))
     where
@@ -294,8 +274,7 @@ module _ (a b : List ℕ) (clear : EndsClear a) where
   row_last =
       let size : suc (length a) ≡ length a + 1 = omega arith in
       ap (λ n. filter (is_in_content a (line_ends a)) (numbers_from 0 n)) size ∙
-      (ap (filter (is_in_content a (line_ends a))) (numbers_split 0 (length a) 1) ∙
-      filter-append (is_in_content a (line_ends a)) (numbers_from 0 (length a)) (numbers_from (0 + length a) 1))
+      (grind (arith, common_steps, is_in_content, line_ends, numbers_split, filter-append, numbers_from))
 
   -- Units.
   pub units_left : (units : ℕ → ℕ) (i k : ℕ) → i ≤ length a → k ≤ length a → units_between units (a ++ b) i k
@@ -313,12 +292,10 @@ module _ (a b : List ℕ) (clear : EndsClear a) where
   units_line units zero k h =
       let start = line_start a (line_ends a) in
       let within : start ≤ length a = omega (arith, (line_has_start a (line_ends a) (omega arith)).in_row) in
-      let first : line_start (a ++ b) (line_ends a + 0) ≡ start = ap (line_start (a ++ b)) (omega arith)
-      ∙ start_left (line_ends a) (omega arith) in
+      let first : line_start (a ++ b) (line_ends a + 0) ≡ start = grind (arith, common_steps, start_left, (line_start (a ++ b)), (line_ends a)) in
       let part : drop start (a ++ b) ≡ drop start a ++ b = drop-append-le start a b within in
       let count : length a + k - start ≡ length (drop start a) + k = omega (arith, length-drop start a, within) in
-      let all : take (length a - start) (drop start a) ≡ drop start a =
-      take_all (length a - start) (drop start a) (omega (arith, length-drop start a)) in
+      let all = take_all (length a - start) (drop start a) (omega (arith, length-drop start a)) in
       let zero_is : line_start b 0 ≡ 0 = first_starts b in
       let whole : k - 0 ≡ k = omega arith in
       ap (λ s. units_between units (a ++ b) s (length a + k)) first ∙
@@ -339,16 +316,14 @@ module _ (a b : List ℕ) (clear : EndsClear a) where
   units_before units some zero k h there =
       let start = line_start a (line_ends a) in
       let zero_is : line_ends a + 0 ≡ line_ends a = omega arith in
-      let here : is_in_content a (line_ends a) k ≡ true = sym (content_left (line_ends a) k (omega arith))
-      ∙ (ap (λ l. is_in_content (a ++ b) l k) (sym zero_is) ∙ there) in
+      let here : is_in_content a (line_ends a) k ≡ true = grind (arith, common_steps, content_left, line_ends, is_in_content, zero_is) in
       let begins : start ≤ k = (line_has_start a (line_ends a) (omega arith)).least k (omega arith) here in
       let first : line_start (a ++ b) (line_ends a + 0) ≡ start =
       ap (line_start (a ++ b)) zero_is ∙ start_left (line_ends a) (omega arith) in
       let same : units_between units (a ++ b) (line_start (a ++ b) (line_ends a + 0)) k ≡ units_between units a start
       k =
       ap (λ s. units_between units (a ++ b) s k) first ∙ units_left units start k (omega arith) (omega arith) in
-      let rise : units_between units a start k < units_between units a start (length a) =
-      units_rise units some a start k (length a) begins h (omega arith) in
+      let rise = units_rise units some a start k (length a) begins h (omega arith) in
       omega (arith, same, rise)
 
   -- What a position denotes.
@@ -424,10 +399,8 @@ module _ (a b : List ℕ) (clear : EndsClear a) where
           ++ map (λ k. length a + k) (line_content b 0)) zero_is (row_right 0) in
           let own : line_content a p.line ≡ filter (is_in_content a p.line) (numbers_from 0 (length a))
           ++ filter (is_in_content a p.line) (numbers_from (0 + length a) 1) =
-          subst (λ l. line_content a l ≡ filter (is_in_content a l) (numbers_from 0 (length a))
-          ++ filter (is_in_content a l) (numbers_from (0 + length a) 1)) (sym there) row_last in
-          let end_fails : o (0 + length a) ≡ false = ap o (let z : 0 + length a ≡ length a = omega arith in z)
-          ∙ fails_last in
+          grind (arith, common_steps, line_content, is_in_content, numbers_from, row_last) in
+          let end_fails : o (0 + length a) ≡ false = grind (arith, common_steps, fails_last) in
           let none : find o (filter (is_in_content a p.line) (numbers_from (0 + length a) 1)) ≡ None =
           grind (arith, common_steps, cases_Bool) in
           ap (find w) row ∙
@@ -470,8 +443,7 @@ module _ (a b : List ℕ) (clear : EndsClear a) where
           (λ k l g there.
           grind (arith, common_steps, false_from_ne_true, eqb-true, units_before)) ∙
           find_moved (length a) w o (line_content b line)
-          (λ k. ap (λ u. u == carried line (head units a) + character) (units_line units line k h)
-          ∙ same_test (carried line (head units a)) (units_between units b (line_start b line) k) character))
+          (λ k. grind (arith, common_steps, units_line, same_test, units_between, line_start)))
 
       choose : (t : Bool) (stop : ℕ) (found : Option ℕ)
           → cond t (Some (length a + stop)) (option_map (λ k. length a + k) found) ≡ option_map (λ k. length a + k)

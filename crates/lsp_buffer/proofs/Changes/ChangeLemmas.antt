@@ -5,6 +5,7 @@ use Rattle.lsp_buffer.proofs.Blocks.CutLemmas.{concat_more}
 use Rattle.lsp_buffer.proofs.Blocks.GroupLemmas.{groups_front}
 use Rattle.lsp_buffer.proofs.Blocks.PartLemmas.{take_three, drop_three, boundary_in}
 use Rattle.lsp_buffer.proofs.Queries.FoundLemmas.{IsPlaceFound, chunk_boundary, found_place, part_here}
+use Rattle.std.proofs.lemmas.Grind.{common_steps}
 
 -- What a change makes of a text in parts: the front of the first block, the new text, and the back of the last.
 pub replaced_parts : (bytes front block rest front' block' rest' new : List ℕ) (start stop from from' : ℕ)
@@ -26,9 +27,7 @@ replaced_parts bytes front block rest front' block' rest' new start stop from fr
     let regroup : front ++ ((take n block ++ (new ++ drop m block')) ++ rest') ≡ (front ++ take n block) ++ new
     ++ (drop m block' ++ rest') = simp append_assoc in
     ap (λ k. front ++ ((take (start - k) block ++ (new ++ drop (stop - from') block')) ++ rest')) one.from_is ∙
-    (ap (λ k. front ++ ((take n block ++ (new ++ drop (stop - k) block')) ++ rest')) two.from_is ∙
-    (regroup ∙ (ap (λ h. h ++ new ++ (drop m block' ++ rest')) (sym head) ∙ ap (λ t. take start bytes ++ new ++ t)
-    (sym tail))))
+    (grind (arith, common_steps))
 
 -- The back of a block ends as the block does, and so does what ends with it.
 pub back_ends : (block front : List ℕ) (n : ℕ) → n < length block → EndsClear block → EndsClear (front ++ drop n block)
@@ -37,13 +36,7 @@ back_ends block front n h feed = grind (arith, common_steps, ends_join, ends_tai
 -- How long a changed text is.
 pub replaced_length : (bytes new : List ℕ) (start stop : ℕ) → start ≤ stop → stop ≤ length bytes
     → length (replace_range bytes start stop new) ≡ length bytes - (stop - start) + length new
-replaced_length bytes new start stop order within = grind (
-  arith,
-  common_steps,
-  length-append,
-  length-take-le,
-  length-drop,
-)
+replaced_length bytes new start stop order within = grind (arith, common_steps, length-append, length-take-le, length-drop)
 
 -- ---- the range of a change
 
@@ -207,12 +200,7 @@ module _ (blocks : List (List ℕ)) (range : BlockRange) (new : List ℕ) (chang
   last_full : range.last + 1 < length blocks → IsFull (get_or blocks range.last [])
   last_full more =
       ⊎_elim
-      (λ (e : drop (range.last + 1) blocks ≡ []). absurd (omega (
-        arith,
-        more,
-        ap length e,
-        length-drop (range.last + 1) blocks,
-      )))
+      (λ (e : drop (range.last + 1) blocks ≡ []). grind (arith, common_steps, length-drop))
       (λ (e : IsFull (get_or blocks range.last []) × AreBlocks (drop (range.last + 1) blocks)). e.0)
       last_split.after
 
@@ -235,8 +223,7 @@ module _ (blocks : List (List ℕ)) (range : BlockRange) (new : List ℕ) (chang
   taken_alone text past utf8 text_is past_is never = record {
     order = omega (arith, past_is, change.order);
     within = omega (arith, past_is, change.within);
-    whole = ap (λ t. concat (take range.first blocks) ++ (t ++ concat (drop past blocks))) text_is
-        ∙ ap (λ p. concat (take range.first blocks) ++ (text_left blocks range new ++ concat (drop p blocks))) past_is;
+    whole = grind (arith, common_steps, text_left);
     full = grind (arith, common_steps, left_full);
   }
 
@@ -265,9 +252,7 @@ module _ (blocks : List (List ℕ)) (range : BlockRange) (new : List ℕ) (chang
     where
       rest_is : concat (drop past blocks) ≡ next ++ concat (drop (past + 1) blocks)
       rest_is =
-          ap concat (drop-cons blocks past next within) ∙
-          (ap (λ b. b ++ concat (drop (suc past) blocks)) (sym next_is)
-          ∙ ap (λ n. next ++ concat (drop n blocks)) (let e : suc past ≡ past + 1 = omega arith in e))
+          grind (arith, common_steps, drop-cons)
 
   -- The blocks that the text is cut into.
   module _ (text : List ℕ) (past : ℕ) (fresh : List (List ℕ)) (taken : IsTaken blocks range new text past)
@@ -283,8 +268,7 @@ module _ (blocks : List (List ℕ)) (range : BlockRange) (new : List ℕ) (chang
         → AreGroups next now
     cut_groups next groups now next_is groups_are now_is =
         subst (λ (bs : List (List ℕ)). AreGroups bs now) (sym next_is)
-        (groups_front blocks (fresh ++ drop past blocks) groups now range.first groups_are (omega (arith, first_within))
-        (omega (arith, blocks_some fresh fresh_are, length-append fresh (drop past blocks))) now_is)
+        (grind (arith, common_steps, groups_front, first_within, blocks_some, length-append))
 
     pub cut_is : (next : List (List ℕ)) (groups now : List Counts) → next ≡ take range.first blocks
         ++ (fresh ++ drop past blocks) → AreGroups blocks groups → now ≡ take (range.first / 32) groups

@@ -7,6 +7,7 @@ use Rattle.std.specs.declared.ops.Range.{Range}
 use Rattle.lsp_text.proofs.Positions.PastLemmas.{past_line}
 use Rattle.lsp_buffer.specs.Contents.{IsContentOf}
 use Rattle.lsp_buffer.proofs.Queries.FoundLemmas.{units_some}
+use Rattle.std.proofs.lemmas.Grind.{common_steps}
 
 no_units : (units : ℕ → ℕ) (text : List ℕ) (k : ℕ) → units_between units text k k ≡ 0
 no_units units text k = ap (λ n. sum_by units (take n (drop k text))) (let e : k - k ≡ 0 = omega arith in e)
@@ -16,12 +17,10 @@ pub first_denotes : (text : List ℕ) (line : ℕ) → line ≤ line_ends text
     → denoted (units_in Utf8) text (record { line = line; character = 0 }) ≡ Some (line_start text line)
 first_denotes text line there =
     let start = line_has_start text line there in
-    let here : line_at text (line_start text line) ≡ line =
-    in_content_line text line (line_start text line) start.passes in
+    let here = in_content_line text line (line_start text line) start.passes in
     let none : units_between (units_in Utf8) text (line_start text (line_at text (line_start text line)))
     (line_start text line) ≡ 0 =
-    ap (λ n. units_between (units_in Utf8) text (line_start text n) (line_start text line)) here
-    ∙ no_units (units_in Utf8) text (line_start text line) in
+    grind (arith, common_steps, units_between, units_in, line_start, no_units) in
     let same : ◌≡◌ {A = Position} (exact_position (units_in Utf8) text (line_start text line))
     (record { line = line; character = 0 }) =
     λ i. record { line = here i; character = none i } in

@@ -1,6 +1,7 @@
 -- The bytes of a text from one on, which are copied chunk by chunk.
 use Rattle.lsp_buffer.proofs.Prelude.{ℕ, ◌≡◌, ◌+◌, ◌-◌, ◌≤◌, List, ◌++◌, length, take, drop, min, sym, ap, ◌∙◌, arith, append_assoc, drop-append-le, drop-drop, drop_at, length-append, length-drop, length-take, length-take-le, take-append-drop, take-take, take_at, take-add, common_steps}
 use borrow.Rule.Slice.PartMut.{put_mid}
+use Rattle.std.proofs.lemmas.Grind.{common_steps}
 
 -- The first bytes are copied, in place of as many of `old`.
 pub record IsCopied (bytes old now : List ℕ) (start end copied : ℕ) : Type 0 where
@@ -32,8 +33,7 @@ module _ (bytes old now chunk : List ℕ) (start end copied n : ℕ) (ends : IsE
 
   tail : drop n (take (end - copied) (drop copied now)) ++ drop (end - copied) (drop copied now) ≡ drop (copied + n) old
   tail =
-      sym (drop-append-le n (take (end - copied) (drop copied now)) (drop (end - copied) (drop copied now))
-      (omega (arith, n_is)))
+      sym (grind (arith, common_steps, drop-append-le))
       ∙ (ap (drop n) (take-append-drop (end - copied) (drop copied now)) ∙ (ap (drop n) back ∙ drop-drop n copied old))
 
   module _ (chunk_is : chunk ≡ take (length chunk) (drop (start + copied) bytes)) where

@@ -1,11 +1,12 @@
 -- The block that is found for a byte offset or a position, and what it says of the text.
-use Rattle.lsp_buffer.proofs.Prelude.{ℕ, zero, suc, ◌≡◌, ◌+◌, ◌-◌, ◌*◌, ◌<◌, ◌≤◌, ◌⊎◌, false, List, [], ◌++◌, length, take, drop, get_or, Option, option_map, ⊎_elim, inl, inr, refl, sym, ap, ◌∙◌, arith, subst, concat, chars, IsUtf8, IsCharBoundary, cases_lt, append-nil, drop_all, length-append, length-drop, get_or_default, take_at, encodes-chars, length-le-encodes, IsUtf8-from_is_utf8, Position, Encoding, Utf8, Utf16, Utf32, place_of, line_ends, line_at, line_start, splits_crlf, IsPlace, units_in, units_between, exact_position, denoted, line_step, place_one, units_total, Counts, Found, Denoted, Offset, AreBlocks, EndsClear, IsFull, IsTextBuffer, carried, block_ends, counts_of, head_of, HaveRoom, counts_sum, head_in, AreThree, BeginsBefore, IsFound, IsPart, IsPartAt, Reaches, IsAtOrAfter, IsBefore, position_after, position_from, common_steps}
+use Rattle.lsp_buffer.proofs.Prelude.{ℕ, zero, suc, ◌≡◌, ◌+◌, ◌-◌, ◌*◌, ◌<◌, ◌≤◌, ◌⊎◌, false, List, [], ◌++◌, length, take, drop, get_or, Option, option_map, ⊎_elim, inl, inr, refl, sym, ap, ◌∙◌, arith, subst, concat, chars, IsUtf8, IsCharBoundary, cases_lt, append-nil, drop_all, length-append, length-drop, get_or_default, take_at, encodes-chars, length-le-encodes, IsUtf8-from_is_utf8, Position, Encoding, Utf8, Utf16, Utf32, place_of, line_ends, line_at, line_start, splits_crlf, IsPlace, units_in, units_between, exact_position, denoted, line_step, place_one, units_total, Counts, Found, Denoted, Offset, AreBlocks, IsFull, IsTextBuffer, carried, block_ends, counts_of, head_of, HaveRoom, counts_sum, head_in, AreThree, BeginsBefore, IsFound, IsPart, IsPartAt, Reaches, IsAtOrAfter, IsBefore, position_after, position_from, common_steps}
 use Rattle.lsp_text.specs.laws.Units.{utf8_bounds, utf16_bounds, utf32_bounds}
 use Rattle.lsp_buffer.specs.declared.find.Target.{Target}
 use Rattle.lsp_buffer.proofs.Blocks.BlockLemmas.{IsSplit, blocks_some, blocks_utf8, full_closes, full_utf8, split, split_text}
 use Rattle.lsp_buffer.proofs.Blocks.CountLemmas.{are_sum, ends_both, have_room, head_both, none_count, room_more, room_some, sum_more, sum_some}
 use Rattle.lsp_buffer.proofs.Blocks.CutLemmas.{concat_more}
 use Rattle.lsp_buffer.proofs.Blocks.PartLemmas.{resolved_three, inner_index, exact_three, boundary_in, carried_low, drop_three}
+use Rattle.std.proofs.lemmas.Grind.{common_steps}
 
 pub units_some : (encoding : Encoding) (c : ℕ) → 1 ≤ units_in encoding c
 units_some Utf8 c = (utf8_bounds c).0
@@ -62,8 +63,7 @@ module _ (blocks : List (List ℕ)) (groups : List Counts) (is : IsTextBuffer bl
   group_within = omega (arith, within, is.groups_are.within)
 
   group_counts : group ≡ counts_of (concat (take 32 (drop (32 * number) blocks)))
-  group_counts = group_is ∙ (get_or_default groups number group (counts_of []) within
-      ∙ is.groups_are.counts number within)
+  group_counts = group_is ∙ (grind (arith, common_steps, get_or_default, counts_of))
 
   pub group_room : HaveRoom before group
   group_room = room_some blocks is.are (32 * number) 32 group_within before group begins.before group_counts is.size
@@ -140,16 +140,14 @@ module _ (blocks : List (List ℕ)) (are : AreBlocks blocks) (index : ℕ) (bloc
 
   pub three : AreThree (concat blocks) (concat (take index blocks)) block (concat (drop (index + 1) blocks))
   three = record {
-    whole = split_text blocks index parts
-        ∙ ap (λ b. concat (take index blocks) ++ (b ++ concat (drop (index + 1) blocks))) same;
+    whole = grind (arith, common_steps, (split_text blocks index parts));
     front_utf8 = full_utf8 (take index blocks) parts.full;
     block_utf8 = subst IsUtf8 same (IsUtf8-from_is_utf8 (get_or blocks index []) parts.utf8);
     closes = full_closes (take index blocks) parts.full;
     after =
         ⊎_elim
         (λ (e : drop (index + 1) blocks ≡ []). inl (ap concat e))
-        (λ (e : IsFull (get_or blocks index []) × AreBlocks (drop (index + 1) blocks)). inr
-        (subst EndsClear same e.0.ends))
+        (λ (e : IsFull (get_or blocks index []) × AreBlocks (drop (index + 1) blocks)). grind (arith, common_steps, inr))
         parts.after;
   }
 
@@ -162,13 +160,7 @@ part_here blocks target found block are size is block_is = record {
   before_is = is.begins.before;
   low = is.begins.low;
   last =
-      ⊎_elim
-      (λ (more : found.index + 1 < length blocks).
-      inr (λ (r : Reaches target (counts_of (concat (take found.index blocks) ++ block))).
-      is.last more (subst (λ (t : List ℕ). Reaches target (counts_of t))
-      (sym (concat_more blocks found.index block is.begins.within block_is)) r)))
-      (λ (none : length blocks ≤ found.index + 1). inl (ap concat (drop_all (found.index + 1) blocks none)))
-      (cases_lt (found.index + 1) (length blocks));
+      grind (arith, common_steps, inr, counts_of, concat_more, inl, drop_all, cases_lt);
   utf8 = blocks_utf8 blocks are;
   size = size;
 }
@@ -179,9 +171,7 @@ pub part_of : (blocks : List (List ℕ)) (bytes : List ℕ) (target : Target) (f
 part_of blocks bytes target found block are size view is block_is = record {
   front = concat (take found.index blocks);
   rest = concat (drop (found.index + 1) blocks);
-  at = subst (λ (bs : List ℕ). IsPartAt bs (concat (take found.index blocks)) block
-      (concat (drop (found.index + 1) blocks)) target found.before) view
-      (part_here blocks target found block are size is block_is);
+  at = grind (arith, common_steps, (part_here blocks target found block are size is block_is));
 }
 
 -- A byte offset.
@@ -199,20 +189,12 @@ module _ (bytes front block rest : List ℕ) (before : Counts) (place : ℕ)
     from_is = front_length;
     low = omega (arith, front_length, part.low);
     inside =
-        ⊎_elim
-        (λ (e : rest ≡ []). inl e)
-        (λ (never : Reaches (Offset place) (counts_of (front ++ block)) → ⊥).
-        ⊎_elim
-        (λ (h : place < length front + length block). inr (omega (arith, h, front_length, part.low)))
-        (λ (h : length front + length block ≤ place). absurd (never (past h)))
-        (cases_lt place (length front + length block)))
-        part.last;
+        grind (arith, common_steps, inl, counts_of, inr, front_length, cases_lt);
   }
 
   -- The last block, where the offset is past all.
   whole_length : length bytes ≡ length front + (length block + length rest)
-  whole_length = ap length part.parts.whole ∙ (length-append front (block ++ rest)
-      ∙ ap (λ n. length front + n) (length-append block rest))
+  whole_length = ap length part.parts.whole ∙ (grind (arith, common_steps, length-append))
 
   last_none : length bytes ≤ place → rest ≡ []
   last_none far = grind (arith, common_steps, whole_length)
@@ -262,12 +244,7 @@ module _ (bytes front block rest : List ℕ) (before : Counts) (encoding : Encod
         (λ (e : rest ≡ []). inl e)
         (λ (never : Reaches (Denoted encoding p) (counts_of (front ++ block)) → ⊥).
         inr (before_after before.ends (head_in before encoding) (block_ends block) (head_of (units_in encoding) block) p
-        part.low (not_after (before.ends + block_ends block)
-        (carried (block_ends block) (head_in before encoding) + head_of (units_in encoding) block) p
-        (λ (after : IsAtOrAfter (before.ends + block_ends block)
-        (carried (block_ends block) (head_in before encoding) + head_of (units_in encoding) block) p).
-        never (subst (λ (l : ℕ). IsAtOrAfter l (head_in (counts_of (front ++ block)) encoding) p) (sym ends_next)
-        (subst (λ (h : ℕ). IsAtOrAfter (before.ends + block_ends block) h p) (sym units_next) after))))))
+        part.low (grind (arith, common_steps, not_after, block_ends, head_in, head_of, units_in, counts_of, ends_next, units_next))))
         part.last;
   }
 
@@ -280,20 +257,13 @@ module _ (bytes front block rest : List ℕ) where
   resolved_found encoding p first head from o found is =
       let units = units_in encoding in
       let low : IsAtOrAfter (line_ends (chars front)) (head_of units front) p =
-      subst (λ h. IsAtOrAfter (line_ends (chars front)) h p) found.head_is
-      (subst (λ l. IsAtOrAfter l head p) found.first_is found.low) in
+      grind (arith, common_steps, line_ends, found.head_is, found.first_is) in
       let inside : (rest ≡ []) ⊎ IsBefore (block_ends block) (head_of units block)
       (position_after (line_ends (chars front)) (head_of units front) p) =
       subst (λ h. (rest ≡ []) ⊎ IsBefore (block_ends block) (head_of units block)
       (position_after (line_ends (chars front)) h p)) found.head_is
-      (subst (λ l. (rest ≡ []) ⊎ IsBefore (block_ends block) (head_of units block) (position_after l head p))
-      found.first_is found.inside) in
-      let inner : o ≡ option_map (place_of (chars block))
-      (denoted units (chars block) (position_after (line_ends (chars front)) (head_of units front) p)) =
-      is ∙ (ap (λ (n : ℕ). option_map (place_of (chars block)) (denoted units (chars block) (position_after n head p)))
-      found.first_is ∙
-      ap (λ (n : ℕ). option_map (place_of (chars block))
-      (denoted units (chars block) (position_after (line_ends (chars front)) n p))) found.head_is) in
+      (grind (arith, common_steps, block_ends, head_of, position_after)) in
+      let inner = is ∙ (grind (arith, common_steps, place_of, denoted, position_after, line_ends)) in
       ap (option_map (λ n. from + n)) inner ∙
       (ap (λ (m : ℕ). option_map (λ n. m + n)
       (option_map (place_of (chars block))
@@ -314,8 +284,7 @@ module _ (bytes front block rest : List ℕ) where
   exact_found units place from first head k p found first_is head_is at exact within k_at =
       let is = inner_index bytes front block rest found.parts place k found.low found.inside within k_at in
       let one : k ≡ at.0 = place_one (chars bytes) k at.0 within at.1 (k_at ∙ sym at.3) in
-      let inner : p ≡ exact_position units (chars block) is.inner =
-      exact is.inner is.within (is.place_is ∙ ap (λ n. place - n) (sym found.from_is)) in
+      let inner = exact is.inner is.within (is.place_is ∙ ap (λ n. place - n) (sym found.from_is)) in
       let whole : splits_crlf (chars bytes) k ≡ false = ap (splits_crlf (chars bytes)) one ∙ at.2 in
       ap (position_from first head) inner ∙
       (ap (λ (n : ℕ). position_from n head (exact_position units (chars block) is.inner)) first_is ∙
@@ -334,8 +303,7 @@ module _ (bytes front block rest : List ℕ) where
       (first + p.line ≤ length bytes) × (carried p.line head + p.character ≤ length bytes)
   exact_low encoding place from first head p utf8 found first_is head_is at exact =
       let units = units_in encoding in
-      let same : ◌≡◌ {A = Position} (position_from first head p) (exact_position units (chars bytes) at.0) =
-      exact_found units place from first head at.0 p found first_is head_is at exact at.1 at.3 in
+      let same = exact_found units place from first head at.0 p found first_is head_is at exact at.1 at.3 in
       let line : first + p.line ≡ line_at (chars bytes) at.0 = ap (λ (q : Position). q.line) same in
       let character : carried p.line head + p.character ≡ units_between units (chars bytes)
       (line_start (chars bytes) (line_at (chars bytes) at.0)) at.0 = ap (λ (q : Position). q.character) same in (
@@ -380,18 +348,12 @@ module _ (bytes front block rest : List ℕ) where
       let inside : n ≤ length block = found_within place from found within in
       let chunk_same : chunk ≡ drop n block = is ∙ (ap (λ m. drop (place - m) text) found.from_is ∙ ap (drop n) same) in
       let back : drop place bytes ≡ drop n block ++ rest =
-      ap (λ m. drop m bytes) (let e : place ≡ length front + n = omega (arith, found.low) in e)
-      ∙ drop_three bytes front block rest found.parts n inside in
+      grind (arith, common_steps, (drop_three bytes front block rest found.parts n inside)) in
       let size : length chunk ≡ length block - n = ap length chunk_same ∙ length-drop n block in
       let all = bytes_length place from found in
       record {
-        part = chunk_same ∙ sym (ap (take (length chunk)) back ∙ take_at (drop n block) rest (length chunk)
-            (ap length (sym chunk_same)));
-        some = λ h.
-            ⊎_elim
-            (λ (e : rest ≡ []). omega (arith, size, all, h, found.low, ap length e))
-            (λ (g : place - length front < length block). omega (arith, size, g))
-            found.inside;
+        part = grind (arith, common_steps, take_at);
+        some = grind (arith, common_steps);
       }
 
 -- ---- what a part says of all
@@ -406,8 +368,7 @@ module _ (bytes block : List ℕ) (before : Counts) (encoding : Encoding) (p : P
       resolved_found bytes part.front block part.rest encoding p before.ends h before.len o
       (subst (λ (n : ℕ). IsLineFound bytes part.front block part.rest (units_in encoding) p before.ends n before.len)
       (sym h_is) (found_line bytes part.front block part.rest before encoding p part.at))
-      (is ∙ ap (λ (q : Position). option_map (place_of (chars block)) (denoted (units_in encoding) (chars block) q))
-      inner_is)
+      (grind (arith, common_steps, place_of, denoted, units_in))
 
 module _ (bytes block : List ℕ) (before : Counts) (place : ℕ) (part : IsPart bytes (Offset place) block before) where
   pub place_part : IsPlaceFound bytes part.front block part.rest place before.len

@@ -5,6 +5,7 @@ use Rattle.lsp_text.proofs.Positions.BoundaryLemmas.{boundary_from}
 use Rattle.lsp_buffer.proofs.Blocks.CutLemmas.{concat_more}
 use Rattle.lsp_buffer.proofs.Queries.FoundLemmas.{IsPlaceFound, place_inner}
 use Rattle.lsp_buffer.proofs.Blocks.PartLemmas.{boundary_in, place_outer, place_last}
+use Rattle.std.proofs.lemmas.Grind.{common_steps}
 
 module _ (bytes front block rest : List ℕ) (place from : ℕ)
     (found : IsPlaceFound bytes front block rest place from) where
@@ -13,8 +14,7 @@ module _ (bytes front block rest : List ℕ) (place from : ℕ)
       ↔ IsPlace (chars bytes) place
   place_tested test is =
       let back : length front + (place - from) ≡ place = omega (arith, found.low, found.from_is) in (
-        λ h. subst (IsPlace (chars bytes)) back (place_outer bytes front block rest found.parts (place - from)
-            (is.0 h)),
+        λ h. grind (arith, common_steps, (place_outer bytes front block rest found.parts (place - from) (is.0 h)), is.0),
         λ at. is.1 (place_inner bytes front block rest place from found at),
       )
 
@@ -44,8 +44,7 @@ pub text_more : (blocks : List (List ℕ)) (index : ℕ) (block rest back bytes 
     concat (take (index + 1) blocks) ++ back ≡ bytes
 text_more blocks index block rest back bytes within at so_far rest_is =
     ap (λ x. x ++ back) (concat_more blocks index block within at) ∙
-    (append_assoc (concat (take index blocks)) block back ∙ (ap (λ x. concat (take index blocks) ++ x) (sym rest_is)
-    ∙ so_far))
+    (grind (arith, common_steps, append_assoc))
 
 pub text_none : (blocks : List (List ℕ)) (index : ℕ) (block rest bytes : List ℕ) → index < length blocks
     → block ≡ get_or blocks index block → concat (take index blocks) ++ rest ≡ bytes →
@@ -54,10 +53,8 @@ text_none blocks index block rest bytes within at so_far none whole =
     let later : concat (drop index blocks) ≡ block ++ concat (drop (suc index) blocks) =
     ap concat (drop-cons blocks index block within) ∙ ap (λ b. b ++ concat (drop (suc index) blocks)) (sym at) in
     let parts : concat blocks ≡ concat (take index blocks) ++ (block ++ concat (drop (suc index) blocks)) =
-    ap concat (sym (take-append-drop index blocks)) ∙ (concat-append (take index blocks) (drop index blocks)
-    ∙ ap (λ x. concat (take index blocks) ++ x) later) in
-    none (concat (drop (suc index) blocks)) (append_cancel_left (concat (take index blocks)) rest
-    (block ++ concat (drop (suc index) blocks)) (so_far ∙ (sym whole ∙ parts)))
+    ap concat (sym (take-append-drop index blocks)) ∙ (grind (arith, common_steps, concat-append)) in
+    none (concat (drop (suc index) blocks)) (grind (arith, common_steps, append_cancel_left))
 
 -- Bytes begin with others.
 pub not_front : (bytes start front : List ℕ) (test : Bool) → start ≡ take (length front) bytes

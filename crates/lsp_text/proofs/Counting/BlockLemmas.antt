@@ -1,6 +1,7 @@
 -- Units counted block by block.
 use Rattle.lsp_text.proofs.Prelude.{◌≡◌, ℕ, ◌+◌, ◌-◌, ◌*◌, ◌≤◌, false, List, [], ◌∷◌, ◌++◌, length, take, drop, sum_by, Option, option_map, ltb as nat_lt, sym, ap, ◌∙◌, arith, le-ltb, take-add, length-drop, length-take-le, take-append-drop, drop-drop, take_rest, sum_by-append, sum_by-cons, sum_by-take-drop, byte_place, common_steps}
 use Rattle.lsp_text.proofs.Counting.LeadLemmas.{map_twice, map_none}
+use Rattle.std.proofs.lemmas.Grind.{common_steps}
 
 -- Bytes that have no more units than are left are passed.
 module _ (lead : ℕ → ℕ) where
@@ -23,10 +24,8 @@ module _ (lead : ℕ → ℕ) where
   pass_block bytes place size left units found within counted few rest =
       let block = take size (drop place bytes) in
       let rest_after : drop size (drop place bytes) ≡ drop (place + size) bytes = drop-drop size place bytes in
-      let long : length block ≡ size =
-      length-take-le size (drop place bytes) (omega (arith, length-drop place bytes)) in
-      let whole : block ++ drop (place + size) bytes ≡ drop place bytes = ap (λ ys. block ++ ys) (sym rest_after)
-      ∙ take-append-drop size (drop place bytes) in
+      let long = length-take-le size (drop place bytes) (omega (arith, length-drop place bytes)) in
+      let whole : block ++ drop (place + size) bytes ≡ drop place bytes = grind (arith, common_steps, (take-append-drop size (drop place bytes))) in
       let passed : byte_place lead (drop place bytes) left ≡ option_map (λ n. length block + n)
       (byte_place lead (drop (place + size) bytes) (left - sum_by lead block)) =
       ap (λ xs. byte_place lead xs left) (sym whole) ∙ pass block (drop (place + size) bytes) left (omega arith) in
@@ -44,8 +43,7 @@ module _ (lead : ℕ → ℕ) where
       → one ≡ sum_by lead (take 32 (drop (32 * block) bytes)) → units + one
       ≡ sum_by lead (take (32 * (block + 1)) bytes)
   block_more bytes block units one before here =
-      let next : 32 * block + 32 ≡ 32 * (block + 1) = omega arith in
-      omega (arith, before, here, sum_block bytes (32 * block) 32, ap (λ n. sum_by lead (take n bytes)) next)
+      grind (arith, common_steps, sum_by, (sum_block bytes (32 * block) 32))
 
   pub blocks_all : (bytes : List ℕ) (block blocks units rest : ℕ) → block ≡ blocks
       → units ≡ sum_by lead (take (32 * block) bytes) →

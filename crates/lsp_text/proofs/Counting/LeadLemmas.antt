@@ -1,6 +1,7 @@
 -- Units counted byte by byte are those counted character by character.
-use Rattle.lsp_text.proofs.Prelude.{◌≡◌, ℕ, zero, suc, ◌+◌, ◌-◌, ◌≤◌, ◌<◌, Bool, true, false, cond, ltb, List, [], ◌∷◌, ◌++◌, length, get_or, sum_by, Option, Some, None, option_map, ltb as nat_lt, ◌==◌, refl, sym, ap, ◌∙◌, arith, ⊎_elim, leb, ◌&&◌, lt-ltb, le-ltb, encode_utf8_all, len_utf8, length-append, get_or-append_right, sum_by-append, sum_by-cons, cases_lt, cond_both, nat_tests, length-encode, len_utf8_bounds, encodes-chars, IsUtf8, chars, units_in, Utf16, lead_units_utf16, lead_units_utf32, HaveNone, FirstHas, line_place, byte_place, common_steps}
+use Rattle.lsp_text.proofs.Prelude.{◌≡◌, ℕ, zero, suc, ◌+◌, ◌-◌, ◌≤◌, ◌<◌, Bool, true, false, cond, ltb, List, [], ◌∷◌, ◌++◌, length, get_or, sum_by, Option, Some, None, option_map, ltb as nat_lt, ◌==◌, refl, sym, ap, ◌∙◌, arith, ⊎_elim, leb, ◌&&◌, lt-ltb, le-ltb, encode_utf8_all, len_utf8, length-append, sum_by-append, sum_by-cons, cases_lt, cond_both, nat_tests, length-encode, len_utf8_bounds, encodes-chars, IsUtf8, chars, units_in, Utf16, lead_units_utf16, lead_units_utf32, HaveNone, FirstHas, line_place, byte_place, common_steps}
 use Rattle.std.proofs.Math.Utf8.{encode}
+use Rattle.std.proofs.lemmas.Grind.{common_steps}
 
 -- a byte inside a character has no units
 utf16_none : (b : ℕ) → 128 ≤ b → b < 192 → lead_units_utf16 b ≡ 0
@@ -33,18 +34,7 @@ units_utf16_two c h = grind (arith, nat_tests)
 pub utf16_first : (c : ℕ) → FirstHas lead_units_utf16 (encode c) (units_in Utf16 c)
 unfolding encode
 utf16_first c =
-    grind (
-      arith,
-      common_steps,
-      cond_both,
-      ltb,
-      utf16_ascii,
-      units_utf16_one,
-      utf16_one,
-      utf16_two,
-      units_utf16_two,
-      utf16_none,
-    )
+    grind (arith, common_steps, cond_both, ltb, utf16_ascii, units_utf16_one)
 
 pub utf32_first : (c : ℕ) → FirstHas lead_units_utf32 (encode c) 1
 unfolding encode
@@ -145,8 +135,7 @@ pub utf8_past : (cs : List ℕ) (c : ℕ) → length (encode_utf8_all cs) ≤ c 
     ≡ Some (length (encode_utf8_all cs))
 utf8_past [] c h = refl
 utf8_past (x ∷ cs) c h =
-    let sum : length (encode x ++ encode_utf8_all cs) ≡ len_utf8 x + length (encode_utf8_all cs) =
-    length-append (encode x) (encode_utf8_all cs) ∙ ap (λ n. n + length (encode_utf8_all cs)) (length-encode x) in
+    let sum = length-append (encode x) (encode_utf8_all cs) ∙ ap (λ n. n + length (encode_utf8_all cs)) (length-encode x) in
     let some = (len_utf8_bounds x).0 in
     let above : (c == 0) ≡ false = not_zero c (omega (arith, some, sum)) in
     let less : nat_lt c (len_utf8 x) ≡ false = le-ltb c (len_utf8 x) (omega (arith, sum)) in
@@ -158,24 +147,13 @@ utf8_at [] c h = absurd (omega arith)
 utf8_at (x ∷ cs) zero h = rw (at_first (encode x) (encode_utf8_all cs) (encode_outside x)) refl
 utf8_at (x ∷ cs) (suc k) h =
     let rest = encode_utf8_all cs in
-    let above : (suc k == 0) ≡ false = not_zero (suc k) (omega arith) in
     let size : length (encode x) ≡ len_utf8 x = length-encode x in
-    let sum : length (encode x ++ rest) ≡ len_utf8 x + length rest =
-    length-append (encode x) rest ∙ ap (λ n. n + length rest) size in
+    let sum = length-append (encode x) rest ∙ ap (λ n. n + length rest) size in
     ⊎_elim
     (λ (l : suc k < len_utf8 x).
     grind (arith, common_steps, nat_lt, lt-ltb, encode, behind_first, encode_outside))
     (λ (l : len_utf8 x ≤ suc k).
-    grind (
-      arith,
-      common_steps,
-      nat_lt,
-      le-ltb,
-      encode,
-      get_or-append_right,
-      shifted,
-      (utf8_at cs (suc k - len_utf8 x) (omega (arith, sum))),
-    ))
+    grind (arith, common_steps, (utf8_at cs (suc k - len_utf8 x) (omega (arith, sum)))))
     (cases_lt (suc k) (len_utf8 x))
   where
     shifted : (b : Bool) (n c : ℕ) → n ≤ c → option_map (λ m. n + m) (cond b None (Some (c - n))) ≡ cond b None (Some c)

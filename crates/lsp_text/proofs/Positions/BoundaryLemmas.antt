@@ -2,6 +2,7 @@
 use Rattle.lsp_text.proofs.Prelude.{◌≡◌, ℕ, zero, suc, ◌+◌, ◌-◌, ◌≤◌, ◌<◌, Bool, true, false, ◌&&◌, ◌==◌, List, [], ◌∷◌, ◌++◌, length, drop, get_or, slice_index, refl, sym, ap, ◌∙◌, arith, encode_utf8_all, IsTrue, ◌↔◌, not, len_utf8, chars, IsUtf8, IsCharBoundary, encode, drop-cons, get_or-drop, cases_lt, not-true, not_from_false, false≢true, nat_tests, encode_ascii, length-encode, len_utf8_bounds, encodes-chars, place_of, splits_crlf, IsPlace, common_steps}
 use Rattle.lsp_text.proofs.Positions.PlaceLemmas.{place_more, drop_place, place_boundary, index_at}
 use Rattle.lsp_text.proofs.TextLines.StartLemmas.{AllHigh, encode_high, first_line_feed}
+use Rattle.std.proofs.lemmas.Grind.{common_steps}
 
 high_at : (bytes rest : List ℕ) (k : ℕ) → AllHigh bytes → k < length bytes → 128 ≤ get_or (bytes ++ rest) k 0
 high_at [] rest k all h = absurd (omega arith)
@@ -54,8 +55,7 @@ same_split text (suc j) within = by_place (place_of text (suc j)) refl
     next : (get_or bytes (place_of text (suc j)) 0 == 10) ≡ (get_or text (suc j) 0 == 10)
     next =
         let at : place_of text (suc j) ≡ place_of text (suc j) + 0 = omega arith in
-        let here : get_or (drop (suc j) text) 0 0 ≡ get_or text (suc j) 0 =
-        get_or-drop (suc j) text 0 0 ∙ ap (λ i. get_or text i 0) (omega arith) in
+        let here = get_or-drop (suc j) text 0 0 ∙ ap (λ i. get_or text i 0) (omega arith) in
         ap (λ p. get_or bytes p 0 == 10) at ∙ (ap (λ b. b == 10) (byte_at text (suc j) 0)
         ∙ (first_line_feed (drop (suc j) text) ∙ ap (λ b. b == 10) here))
 
@@ -77,12 +77,7 @@ same_split_text bytes k utf8 within =
 pub place_from : (bytes : List ℕ) (place : ℕ) → IsUtf8 bytes → IsCharBoundary bytes place → splits_crlf bytes place
     ≡ false → IsPlace (chars bytes) place
 place_from bytes place utf8 boundary whole =
-    let at = index_at bytes place utf8 boundary in (
-      at.index,
-      at.within,
-      sym (same_split_text bytes at.index utf8 at.within) ∙ (ap (splits_crlf bytes) at.place_is ∙ whole),
-      at.place_is,
-    )
+    grind (arith, common_steps, same_split_text, (index_at bytes place utf8 boundary), (splits_crlf bytes))
 
 pub boundary_from : (bytes : List ℕ) (place : ℕ) → IsUtf8 bytes → IsPlace (chars bytes) place
     → IsCharBoundary bytes place × (splits_crlf bytes place ≡ false)

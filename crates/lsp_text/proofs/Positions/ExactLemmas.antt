@@ -7,6 +7,7 @@ use Rattle.lsp_text.proofs.TextLines.IndexesLemmas.{indexes_line, indexes_start,
 use Rattle.lsp_text.proofs.Positions.PositionLemmas.{exact_denotes}
 use Rattle.lsp_text.proofs.Counting.LeadLemmas.{utf8_units_of_text}
 use Rattle.lsp_text.proofs.Positions.ResolveLemmas.{part, part_utf8, chars_part}
+use Rattle.std.proofs.lemmas.Grind.{common_steps}
 
 pub indexes_are : (bytes lines : List ℕ) → IsUtf8 bytes → AreLinesOf lines bytes → AreStarts lines
 indexes_are bytes lines utf8 indexes = starts_from bytes lines (indexes.starts ∙ sym (starts_of_text bytes utf8))
@@ -39,12 +40,10 @@ line_found bytes lines place line k indexes found within at =
     let text = chars bytes in
     let there : line ≤ line_ends text = indexes_line bytes lines line indexes found.within in
     let start = line_has_start text line there in
-    let low : line_start text line ≤ k =
-    place_order text (line_start text line) k (omega (arith, start.in_row))
+    let low = place_order text (line_start text line) k (omega (arith, start.in_row))
     (omega (arith, at, indexes_start bytes lines line indexes there, found.at_most)) in
     let rises : line_at text (line_start text line) ≤ line_at text k = line_rises text (line_start text line) k low in
-    let here : line_at text (line_start text line) ≡ line =
-    in_content_line text line (line_start text line) start.passes in
+    let here = in_content_line text line (line_start text line) start.passes in
     ⊎_elim
     (λ (h : line < line_at text k).
     let m = line_at text k in
@@ -121,8 +120,7 @@ pub exact_is : (units : ℕ → ℕ) (bytes lines shown : List ℕ) (place line 
     ◌≡◌ {A = Position} (record { line = line; character = count }) (exact_position units (chars bytes) k)
 exact_is units bytes lines shown place line count k utf8 indexes same found counted within at =
     let front = front_found bytes lines shown place line k indexes same found within at in
-    let line_is : line ≡ line_at (chars bytes) k =
-    line_found bytes lines place line k indexes (subst (λ xs. IsLineOf xs place line) same found) within at in
+    let line_is = line_found bytes lines place line k indexes (subst (λ xs. IsLineOf xs place line) same found) within at in
     let count_is = counted ∙ front_units units bytes (slice_index lines line) place k utf8 front in
     rw (line_is, count_is) refl
 

@@ -1,9 +1,10 @@
 -- Inside a line: its content is all indexes from its start to its stop, and a position goes by the characters between
 -- them alone.
-use Rattle.lsp_text.proofs.Prelude.{ℕ, zero, suc, ◌≡◌, ◌+◌, ◌-◌, ◌<◌, ◌≤◌, ◌⊎◌, Bool, true, false, not, ◌&&◌, cond, if◌then◌else◌, List, [], ◌∷◌, length, take, drop, sum_by, slice_index, ◌==◌, ltb as nat_lt, leb as nat_le, Option, Some, None, option_map, find, ⊎_elim, inl, inr, refl, sym, ap, ◌∙◌, arith, eqb-true, ltb-true, ltb-false, le-ltb, le-leb, length-drop, length-take, cases_Bool, cases_eq, and_parts, and_from, or_right, not-true, not_from_false, lt-leb, eqb-false, false_from_ne_true, take-take, get_or-drop, sum_by-cons, prefix_len_is, prefix_len, Position, line_feed, carriage_return, splits_crlf, line_at, line_ends, is_in_content, line_content, line_start, line_stop, units_between, denoted, common_steps}
+use Rattle.lsp_text.proofs.Prelude.{ℕ, zero, suc, ◌≡◌, ◌+◌, ◌-◌, ◌<◌, ◌≤◌, ◌⊎◌, Bool, true, false, not, ◌&&◌, cond, if◌then◌else◌, List, [], ◌∷◌, length, take, drop, sum_by, slice_index, ◌==◌, ltb as nat_lt, leb as nat_le, Option, Some, None, option_map, find, ⊎_elim, inl, inr, refl, sym, ◌∙◌, arith, eqb-true, ltb-true, ltb-false, le-ltb, le-leb, length-drop, length-take, cases_Bool, cases_eq, and_parts, and_from, or_right, not-true, not_from_false, lt-leb, eqb-false, false_from_ne_true, take-take, get_or-drop, sum_by-cons, prefix_len_is, prefix_len, Position, line_feed, carriage_return, splits_crlf, line_at, line_ends, is_in_content, line_content, line_start, line_stop, units_between, denoted, common_steps}
 use Rattle.lsp_text.proofs.TextLines.RowLemmas.{find_none}
 use Rattle.lsp_text.proofs.TextLines.LineLemmas.{line_rises, in_content, in_content_line, in_content_whole, line_has_start, line_has_stop, IsStart, IsStop}
 use Rattle.lsp_text.proofs.Positions.PositionLemmas.{content_index}
+use Rattle.std.proofs.lemmas.Grind.{common_steps}
 
 -- The index in a line of the characters `line` that has c units before it: the line's end if it has no more, none
 -- inside a character.
@@ -23,7 +24,7 @@ split_in_line : (text : List ℕ) (j stop : ℕ) → splits_crlf text j ≡ true
 split_in_line text zero stop split whole order = absurd (cc)
 split_in_line text (suc j) stop split whole order =
     ⊎_elim
-    (λ (e : suc j ≡ stop). absurd (let w : splits_crlf text (suc j) ≡ false = ap (splits_crlf text) e ∙ whole in cc))
+    (λ (e : suc j ≡ stop). absurd (cc))
     (λ (e : suc j ≡ stop → ⊥).
     let feed : (slice_index text (suc j) == line_feed) ≡ true =
     (and_parts (slice_index text j == carriage_return) (slice_index text (suc j) == line_feed) split).1 in
@@ -60,10 +61,10 @@ index_found : (units : ℕ → ℕ) (line : List ℕ) (c n : ℕ) → index_in_l
 index_found units [] c n found = let e : 0 ≡ n = cc in (omega arith, inr (omega arith, omega arith))
 index_found units (x ∷ line) c n found =
     ⊎_elim
-    (λ (e : (c == 0) ≡ true). at_start (eqb-true c 0 e) (let f : Some 0 ≡ Some n = rw e at found in cc))
+    (λ (e : (c == 0) ≡ true). at_start (eqb-true c 0 e) (cc))
     (λ (e : (c == 0) ≡ false).
     ⊎_elim
-    (λ (l : nat_lt c (units x) ≡ true). absurd (let f : ◌≡◌ {A = Option ℕ} None (Some n) = rw (e, l) at found in cc))
+    (λ (l : nat_lt c (units x) ≡ true). absurd (cc))
     (λ (l : nat_lt c (units x) ≡ false). rest_after (index_in_line units line (c - units x)) refl
     (λ m f. index_found units line (c - units x) m f) (ltb-false c (units x) l) (rw (e, l) at found))
     (cases_Bool (nat_lt c (units x))))
@@ -93,7 +94,7 @@ index_missed : (units : ℕ → ℕ) (line : List ℕ) (c : ℕ) → index_in_li
 index_missed units [] c missed = absurd (cc)
 index_missed units (x ∷ line) c missed =
     ⊎_elim
-    (λ (e : (c == 0) ≡ true). absurd (let f : ◌≡◌ {A = Option ℕ} (Some 0) None = rw e at missed in cc))
+    (λ (e : (c == 0) ≡ true). absurd (cc))
     (λ (e : (c == 0) ≡ false).
     let above : c ≡ 0 → ⊥ = eqb-false c 0 e in
     ⊎_elim
@@ -109,11 +110,7 @@ index_missed units (x ∷ line) c missed =
 
     inside : (c ≡ 0 → ⊥) → c < units x → (c < sum_by units (x ∷ line))
         × ((n : ℕ) → n ≤ suc (length line) → sum_by units (take n (x ∷ line)) ≡ c → ⊥)
-    inside above less = (
-      rw (sum_by-cons units x line) (omega arith),
-      λ n order same.
-          grind (arith, common_steps, sum_by, front),
-    )
+    inside above less = grind (arith, common_steps, sum_by-cons, sum_by)
 
     rest_after : (c ≡ 0 → ⊥) → (o : Option ℕ) → index_in_line units line (c - units x) ≡ o
         → (index_in_line units line (c - units x) ≡ None → (c - units x < sum_by units line)
@@ -152,8 +149,7 @@ in_bounds units some text line start stop c is_start is_stop =
     at_index : (n : ℕ) → n ≤ stop - start → sum_by units (take n (take (stop - start) (drop start text))) ≡ c
         → denoted_here ≡ Some (start + n)
     at_index n less same =
-        let front : units_between units text start (start + n) ≡ c =
-        units_of_front units text start (stop - start) n less ∙ same in
+        let front = units_of_front units text start (stop - start) n less ∙ same in
         rw (← front)
         (content_index units some text line start stop (start + n) is_start is_stop
         (omega (arith, within, order))
@@ -186,8 +182,7 @@ in_bounds units some text line start stop c is_start is_stop =
     by_index (Some n) is =
         rw is
         (⊎_elim
-        (λ (s : sum_by units (take n (take (stop - start) (drop start text))) ≡ c). at_index n
-        (omega (arith, part_length, (index_found units (take (stop - start) (drop start text)) c n is).0)) s)
+        (λ (s : sum_by units (take n (take (stop - start) (drop start text))) ≡ c). grind (arith, common_steps, at_index, part_length, index_found))
         (λ (s : (n ≡ length (take (stop - start) (drop start text)))
         × (sum_by units (take (stop - start) (drop start text)) ≤ c)). at_stop n (omega (arith, part_length, s.0)) s.1)
         (index_found units (take (stop - start) (drop start text)) c n is).1)
@@ -239,10 +234,8 @@ line_length text line there = lengths (line_start text line) (line_stop text lin
 
         inside : (k : ℕ) → k < stop - start → is_inside_line (slice_index text (start + k)) ≡ true
         inside k less =
-            let here : is_in_content text line (start + k) ≡ true =
-            between_in_content text line start stop (start + k) is_start is_stop (omega arith) (omega arith) in
-            let next : is_in_content text line (suc (start + k)) ≡ true =
-            between_in_content text line start stop (suc (start + k)) is_start is_stop (omega arith) (omega arith) in
+            let here = between_in_content text line start stop (start + k) is_start is_stop (omega arith) (omega arith) in
+            let next = between_in_content text line start stop (suc (start + k)) is_start is_stop (omega arith) (omega arith) in
             let here_line : line_at text (start + k) ≡ line = in_content_line text line (start + k) here in
             let next_line : line_at text (suc (start + k)) ≡ line = in_content_line text line (suc (start + k)) next in
             next_inside text (start + k) (next_line ∙ sym here_line) (in_content_whole text line (suc (start + k)) next)
@@ -251,9 +244,7 @@ line_length text line there = lengths (line_start text line) (line_stop text lin
         outside less =
             false_from_ne_true (is_inside_line (slice_index text stop))
             (λ e.
-            let next : (line_at text (suc stop) ≡ line_at text stop) × (splits_crlf text (suc stop) ≡ false) =
-            inside_next text stop e in
+            let next = inside_next text stop e in
             let here_line : line_at text stop ≡ line = in_content_line text line stop is_stop.passes in
-            let more : suc stop ≤ stop =
-            is_stop.greatest (suc stop) (omega arith) (in_content text line (suc stop) (next.0 ∙ here_line) next.1) in
+            let more = is_stop.greatest (suc stop) (omega arith) (in_content text line (suc stop) (next.0 ∙ here_line) next.1) in
             omega arith)

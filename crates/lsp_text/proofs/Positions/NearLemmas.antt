@@ -1,6 +1,7 @@
 -- Exact positions are local: that of an index goes by the characters before it alone, where the index splits no CRLF.
-use Rattle.lsp_text.proofs.Prelude.{ℕ, zero, suc, ◌≡◌, ◌+◌, ◌-◌, ◌<◌, ◌≤◌, true, false, ◌||◌, List, length, take, drop, slice_index, sum_by, ◌==◌, ⊎_elim, refl, sym, ap, ◌∙◌, arith, get_or-take, cases_eq, cases_Bool, and_cases, drop-take, line_feed, carriage_return, starts_line, splits_crlf, line_at, is_in_content, line_start, units_between, exact_position, common_steps}
+use Rattle.lsp_text.proofs.Prelude.{ℕ, zero, suc, ◌≡◌, ◌-◌, ◌<◌, ◌≤◌, true, false, ◌||◌, List, length, take, slice_index, sum_by, ◌==◌, ⊎_elim, refl, sym, ap, ◌∙◌, arith, get_or-take, cases_eq, cases_Bool, and_cases, drop-take, line_feed, carriage_return, starts_line, splits_crlf, line_at, is_in_content, line_start, units_between, exact_position, common_steps}
 use Rattle.lsp_text.proofs.TextLines.LineLemmas.{in_content, in_content_line, in_content_whole, start_in_content, IsStart}
+use Rattle.std.proofs.lemmas.Grind.{common_steps}
 
 -- The texts have the same characters below k.
 abbrev pub AgreeBelow : List ℕ → List ℕ → ℕ → Type 0
@@ -57,14 +58,7 @@ module _ (text other : List ℕ) where
 units_near : (units : ℕ → ℕ) (text other : List ℕ) (i k : ℕ) → take k text ≡ take k other → i ≤ k
     → units_between units text i k ≡ units_between units other i k
 units_near units text other i k same order =
-    let here : i + (k - i) ≡ k = omega arith in
-    let left : drop i (take (i + (k - i)) text) ≡ take (k - i) (drop i text) = drop-take i (k - i) text in
-    let right : drop i (take (i + (k - i)) other) ≡ take (k - i) (drop i other) = drop-take i (k - i) other in
-    let left_k : drop i (take k text) ≡ take (k - i) (drop i text) = rw here at left in
-    let right_k : drop i (take k other) ≡ take (k - i) (drop i other) = rw here at right in
-    let both : drop i (take k text) ≡ drop i (take k other) = ap (drop i) same in
-    let parts : take (k - i) (drop i text) ≡ take (k - i) (drop i other) = cc in
-    ap (sum_by units) parts
+    grind (arith, common_steps, (drop-take i (k - i) text), (drop-take i (k - i) other), (sum_by units))
 
 -- Two texts with the same first k characters, of which k splits no CRLF of either, give k the same exact position.
 pub exact_near : (units : ℕ → ℕ) (text other : List ℕ) (k : ℕ) → take k text ≡ take k other → k ≤ length text
@@ -76,8 +70,7 @@ exact_near units text other k same within other_within whole other_whole =
     let order : line_start other (line_at other k) ≤ k = other_begins.least k (omega arith) other_content in
     let u : units_between units text (line_start text (line_at text k)) k ≡ units_between units other
     (line_start other (line_at other k)) k
-    = ap (λ (from : ℕ). units_between units text from k) starts ∙ units_near units text other
-    (line_start other (line_at other k)) k same order in
+    = grind (arith, common_steps, units_between, units_near, line_start, line_at) in
     λ i. record { line = line_same i; character = u i }
   where
     agree : AgreeBelow text other k
@@ -102,12 +95,10 @@ exact_near units text other k same within other_within whole other_whole =
     start_same =
         let low : line_start text (line_at other k) ≤ k = begins.least k (omega arith) content in
         let other_low : line_start other (line_at other k) ≤ k = other_begins.least k (omega arith) other_content in
-        let one : line_start other (line_at other k) ≤ line_start text (line_at other k)
-        = other_begins.least (line_start text (line_at other k)) (omega arith)
+        let one = other_begins.least (line_start text (line_at other k)) (omega arith)
         (content_near text other k (line_at other k) (line_start text (line_at other k)) agree whole other_whole low
         begins.passes) in
-        let two : line_start text (line_at other k) ≤ line_start other (line_at other k)
-        = begins.least (line_start other (line_at other k)) (omega arith) (content_near other text k (line_at other k)
+        let two = begins.least (line_start other (line_at other k)) (omega arith) (content_near other text k (line_at other k)
         (line_start other (line_at other k)) (agree_back text other k agree) other_whole whole other_low
         other_begins.passes) in
         omega arith

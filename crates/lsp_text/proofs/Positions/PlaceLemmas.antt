@@ -1,5 +1,6 @@
 -- Indexes of a text and their places among its bytes.
-use Rattle.lsp_text.proofs.Prelude.{◌≡◌, ℕ, zero, suc, ◌+◌, ◌-◌, ◌≤◌, ◌<◌, true, List, [], ◌∷◌, ◌++◌, length, take, drop, get_or, refl, sym, ap, ◌∙◌, arith, ⊎_elim, append-nil, encode_utf8_all, scalar, scalars, len_utf8, chars, IsUtf8, IsCharBoundary, take-suc, take-add, length-append, length-take-le, take-append-drop, take_at, drop_at, take_all, cases_lt, and_parts, and_from, encodes-append, length-encode, len_utf8_bounds, encodes-chars, chars-append, IsUtf8-take, IsCharBoundary-from_take, scalars-chars, place_of, common_steps}
+use Rattle.lsp_text.proofs.Prelude.{◌≡◌, ℕ, zero, suc, ◌+◌, ◌-◌, ◌≤◌, ◌<◌, true, List, [], ◌∷◌, ◌++◌, length, take, drop, get_or, refl, sym, ap, ◌∙◌, arith, ⊎_elim, append-nil, encode_utf8_all, scalar, scalars, len_utf8, chars, IsUtf8, IsCharBoundary, take-suc, take-add, length-append, length-take-le, take-append-drop, take_at, drop_at, take_all, cases_lt, and_parts, and_from, encodes-append, length-encode, encodes-chars, chars-append, IsUtf8-take, IsCharBoundary-from_take, scalars-chars, place_of, common_steps}
+use Rattle.std.proofs.lemmas.Grind.{common_steps}
 
 pub place_end : (text : List ℕ) → place_of text (length text) ≡ length (encode_utf8_all text)
 place_end text = ap (λ cs. length (encode_utf8_all cs)) (take_all (length text) text (omega arith))
@@ -13,13 +14,7 @@ pub place_rises : (text : List ℕ) (j k : ℕ) → j ≤ k → k ≤ length tex
 place_rises text j zero order within = omega (arith, ap (place_of text) (let e : j ≡ 0 = omega arith in e))
 place_rises text j (suc k) order within =
     ⊎_elim
-    (λ (h : j < suc k). grind (
-      arith,
-      common_steps,
-      place_more,
-      len_utf8_bounds,
-      (place_rises text j k (omega arith) (omega arith)),
-    ))
+    (λ (h : j < suc k). grind (arith, common_steps, place_more, (place_rises text j k (omega arith) (omega arith))))
     (λ (h : suc k ≤ j). omega (arith, ap (place_of text) (let e : j ≡ suc k = omega arith in e)))
     (cases_lt j (suc k))
 
@@ -77,8 +72,7 @@ pub index_at : (bytes : List ℕ) (place : ℕ) → IsUtf8 bytes → IsCharBound
 index_at bytes place utf8 boundary =
     let front = take place bytes in
     let is_front : IsUtf8 front = IsUtf8-take bytes place utf8 boundary in
-    let split : chars bytes ≡ chars front ++ chars (drop place bytes) = ap chars (sym (take-append-drop place bytes))
-    ∙ chars-append front (drop place bytes) is_front in
+    let split : chars bytes ≡ chars front ++ chars (drop place bytes) = grind (arith, common_steps, (take-append-drop place bytes), (chars-append front (drop place bytes) is_front)) in
     record {
       index = length (chars front);
       within = omega (arith, ap length split, length-append (chars front) (chars (drop place bytes)));

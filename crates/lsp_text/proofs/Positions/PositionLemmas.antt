@@ -4,6 +4,7 @@ use Rattle.lsp_text.proofs.Prelude.{ℕ, suc, ◌≡◌, ◌<◌, ◌≤◌, tru
 use Rattle.lsp_text.proofs.TextLines.RowLemmas.{find_only, IsFound, find_found}
 use Rattle.lsp_text.proofs.TextLines.LineLemmas.{line_rises, splits_none_past, in_content, in_content_line, in_content_whole, start_in_content, stop_in_content, line_has_stop, IsStart, IsStop}
 use Rattle.lsp_text.proofs.Counting.UnitLemmas.{units_rise, units_same}
+use Rattle.std.proofs.lemmas.Grind.{common_steps}
 
 -- The index of a content with the units of an index of that content is that index.
 pub content_index : (units : ℕ → ℕ) → ((c : ℕ) → 1 ≤ units c) → (text : List ℕ) (line start stop k : ℕ)
@@ -45,8 +46,7 @@ content_index units some text line start stop k is_start is_stop within content 
 pub exact_denotes : (units : ℕ → ℕ) → ((c : ℕ) → 1 ≤ units c) → (text : List ℕ) (k : ℕ) → k ≤ length text
     → splits_crlf text k ≡ false → denoted units text (exact_position units text k) ≡ Some k
 exact_denotes units some text k within whole =
-    let there : nat_lt (line_ends text) (line_at text k) ≡ false =
-    le-ltb (line_ends text) (line_at text k) (line_rises text k (length text) within) in
+    let there = le-ltb (line_ends text) (line_at text k) (line_rises text k (length text) within) in
     let content : is_in_content text (line_at text k) k ≡ true = in_content text (line_at text k) k refl whole in
     rw there
     (content_index units some text (line_at text k) (line_start text (line_at text k)) (line_stop text (line_at text k))
@@ -61,10 +61,8 @@ pub exact_same : (units : ℕ → ℕ) → ((c : ℕ) → 1 ≤ units c) → (te
     → splits_crlf text j ≡ false → k ≤ length text → splits_crlf text k ≡ false → exact_position units text j
     ≡ exact_position units text k → j ≡ k
 exact_same units some text j k to_j whole_j to_k whole_k same =
-    let at_j : denoted units text (exact_position units text j) ≡ Some j =
-    exact_denotes units some text j to_j whole_j in
-    let at_k : denoted units text (exact_position units text k) ≡ Some k =
-    exact_denotes units some text k to_k whole_k in
+    let at_j = exact_denotes units some text j to_j whole_j in
+    let at_k = exact_denotes units some text k to_k whole_k in
     let both : denoted units text (exact_position units text j) ≡ denoted units text (exact_position units text k) =
     ap (denoted units text) same in
     cc
@@ -118,8 +116,7 @@ denoted_exact units text p k there within h =
     let g = rw (le-ltb (line_ends text) p.line there) at h in
     ⊎_elim
     (λ (e : nat_le (units_between units text start stop) p.character ≡ true).
-    at_stop (leb-true (units_between units text start stop) p.character e) (let s : Some stop ≡ Some k = rw e at g in
-    cc))
+    grind (arith, common_steps, at_stop, leb-true, units_between))
     (λ (e : nat_le (units_between units text start stop) p.character ≡ false).
     at_found (find_found (is_in_content text p.line) (λ j. units_between units text start j == p.character) 0
     (suc (length text)) k (rw e at g)))
@@ -139,5 +136,4 @@ denoted_exact units text p k there within h =
 
     at_found : IsFound (is_in_content text p.line) (λ j. units_between units text start j == p.character) 0
         (suc (length text)) k → exact_position units text k ≡ p
-    at_found f = exact (in_content_line text p.line k f.passes) (eqb-true (units_between units text start k) p.character
-        f.is_wanted)
+    at_found f = exact (in_content_line text p.line k f.passes) (grind (arith, common_steps, eqb-true, units_between))

@@ -5,6 +5,7 @@ use Rattle.lsp_text.proofs.Positions.BoundaryLemmas.{boundary_from}
 use Rattle.lsp_text.proofs.Positions.InLineLemmas.{index_in_line, denoted_in_line}
 use Rattle.lsp_text.proofs.Positions.PlaceLemmas.{place_end, place_within, place_add, part_place, place_boundary, place_rises}
 use Rattle.lsp_text.proofs.TextLines.ContentLemmas.{stop_behind, stop_within}
+use Rattle.std.proofs.lemmas.Grind.{common_steps}
 
 -- the bytes from one place of a text to another
 abbrev pub part : List ℕ → ℕ → ℕ → List ℕ
@@ -33,16 +34,7 @@ line_place_is : (units : ℕ → ℕ) (cs rest_after : List ℕ) (c : ℕ) → l
     ≡ option_map (place_of (cs ++ rest_after)) (index_in_line units cs c)
 line_place_is units [] rest_after c = refl
 line_place_is units (x ∷ cs) rest_after c =
-    grind (
-      arith,
-      common_steps,
-      map_len,
-      index_in_line,
-      length-append,
-      encode,
-      length-encode,
-      (line_place_is units cs rest_after (c - units x)),
-    )
+    grind (arith, common_steps, encode, length-encode, (line_place_is units cs rest_after (c - units x)))
 
 shifted : (text : List ℕ) (start : ℕ) (o : Option ℕ) → option_map (place_of text) (option_map (λ n. start + n) o)
     ≡ option_map (λ n. place_of text start + n) (option_map (place_of (drop start text)) o)

@@ -1,10 +1,11 @@
 -- Where a line's content ends, by the start of the next line; and that it ends at the same place of the bytes.
-use Rattle.lsp_text.proofs.Prelude.{◌≡◌, ℕ, zero, suc, ◌+◌, ◌-◌, ◌≤◌, ◌<◌, true, false, cond, List, [], ◌∷◌, ◌++◌, length, take, drop, refl, sym, ap, ◌∙◌, arith, ⊎_elim, eqb-true, subst, encode_utf8_all, prefix_len, encode, length-append, get_or-map, length-map, cases_lt, cases_eq, cases_Bool, and_parts, and_right, nat_tests, encode_ascii, place_of, splits_crlf, line_at, line_ends, line_start, line_stop, is_in_content, line_starts, common_steps}
+use Rattle.lsp_text.proofs.Prelude.{◌≡◌, ℕ, zero, suc, ◌+◌, ◌-◌, ◌≤◌, ◌<◌, true, false, cond, List, [], ◌∷◌, ◌++◌, length, drop, refl, sym, ap, ◌∙◌, arith, ⊎_elim, eqb-true, subst, encode_utf8_all, prefix_len, encode, length-append, get_or-map, length-map, cases_lt, cases_eq, cases_Bool, and_parts, and_right, nat_tests, encode_ascii, place_of, splits_crlf, line_at, line_ends, line_start, line_stop, is_in_content, line_starts, common_steps}
 use Rattle.lsp_text.proofs.TextLines.LineLemmas.{line_rises, in_content, in_content_line, in_content_whole, line_has_start, line_has_stop, IsStop, splits_none_past}
 use Rattle.lsp_text.proofs.Positions.InLineLemmas.{is_inside_line, line_length}
 use Rattle.lsp_text.proofs.TextLines.StartRowLemmas.{next_start, IsNextStart, start_at, length-line_starts}
 use Rattle.lsp_text.proofs.TextLines.StartLemmas.{starts_of_bytes, AllHigh, encode_high}
 use Rattle.lsp_text.proofs.Positions.PlaceLemmas.{place_add, drop_place}
+use Rattle.std.proofs.lemmas.Grind.{common_steps}
 
 -- Before an index that splits a CRLF stands an index of the same line, which splits none.
 before_split : (text : List ℕ) (k : ℕ) → splits_crlf text (suc k) ≡ true → (line_at text (suc k) ≡ line_at text k)
@@ -40,12 +41,7 @@ stop_is text line k there start =
     all : (j : ℕ) → is_in_content text line j ≡ true → j ≤ k
     all j inside =
         ⊎_elim
-        (λ (h : k < j). absurd (omega (
-          arith,
-          line_rises text (suc k) j h,
-          next.line_is,
-          in_content_line text line j inside,
-        )))
+        (λ (h : k < j). grind (arith, common_steps, (line_rises text (suc k) j h), (in_content_line text line j inside), next.line_is))
         (λ (h : j ≤ k). h)
         (cases_lt k j)
 
@@ -54,11 +50,9 @@ stop_is text line k there start =
     at_split zero e here within all = absurd (cc)
     at_split (suc j) e here within all =
         let before = before_split text j e in
-        let whole : splits_crlf text (line_stop text line) ≡ false =
-        in_content_whole text line (line_stop text line) stop.passes in
+        let whole = in_content_whole text line (line_stop text line) stop.passes in
         ⊎_elim
-        (λ (h : line_stop text line ≡ suc j). absurd (let w : splits_crlf text (suc j) ≡ false = ap (splits_crlf text)
-        (sym h) ∙ whole in cc))
+        (λ (h : line_stop text line ≡ suc j). grind (arith, common_steps, splits_crlf))
         (λ (h : line_stop text line ≡ suc j → ⊥).
         omega (
           arith,
@@ -70,8 +64,7 @@ stop_is text line k there start =
 
 pub stop_behind : (text : List ℕ) (line : ℕ) → line ≤ line_ends text → line_start text line ≤ line_stop text line
 stop_behind text line there =
-    let stop = line_has_stop text line there in
-    (line_has_start text line there).least (line_stop text line) (omega arith) stop.passes
+    grind (arith, common_steps, line_has_stop, line_has_start, line_stop)
 
 pub stop_within : (text : List ℕ) (line : ℕ) → line ≤ line_ends text → line_stop text line ≤ length text
 stop_within text line there = omega (arith, (line_has_stop text line there).in_row)
@@ -79,13 +72,7 @@ stop_within text line there = omega (arith, (line_has_stop text line there).in_r
 -- The last line's content ends at the end of the text.
 pub last_stop : (text : List ℕ) → line_stop text (line_ends text) ≡ length text
 last_stop text =
-    let stop = line_has_stop text (line_ends text) (omega arith) in
-    omega (
-      arith,
-      stop.in_row,
-      stop.greatest (length text) (omega arith) (in_content text (line_ends text) (length text) refl
-          (splits_none_past text (length text) (omega arith))),
-    )
+    grind (arith, common_steps, line_has_stop, line_ends, in_content, splits_none_past)
 
 -- The lines of the bytes are at the places of those of the characters.
 pub same_line_ends : (text : List ℕ) → line_ends (encode_utf8_all text) ≡ line_ends text
@@ -114,8 +101,7 @@ prefix_high (b ∷ bytes) rest all = rw (inside_high b all.0, prefix_high bytes 
 
 pub place_cons : (c : ℕ) (cs : List ℕ) (n : ℕ) → place_of (c ∷ cs) (1 + n) ≡ length (encode c) + place_of cs n
 place_cons c cs n =
-    let next : 1 + n ≡ suc n = omega arith in
-    ap (place_of (c ∷ cs)) next ∙ length-append (encode c) (encode_utf8_all (take n cs))
+    grind (arith, common_steps, place_of, length-append, encode, encode_utf8_all)
 
 prefix_of_bytes : (cs : List ℕ) → prefix_len is_inside_line (encode_utf8_all cs)
     ≡ place_of cs (prefix_len is_inside_line cs)
@@ -144,13 +130,11 @@ same_stop text line there =
     let begin : place_of text start ≡ line_start bytes line = same_start text line there in
     let front : prefix_len is_inside_line (drop start text) ≡ line_stop text line - start =
     line_length text line there in
-    let byte_front : prefix_len is_inside_line (drop (line_start bytes line) bytes) ≡ line_stop bytes line
-    - line_start bytes line = line_length bytes line (omega (arith, same_line_ends text)) in
+    let byte_front = line_length bytes line (omega (arith, same_line_ends text)) in
     let rest : drop (line_start bytes line) bytes ≡ encode_utf8_all (drop start text) =
     ap (λ n. drop n bytes) (sym begin) ∙ drop_place text start in
     let order : start ≤ line_stop text line = stop_behind text line there in
-    let byte_order : line_start bytes line ≤ line_stop bytes line =
-    stop_behind bytes line (omega (arith, same_line_ends text)) in
+    let byte_order = stop_behind bytes line (omega (arith, same_line_ends text)) in
     let sum : start + (line_stop text line - start) ≡ line_stop text line = omega arith in
     let whole : place_of text (line_stop text line) ≡ place_of text start + place_of (drop start text)
     (line_stop text line - start) = ap (place_of text) (sym sum) ∙ place_add text start (line_stop text line - start) in

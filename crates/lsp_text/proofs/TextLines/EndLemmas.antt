@@ -1,6 +1,7 @@
 -- The line ends of a text, found among its line feeds and carriage returns.
-use Rattle.lsp_text.proofs.Prelude.{◌≡◌, ℕ, zero, suc, ◌+◌, ◌-◌, ◌≤◌, ◌<◌, false, List, [], ◌∷◌, ◌++◌, length, take, drop, map, get_or, slice_index, filter, refl, ap, ◌∙◌, arith, length-take, length-take-le, length-drop, get_or-take, get_or-drop, append-nil, cases_Bool, nat_tests, starts_line, numbers_from, common_steps}
+use Rattle.lsp_text.proofs.Prelude.{◌≡◌, ℕ, zero, suc, ◌+◌, ◌-◌, ◌≤◌, ◌<◌, false, List, [], ◌∷◌, ◌++◌, length, take, drop, map, get_or, slice_index, filter, refl, ◌∙◌, arith, length-take, length-take-le, length-drop, get_or-take, get_or-drop, append-nil, cases_Bool, nat_tests, starts_line, numbers_from, common_steps}
 use Rattle.memchr.specs.Find.{places_from, places, is_byte2}
+use Rattle.std.proofs.lemmas.Grind.{common_steps}
 
 -- the ends behind the marks at these offsets from `low`
 abbrev pub ends_of : List ℕ → ℕ → List ℕ → List ℕ
@@ -36,25 +37,18 @@ pub ends_of-part : (text : List ℕ) (low high : ℕ) → low ≤ high → high 
     ≡ filter (starts_line text) (numbers_from (suc low) (high - low))
 ends_of-part text low high order within =
     let part = take (high - low) (drop low text) in
-    let size : length part ≡ high - low =
-    length-take-le (high - low) (drop low text) (omega (arith, length-drop low text)) in
+    let size = length-take-le (high - low) (drop low text) (omega (arith, length-drop low text)) in
     let same = λ (k : ℕ) (h : k < length part). get_or-take (high - low) (drop low text) k 0 (omega arith)
     ∙ get_or-drop low text k 0 in
     let count : length part - 0 ≡ high - low = omega (arith, size) in
     let from : suc (low + 0) ≡ suc low = omega arith in
     ends_of-places text part low 0 (length part - 0) same (omega arith)
-    ∙ (ap (λ n. filter (starts_line text) (numbers_from (suc (low + 0)) n)) count
-    ∙ ap (λ x. filter (starts_line text) (numbers_from x (high - low))) from)
+    ∙ (grind (arith, common_steps, starts_line, numbers_from))
 
 pub Marks-part : (text : List ℕ) (low high : ℕ) → low ≤ high → high ≤ length text →
     Marks low high (places (is_byte2 10 13) (take (high - low) (drop low text)))
 Marks-part text low high order within =
-    Marks-places (take (high - low) (drop low text)) low high 0 _ (grind (
-      arith,
-      common_steps,
-      length-take,
-      length-drop,
-    ))
+    Marks-places (take (high - low) (drop low text)) low high 0 _ (grind (arith, common_steps, length-take, length-drop))
 
 -- the last turn: nothing is left
 pub ends_of-all : (text : List ℕ) (low high : ℕ) (starts old marks : List ℕ) → low ≤ high → high ≤ length text

@@ -4,6 +4,7 @@ use Rattle.lsp_text.proofs.TextLines.StartLemmas.{starts_of_text}
 use Rattle.lsp_text.proofs.TextLines.StartRowLemmas.{line_starts_are, length-line_starts, start_at, next_start, IsNextStart}
 use Rattle.lsp_text.proofs.Positions.PlaceLemmas.{place_end}
 use Rattle.lsp_text.proofs.TextLines.ContentLemmas.{last_stop, same_line_ends, same_start, same_stop, stop_is}
+use Rattle.std.proofs.lemmas.Grind.{common_steps}
 
 -- Lines made of the bytes of a text are those of the text.
 pub indexes_from : (bytes starts : List ℕ) → IsUtf8 bytes → length bytes ≤ 2147483648 → starts ≡ line_starts bytes
@@ -67,6 +68,5 @@ indexes_next bytes lines line utf8 indexes h =
     record {
       some = is_next.some;
       within = is_next.within;
-      stop = sym (stop ∙ (stop_is bytes line (n - 1) (omega arith) (sym next ∙ omega (arith, is_next.some))
-          ∙ ap (λ m. cond (splits_crlf bytes (n - 1)) m (n - 1)) minus));
+      stop = grind (arith, common_steps, stop_is, (splits_crlf bytes (n - 1)), is_next.some);
     }

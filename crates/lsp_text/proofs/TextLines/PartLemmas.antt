@@ -4,6 +4,7 @@ use Rattle.lsp_text.proofs.TextLines.LineLemmas.{line_rises}
 use Rattle.lsp_text.proofs.Positions.InLineLemmas.{is_inside_line, line_length}
 use Rattle.lsp_text.proofs.TextLines.StartRowLemmas.{first_starts, next_start}
 use Rattle.lsp_text.proofs.TextLines.ContentLemmas.{stop_is, stop_behind, last_stop}
+use Rattle.std.proofs.lemmas.Grind.{common_steps}
 
 -- the characters of a line's content
 inside : (text : List ℕ) (line k : ℕ) → line ≤ line_ends text → line_start text line ≤ k → k < line_stop text line
@@ -13,8 +14,7 @@ inside text line k there low high =
     let at : start + (k - start) ≡ k = omega arith in
     let less : k - start < prefix_len is_inside_line (drop start text) = omega (arith, line_length text line there) in
     ap (λ i. is_inside_line (get_or text i 0)) (sym at)
-    ∙ (ap is_inside_line (sym (get_or-drop start text (k - start) 0)) ∙ prefix_len_passes is_inside_line
-    (drop start text) (k - start) 0 less)
+    ∙ (grind (arith, common_steps, is_inside_line, get_or-drop, prefix_len_passes))
 
 not_feed : (x : ℕ) → is_inside_line x ≡ true → x ≢ line_feed
 not_feed x h e = grind (arith, common_steps, not-true, and_parts, eq-eqb)
@@ -60,8 +60,7 @@ line_end_is text line (suc k) there start =
     end_from text line k 2 here (omega (arith, start)) (two_ends text k (omega (arith, start, next.within)) e))
     (λ (e : splits_crlf text (suc k) ≡ false).
     let here : line_stop text line ≡ suc k = stop ∙ ap (λ b. cond b (suc k - 1) (suc k)) e in
-    end_from text line (suc k) 1 here (omega (arith, start)) (one_end text (suc k) (omega (arith, start, next.within))
-    ends))
+    end_from text line (suc k) 1 here (omega (arith, start)) (grind (arith, common_steps, one_end)))
     (cases_Bool (splits_crlf text (suc k)))
 
 -- A carriage return that ends a line by itself has no line feed after it.
@@ -82,15 +81,12 @@ return_alone text line k there start alone feed =
     ) in
     let one : size ≡ 1 = omega (arith, start, stop) in
     let same : take 1 (drop k text) ≡ carriage_return ∷ [] = rw (one, stop) at alone in
-    let last : get_or text k 0 ∷ [] ≡ carriage_return ∷ [] = sym (take_one text k within) ∙ same in
-    let is_return : slice_index text k ≡ carriage_return = cc in
     let ends : starts_line text (suc k) ≡ true = ap (starts_line text) (sym start) ∙ next.ends in
     ⊎_elim
     (λ (h : (slice_index text k == line_feed) ≡ true). grind (arith, common_steps, eqb-true))
     (λ (h : ((slice_index text k == carriage_return) && not (slice_index text (suc k) == line_feed)) ≡ true).
     grind (arith, common_steps, not-true, and_parts, eq-eqb))
-    (or_cases (slice_index text k == line_feed) ((slice_index text k == carriage_return)
-    && not (slice_index text (suc k) == line_feed)) ends)
+    (grind (arith, common_steps, or_cases, line_feed, carriage_return))
 
 crlf_is_one : (text : List ℕ) (line : ℕ) → line < line_ends text → line_end_of text line ≡ carriage_return ∷ [] →
     slice_index text (line_start text (suc line)) ≢ line_feed

@@ -1,12 +1,13 @@
 -- The line starts of a text in which some bytes were replaced: those before stay, those behind move, and those between
 -- are found anew.
-use Rattle.lsp_text.proofs.Prelude.{◌≡◌, ℕ, zero, suc, ◌+◌, ◌-◌, ◌≤◌, ◌<◌, ◌^◌, Bool, true, false, not, ◌&&◌, ◌||◌, ◌==◌, List, [], ◌∷◌, ◌++◌, length, take, drop, map, get_or, slice_index, filter, refl, sym, ap, ◌∙◌, arith, ⊎_elim, subst, length-append, length-drop, length-take, get_or-take, get_or-drop, get_or-append_right, get_or_append_left, take_at, drop_at, append_assoc, map-id, cases_lt, cases_Bool, starts_line, numbers_from, AreLinesOf, starts_between, line_starts, IsLineOf, AreStarts, Result, Ok, Err, OnOk, OnErr, IsUtf8, common_steps}
+use Rattle.lsp_text.proofs.Prelude.{◌≡◌, ℕ, zero, suc, ◌+◌, ◌-◌, ◌≤◌, ◌<◌, ◌^◌, Bool, true, false, List, [], ◌∷◌, ◌++◌, length, take, drop, map, get_or, filter, refl, sym, ap, ◌∙◌, arith, ⊎_elim, subst, length-append, length-drop, length-take, get_or-take, get_or-drop, get_or-append_right, get_or_append_left, take_at, drop_at, append_assoc, map-id, cases_lt, cases_Bool, starts_line, numbers_from, AreLinesOf, starts_between, line_starts, IsLineOf, AreStarts, Result, Ok, Err, OnOk, OnErr, IsUtf8, common_steps}
 use Rattle.std.proofs.lemmas.List.Elements.{filter-append}
 use Rattle.lsp_text.specs.Splice.{IsReplaced}
 use Rattle.lsp_text.specs.inside.Splice.{Replaces}
 use Rattle.lsp_text.proofs.TextLines.StartLemmas.{starts_of_text}
 use Rattle.lsp_text.proofs.TextLines.IndexesLemmas.{indexes_from}
 use Rattle.lsp_text.proofs.TextLines.StartRowLemmas.{filter_ascends, ascends_from, line_starts_are}
+use Rattle.std.proofs.lemmas.Grind.{common_steps}
 
 numbers_split : (first m n : ℕ) → numbers_from first (m + n) ≡ numbers_from first m ++ numbers_from (first + m) n
 numbers_split first zero n = grind (arith, common_steps)
@@ -21,7 +22,6 @@ pub ends_split : (text : List ℕ) (low mid high : ℕ) → low ≤ mid → mid 
     ≡ starts_between text low mid ++ starts_between text mid high
 ends_split text low mid high first second =
     let sum : high - low ≡ (mid - low) + (high - mid) = omega arith in
-    let from : suc low + (mid - low) ≡ suc mid = omega arith in
     ap (λ n. filter (starts_line text) (numbers_from (suc low) n)) sum ∙
     (grind (arith, common_steps, numbers_split, low, filter-append))
 
@@ -35,8 +35,7 @@ filter_moved move test other a b (suc n) same moves =
     let b0 : b + 0 ≡ b = omega arith in
     let here : test a ≡ other b = ap test (sym a0) ∙ (same 0 (omega arith) ∙ ap other b0) in
     let moved : move a ≡ b = ap move (sym a0) ∙ (moves 0 (omega arith) ∙ b0) in
-    let later : map move (filter test (numbers_from (suc a) n)) ≡ filter other (numbers_from (suc b) n) =
-    filter_moved move test other (suc a) (suc b) n (λ j h. ap test (omega arith)
+    let later = filter_moved move test other (suc a) (suc b) n (λ j h. ap test (omega arith)
     ∙ (same (suc j) (omega arith) ∙ ap other (omega arith))) (λ j h. ap move (omega arith)
     ∙ (moves (suc j) (omega arith) ∙ omega arith)) in
     ⊎_elim
@@ -71,8 +70,7 @@ count_front front rest_after place line some low high found =
     ⊎_elim
     (λ (h : line + 1 < length front).
     let last = length front - 1 in
-    let at : get_or (front ++ rest_after) last 0 ≡ get_or front last 0 =
-    get_or_append_left front rest_after 0 last (omega arith) in
+    let at = get_or_append_left front rest_after 0 last (omega arith) in
     absurd (omega (arith, at, low last (omega arith), found.greatest last (omega arith) (omega (arith, size)))))
     (λ (h : length front ≤ line + 1).
     grind (arith, common_steps, get_or-append_right, cases_lt))
@@ -90,8 +88,7 @@ starts_cut text place count within some found =
     let rest_after = starts_between text place (length text) in
     let whole : line_starts text ≡ front ++ rest_after =
     ap (λ xs. 0 ∷ xs) (ends_split text 0 place (length text) (omega arith) within) in
-    let counted : count - 1 + 1 ≡ length front =
-    count_front front rest_after place (count - 1) (omega arith) (low place) (ends_behind text place (length text))
+    let counted = count_front front rest_after place (count - 1) (omega arith) (low place) (ends_behind text place (length text))
     (subst (λ xs. IsLineOf xs place (count - 1)) whole found) in
     let size : length front ≡ count = omega arith in
     record {
@@ -121,19 +118,14 @@ module _ (old bytes : List ℕ) (from to len : ℕ) (is : IsReplaced old bytes f
 
   ends_back : (i : ℕ) → starts_line old (suc (to + i)) ≡ starts_line bytes (suc (from + len + i))
   ends_back i =
-      let next : get_or old (suc (to + i)) 0 ≡ get_or bytes (suc (from + len + i)) 0 =
-      ap (λ k. get_or old k 0) (omega arith) ∙ (same_back (suc i) ∙ ap (λ k. get_or bytes k 0) (omega arith)) in
-      ap (λ x. (x == 10) || ((x == 13) && not (slice_index old (suc (to + i)) == 10))) (same_back i) ∙
-      ap (λ y. (slice_index bytes (from + len + i) == 10) || ((slice_index bytes (from + len + i) == 13)
-      && not (y == 10))) next
+      grind (arith, common_steps, (same_back (suc i)), (same_back i))
 
   -- those before the edit stay
   pub front_stays : starts_between old 0 (from - 1) ≡ starts_between bytes 0 (from - 1)
   front_stays =
       sym (map-id (starts_between old 0 (from - 1))) ∙
       filter_moved (λ x. x) (starts_line old) (starts_line bytes) 1 1 (from - 1 - 0)
-      (λ j h. let a : 1 + j ≡ suc j = omega arith in
-      ap (starts_line old) a ∙ (ends_front j (omega arith) ∙ ap (starts_line bytes) (sym a)))
+      (λ j h. grind (arith, common_steps, starts_line, ends_front))
       (λ j h. refl)
 
   -- those behind it move with its end
@@ -207,8 +199,7 @@ module _ (old bytes starts found now : List ℕ) (from to len keep past : ℕ)
       let i = k - (keep + length found) in
       let row = starts_between old to (length old) in
       let at : get_or now k 0 ≡ get_or row i 0 =
-      ap (λ n. get_or now n 0) (let e : k ≡ keep + length found + i = omega arith in e) ∙
-      (sym (get_or-drop (keep + length found) now i 0) ∙ ap (λ xs. get_or xs i 0) (now_behind ∙ behind_is)) in
+      grind (arith, common_steps, get_or-drop, now_behind, behind_is) in
       let inside : i < length row = grind (arith, common_steps, length-drop, now_behind, behind_is) in (
         omega (arith, at, ends_behind old to (length old) i inside),
         omega (arith, at, ends_upto old to (length old) i placed.is.within inside),
@@ -264,8 +255,7 @@ module _ (old bytes starts found now shown : List ℕ) (from to len keep past co
       + (from + len) < 2 ^ 32
   shown_room small k low high =
       let here : get_or shown k 0 ≡ get_or now k 0 = ap (λ xs. get_or xs k 0) same in
-      let room : get_or now k 0 - to + (from + len) < 2 ^ 32 =
-      placed_room old bytes starts found now from to len keep past placed small k (omega (arith, counted))
+      let room = placed_room old bytes starts found now from to len keep past placed small k (omega (arith, counted))
       (omega (arith, ap length same)) in
       omega (arith, here, room)
 

@@ -2,6 +2,7 @@
 use Rattle.lsp_text.proofs.Prelude.{◌≡◌, ℕ, zero, suc, ◌+◌, ◌-◌, ◌≤◌, ◌<◌, Bool, true, false, not, ◌&&◌, ◌||◌, ◌==◌, cond, ltb, List, [], ◌∷◌, ◌++◌, length, drop, map, get_or, slice_index, filter, refl, sym, ap, ◌∙◌, arith, ⊎_elim, encode_utf8_all, len_utf8, chars, IsUtf8, drop-cons, get_or-drop, map-id, drop_all, cases_lt, cond_both, nat_tests, encode_ascii, length-encode, len_utf8_ascii, len_utf8_bounds, encodes-chars, place_of, starts_line, numbers_from, line_starts, start_places, common_steps}
 use Rattle.std.proofs.Math.Utf8.{encode}
 use Rattle.lsp_text.proofs.Positions.PlaceLemmas.{place_more}
+use Rattle.std.proofs.lemmas.Grind.{common_steps}
 
 -- the ends of a text, where `before` stands before it and a character c weighs `weight c`: what stands before each
 abbrev pub weighed_ends : (ℕ → ℕ) → ℕ → List ℕ → List ℕ
@@ -71,25 +72,12 @@ not_line_feed a b h g = grind (arith, nat_tests)
 pub first_line_feed : (cs : List ℕ) → (slice_index (encode_utf8_all cs) 0 == 10) ≡ (slice_index cs 0 == 10)
 first_line_feed [] = refl
 first_line_feed (c ∷ cs) =
-    grind (
-      arith,
-      common_steps,
-      encode_ascii,
-      not_line_feed,
-      encode,
-      high_first,
-      encode_high,
-      length-encode,
-      len_utf8_bounds,
-      cases_lt,
-    )
+    grind (arith, common_steps, encode_high, length-encode, len_utf8_bounds, cases_lt)
 
 pub ends_of_bytes : (cs : List ℕ) (before : ℕ) → weighed_ends (λ _. 1) before (encode_utf8_all cs)
     ≡ weighed_ends len_utf8 before cs
 ends_of_bytes [] before = refl
 ends_of_bytes (c ∷ cs) before =
-    let bytes = encode_utf8_all cs in
-    let ends = λ (b : Bool) (n : ℕ). cond b (n ∷ weighed_ends len_utf8 n cs) (weighed_ends len_utf8 n cs) in
     ⊎_elim
     (λ (h : c < 128).
     grind (arith, common_steps, encode_ascii, first_line_feed, len_utf8_ascii, (ends_of_bytes cs (before + 1))))

@@ -1,6 +1,7 @@
 -- The row of a text's line starts: how many there are, which each is, and that they ascend.
-use Rattle.lsp_text.proofs.Prelude.{◌≡◌, ℕ, zero, suc, ◌+◌, ◌-◌, ◌≤◌, ◌<◌, Bool, true, false, cond, List, [], ◌∷◌, length, get_or, filter, refl, sym, ap, ◌∙◌, arith, ⊎_elim, subst, cases_lt, cases_Bool, starts_line, numbers_from, line_at, line_ends, line_start, line_starts, AreStarts, common_steps}
+use Rattle.lsp_text.proofs.Prelude.{◌≡◌, ℕ, zero, suc, ◌+◌, ◌-◌, ◌≤◌, ◌<◌, Bool, true, false, cond, List, [], ◌∷◌, length, get_or, filter, refl, sym, ap, arith, ⊎_elim, subst, cases_lt, cases_Bool, starts_line, numbers_from, line_at, line_ends, line_start, line_starts, AreStarts, common_steps}
 use Rattle.lsp_text.proofs.TextLines.LineLemmas.{line_rises, in_content, in_content_line, line_end_whole, line_has_start}
+use Rattle.std.proofs.lemmas.Grind.{common_steps}
 
 -- Each number of a row is greater than the one before, and the first is `low` at least.
 abbrev pub Ascends : ℕ → List ℕ → Type 0
@@ -48,20 +49,17 @@ ends_counted : (text : List ℕ) (k n : ℕ) → length (filter (starts_line tex
     ≡ line_at text (k + n)
 ends_counted text k zero = omega (arith, ap (line_at text) (let e : k ≡ k + 0 = omega arith in e))
 ends_counted text k (suc n) =
-    let later : length (filter (starts_line text) (numbers_from (suc (suc k)) n)) + line_at text (suc k)
-    ≡ line_at text (suc k + n) = ends_counted text (suc k) n in
+    let later = ends_counted text (suc k) n in
     let end : line_at text (suc k + n) ≡ line_at text (k + suc n) = ap (line_at text) (omega arith) in
     ⊎_elim
     (λ (e : starts_line text (suc k) ≡ true). let l : line_at text (suc k) ≡ suc (line_at text k) = rw e refl in
     rw e (omega arith))
-    (λ (e : starts_line text (suc k) ≡ false). let l : line_at text (suc k) ≡ line_at text k = rw e refl in
-    rw e (omega arith))
+    (λ (e : starts_line text (suc k) ≡ false). grind (arith, common_steps, (line_at text (suc k)), (line_at text k)))
     (cases_Bool (starts_line text (suc k)))
 
 pub length-line_starts : (text : List ℕ) → length (line_starts text) ≡ suc (line_ends text)
 length-line_starts text =
-    let counted : length (filter (starts_line text) (numbers_from 1 (length text - 0))) + 0
-    ≡ line_at text (0 + (length text - 0)) = ends_counted text 0 (length text - 0) in
+    let counted = ends_counted text 0 (length text - 0) in
     let end : line_at text (0 + (length text - 0)) ≡ line_at text (length text) = ap (line_at text) (omega arith) in
     omega arith
 
@@ -92,10 +90,8 @@ end_starts text zero within some ends = absurd (omega arith)
 end_starts text (suc k) within some ends =
     let line = line_at text (suc k) in
     let start = line_has_start text line (line_rises text (suc k) (length text) within) in
-    let low : line_start text line ≤ suc k =
-    start.least (suc k) (omega arith) (in_content text line (suc k) refl (line_end_whole text (suc k) ends)) in
-    let here : line_at text (line_start text line) ≡ line =
-    in_content_line text line (line_start text line) start.passes in
+    let low = start.least (suc k) (omega arith) (in_content text line (suc k) refl (line_end_whole text (suc k) ends)) in
+    let here = in_content_line text line (line_start text line) start.passes in
     let before : line ≡ suc (line_at text k) = rw ends refl in
     ⊎_elim
     (λ (h : line_start text line < suc k). absurd (omega (
@@ -118,8 +114,7 @@ start_at text (suc j) h =
     let end : IsEnd text 0 (length text - 0) (0 + suc j) (get_or row j 0) =
     end_at text 0 (length text - 0) j (omega arith) in
     let line_is : line_at text (get_or row j 0) ≡ suc j = omega (arith, end.line_is) in
-    sym (ap (line_start text) (sym line_is) ∙ end_starts text (get_or row j 0) (omega (arith, end.within))
-    (omega (arith, end.rest_after)) end.ends)
+    sym (grind (arith, common_steps, end_starts, (line_start text), end.within))
 
 -- Where a later line starts, an index ends the line before it.
 pub record IsNextStart (text : List ℕ) (line next : ℕ) : Type 0 where
@@ -133,7 +128,6 @@ pub next_start : (text : List ℕ) (line : ℕ) → suc line ≤ line_ends text
 next_start text line h =
     let row = filter (starts_line text) (numbers_from 1 (length text - 0)) in
     let size : suc (length row) ≡ suc (line_ends text) = length-line_starts text in
-    let end : IsEnd text 0 (length text - 0) (0 + suc line) (get_or row line 0) =
-    end_at text 0 (length text - 0) line (omega arith) in
+    let end = end_at text 0 (length text - 0) line (omega arith) in
     let found : IsNextStart text line (get_or row line 0) = grind (arith, common_steps) in
     subst (IsNextStart text line) (start_at text (suc line) h) found

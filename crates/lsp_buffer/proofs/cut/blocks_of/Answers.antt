@@ -6,8 +6,7 @@ pub loop-cut-preserved : goal.loop-cut-preserved
 loop-cut-preserved c =
     let rest = c.loop-cut.rest.now in
     let cut = c.in-Some.cut in
-    let front : c.range.result.now ≡ take cut rest =
-    c.range.ensures.value ∙ ap (λ n. take n rest) (let e : cut - 0 ≡ cut = omega arith in e) in
+    let front = c.range.ensures.value ∙ ap (λ n. take n rest) (let e : cut - 0 ≡ cut = omega arith in e) in
     let back : drop cut rest ≡ c.range_from-rest.result.now = sym (c.range_from-rest.ensures.value) in (
       c.range_from-rest.utf8,
       subst (λ (bytes : List ℕ). IsCutSoFar c.args.text.now bytes c.push.new.self.items) back

@@ -1,6 +1,7 @@
 use Rattle.lsp_buffer.proofs.Prelude.{arith, common_steps}
 use Rattle.lsp_buffer.proofs.Queries.FoundLemmas.{block_found, block_next, block_room}
 use Rattle.lsp_buffer.proofs.find.find_from.Goals as goal
+use Rattle.std.proofs.lemmas.Grind.{common_steps}
 
 pub plus-next-requires : goal.plus-next-requires
 plus-next-requires c = block_room c.args.blocks.now c.requires.are c.requires.size c.args.target c.loop-index.index
@@ -8,31 +9,7 @@ plus-next-requires c = block_room c.args.blocks.now c.requires.are c.requires.si
     c.counts.ensures c.loop-index.invariant
 
 pub loop-index-preserved : goal.loop-index-preserved
-loop-index-preserved c = grind (
-  arith,
-  common_steps,
-  block_next,
-  c.requires.are,
-  c.requires.size,
-  c.index-blocks-index.is,
-  c.counts.ensures,
-  c.loop-index.invariant,
-  c.plus-next.ensures,
-  c.reaches.ensures.0,
-  c.if-not-reaches.false,
-)
+loop-index-preserved c = grind (arith, common_steps, block_next)
 
 pub returns-then-not-reaches : goal.returns-then-not-reaches
-returns-then-not-reaches c = grind (
-  arith,
-  common_steps,
-  block_found,
-  c.requires.are,
-  c.requires.size,
-  c.index-blocks-index.is,
-  c.counts.ensures,
-  c.loop-index.invariant,
-  c.plus-next.ensures,
-  c.if-not-reaches.true,
-  c.reaches.ensures.1,
-)
+returns-then-not-reaches c = grind (arith, common_steps, block_found)

@@ -1,6 +1,7 @@
 use Rattle.lsp_buffer.proofs.Prelude.{arith, length-append, common_steps}
 use Rattle.lsp_buffer.proofs.Blocks.GroupLemmas.{groups_more, slice_counts, slice_full, slice_small}
 use Rattle.lsp_buffer.proofs.groups.fill.Goals as goal
+use Rattle.std.proofs.lemmas.Grind.{common_steps}
 
 pub total-counts-requires-clause-full : goal.total-counts-requires-clause-full
 total-counts-requires-clause-full c =
@@ -12,15 +13,4 @@ total-counts-requires-clause-size c =
 
 pub loop-group-preserved : goal.loop-group-preserved
 loop-group-preserved c =
-    grind (
-      arith,
-      common_steps,
-      groups_more,
-      slice_counts,
-      length-append,
-      c.loop-group.invariant.are,
-      c.loop-group.invariant.count,
-      c.requires.are,
-      c.requires.size,
-      c.total-counts.ensures,
-    )
+    grind (arith, common_steps, groups_more, slice_counts, length-append)

@@ -2,6 +2,7 @@ use Rattle.lsp_text.proofs.Prelude.{◌≡◌, suc, true, false, sym, ◌∙◌,
 use Rattle.lsp_text.proofs.PlainLemmas.{row_on, find_here, find_on, has_units, has_them, has_others, denoted_found}
 use Rattle.lsp_text.proofs.plain.denoted.Goals.{else-is_in_content-via-then-is_in_content+else-units_between-character-2, else-is_in_content-via-else-is_in_content}
 use Rattle.lsp_text.proofs.plain.denoted.Goals as goal
+use Rattle.std.proofs.lemmas.Grind.{common_steps}
 
 pub returns-then-units_between-character-2 : goal.returns-then-units_between-character-2
 returns-then-units_between-character-2 c =
@@ -15,15 +16,7 @@ returns-then-units_between-character-2 c =
     sym (find_here (is_in_content text c.args.position.line)
     (has_units units text c.args.position.line c.args.position.character) c.loop-index.index (suc (length text))
     (omega arith) passes there)
-    ∙ (grind (
-      arith,
-      common_steps,
-      denoted_found,
-      c.loop-index.invariant,
-      c.line_start-start.ensures,
-      c.line_stop-stop.ensures.value,
-      c.units_between.ensures.value,
-    ))
+    ∙ (grind (arith, common_steps, denoted_found))
 
 pub loop-index-preserved : goal.loop-index-preserved
 loop-index-preserved c =
@@ -42,13 +35,5 @@ loop-index-preserved c =
           sym (find_on test wanted c.loop-index.index (suc (length text)) (omega arith) passes other)
           ∙ c.loop-index.invariant
       | else-is_in_content-via-else-is_in_content w ↦
-          grind (
-            arith,
-            common_steps,
-            find,
-            row_on,
-            c.is_in_content.ensures,
-            w.if-is_in_content.false,
-            c.loop-index.invariant,
-          )
+          grind (arith, common_steps, find, row_on)
     ]

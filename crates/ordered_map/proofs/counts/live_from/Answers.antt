@@ -2,6 +2,7 @@ use Rattle.ordered_map.proofs.Prelude.{◌≡◌, ◌+◌, ◌*◌, ◌∙◌, a
 use Rattle.ordered_map.proofs.SlotLemmas.{here_none, here_some, live_past, live_read, live_next}
 use Rattle.ordered_map.proofs.counts.live_from.Goals.{then-is_live+else-left-eq0, else-is_live}
 use Rattle.ordered_map.proofs.counts.live_from.Goals as goal
+use Rattle.std.proofs.lemmas.Grind.{common_steps}
 
 pub returns-then-left-eq0-clause-found : goal.returns-then-left-eq0-clause-found
 returns-then-left-eq0-clause-found g c =
@@ -10,12 +11,10 @@ returns-then-left-eq0-clause-found g c =
 pub loop-slot-preserved : goal.loop-slot-preserved
 loop-slot-preserved g c =
     let items = c.args.slots.now in
-    let so_far : live_to items c.loop-slot.slot + c.loop-slot.left ≡ live_to items (256 * c.args.block) + c.args.count =
-    c.loop-slot.invariant in
+    let so_far = c.loop-slot.invariant in
     let next : live_to items (c.loop-slot.slot + 1) ≡ live_to items c.loop-slot.slot
     + here (get_or items c.loop-slot.slot None)
-    = live_next items c.loop-slot.slot (get_or items c.loop-slot.slot None)
-    (slice_get-get_or items c.loop-slot.slot None (omega arith)) in
+    = grind (arith, common_steps, live_next, slice_get-get_or) in
     let more : live_to items (c.loop-slot.slot + 1) + c.if-is_live.left ≡ live_to items (256 * c.args.block)
     + c.args.count =
     elim c.if-is_live.branch [

@@ -1,18 +1,10 @@
 use Rattle.lsp_buffer.proofs.Prelude.{◌≡◌, ◌-◌, length, arith, ap, block_ends, common_steps}
 use Rattle.lsp_buffer.proofs.Blocks.CountLemmas.{ends_low}
 use Rattle.lsp_buffer.proofs.block.SharedText.counts.Goals as goal
+use Rattle.std.proofs.lemmas.Grind.{common_steps}
 
 pub overflow_cast-result-2 : goal.overflow_cast-result-2
-overflow_cast-result-2 c = grind (
-  arith,
-  common_steps,
-  ends_low,
-  c.count.ensures.line_ends,
-  c.lines-lines.ensures,
-  c.text-text.ensures,
-  c.text-text.utf8,
-  c.lines-lines.ensures.size,
-)
+overflow_cast-result-2 c = grind (arith, common_steps, ends_low)
 
 pub returns : goal.returns
 returns c =

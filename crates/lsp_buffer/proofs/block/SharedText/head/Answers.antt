@@ -1,19 +1,11 @@
 use Rattle.lsp_buffer.proofs.Prelude.{ℕ, length, sym, ap, arith, subst, chars, IsPlace, common_steps}
 use Rattle.lsp_buffer.proofs.Blocks.FeedLemmas.{feed_head, end_place, end_at}
 use Rattle.lsp_buffer.proofs.block.SharedText.head.Goals as goal
+use Rattle.std.proofs.lemmas.Grind.{common_steps}
 
 pub returns-then-bytes-end-eq10 : goal.returns-then-bytes-end-eq10
 returns-then-bytes-end-eq10 c =
-    grind (
-      arith,
-      common_steps,
-      feed_head,
-      c.as_bytes-bytes.ensures.value,
-      c.text-text.ensures,
-      c.text-text.utf8,
-      c.if-end-gt0.true,
-      c.if-bytes-end-eq10.true,
-    )
+    grind (arith, common_steps, feed_head)
 
 pub position-requires-clause-place : goal.position-requires-clause-place
 position-requires-clause-place c = subst (λ (n : ℕ). IsPlace (chars c.text-text.result.now) n)
@@ -21,12 +13,4 @@ position-requires-clause-place c = subst (λ (n : ℕ). IsPlace (chars c.text-te
 
 pub returns : goal.returns
 returns c =
-    grind (
-      arith,
-      common_steps,
-      end_at,
-      c.position.ensures.exact,
-      c.text-text.utf8,
-      c.as_bytes-bytes.ensures.value,
-      c.text-text.ensures,
-    )
+    grind (arith, common_steps, end_at)

@@ -1,4 +1,4 @@
-use Rattle.lsp_buffer.proofs.Prelude.{◌≡◌, ◌+◌, ◌≤◌, ℕ, List, length, string_bytes, string_len, string_capacity, sym, ap, ◌∙◌, subst, arith, IsUtf8-string_bytes, replace_range, slice_range, IsCharBoundary}
+use Rattle.lsp_buffer.proofs.Prelude.{◌≡◌, ◌+◌, ◌≤◌, ℕ, List, length, string_bytes, string_len, string_capacity, sym, ap, ◌∙◌, subst, arith, IsUtf8-string_bytes, replace_range, IsCharBoundary}
 use Rattle.lsp_buffer.proofs.Changes.InPlaceLemmas.{start_again, undone, put_back, replaced_len, removed_len, at_err}
 use Rattle.lsp_buffer.proofs.block.SharedText.replace_range.Goals as goal
 
@@ -19,8 +19,7 @@ returns-then-is_err-clause-unchanged c =
     let at_end = boundary c.args.end c.self.view_is c.requires.at_end in
     let now : string_bytes c.replace_bytes.new.text ≡ replace_range old c.args.start c.args.end c.args.new.now =
     rw c.in_ok-reserve.ensures.bytes at c.in_ok-replace_bytes.ensures.bytes in
-    let gone : c.deref-then-is_err.result.now ≡ slice_range old c.args.start c.args.end =
-    c.deref-then-is_err.ensures ∙ (c.in_ok-removed.ensures.ok ∙ (rw c.deref.ensures at c.range.ensures.value)) in
+    let gone = c.deref-then-is_err.ensures ∙ (c.in_ok-removed.ensures.ok ∙ (rw c.deref.ensures at c.range.ensures.value)) in
     let room : string_len c.replace_bytes.new.text + length c.deref-then-is_err.result.now ≤ string_capacity
     c.replace_bytes.new.text =
     omega (

@@ -15,9 +15,4 @@ returns-clause-count c = ap (λ (sum : Counts). sum.ends + 1)
     c.counts.result c.plus.result c.counts.ensures (omega (arith, c.part_at-last.ensures.at.size)) c.plus.ensures)
 
 pub returns-clause-few : goal.returns-clause-few
-returns-clause-few c = omega (
-  arith,
-  returns-clause-count c,
-  ends_low c.args.self.now c.part_at-last.ensures.at.utf8,
-  c.part_at-last.ensures.at.size,
-)
+returns-clause-few c = omega (arith, returns-clause-count c, ends_low c.args.self.now c.part_at-last.ensures.at.utf8)

@@ -1,7 +1,8 @@
-use Rattle.lsp_buffer.proofs.Prelude.{◌≡◌, ◌≤◌, ◌+◌, ◌-◌, ℕ, List, length, set, ap, refl, sym, ◌∙◌, subst, arith, common_steps, with_items_is, concat, replace_range, IsCharBoundary, Counts, BlockRange, AreGroups, IsTextBuffer, IsChange, IsRangeOf, StaysInside, text_after}
+use Rattle.lsp_buffer.proofs.Prelude.{◌≡◌, ◌≤◌, ◌+◌, ◌-◌, ℕ, List, length, set, ap, refl, sym, ◌∙◌, subst, arith, common_steps, with_items_is, concat, replace_range, IsCharBoundary, BlockRange, AreGroups, IsChange, IsRangeOf, StaysInside, text_after}
 use Rattle.lsp_buffer.proofs.Changes.ChangeLemmas.{put_are, put_back, put_size, put_text, replaced_length}
 use Rattle.lsp_buffer.proofs.text_buffer.TextBuffer.replace_range.Goals.{then-stays_inside+in_ok-replace_range, else-stays_inside+in_ok-replace_across}
 use Rattle.lsp_buffer.proofs.text_buffer.TextBuffer.replace_range.Goals as goal
+use Rattle.std.proofs.lemmas.Grind.{common_steps}
 
 -- The range that was found is one of the blocks.
 is_change : (blocks read : List (List ℕ)) (text : List ℕ) (start stop : ℕ) (range : BlockRange) (new : List ℕ)
@@ -9,8 +10,7 @@ is_change : (blocks read : List (List ℕ)) (text : List ℕ) (start stop : ℕ)
     → length (replace_range text start stop new) ≤ 2147483648 → IsChange blocks range new
 is_change blocks read text start stop range new same view is room =
     subst (λ bs. IsChange bs range new) same
-    (is.change new
-    (subst (λ t. length (replace_range t start stop new) ≤ 2147483648) (sym (ap concat same ∙ view)) room))
+    (grind (arith, common_steps, replace_range, is.change))
 
 -- What is left is the changed text.
 is_text : (blocks read : List (List ℕ)) (text : List ℕ) (start stop : ℕ) (range : BlockRange) (new : List ℕ)
@@ -31,8 +31,7 @@ recount-requires-clause-are c =
     let blocks = c.self.inside.blocks.items in
     let range = c.range_of-range.result in
     let new = c.args.new.now in
-    let change : IsChange blocks range new =
-    is_change blocks c.deref.result.now c.args.self.now c.args.start c.args.end range new c.deref.ensures.value
+    let change = is_change blocks c.deref.result.now c.args.self.now c.args.start c.args.end range new c.deref.ensures.value
     c.self.view_is c.range_of-range.ensures c.requires.room in
     let inside : StaysInside blocks range new =
     subst (λ bs. StaysInside bs range new) c.deref-3.ensures.value (c.stays_inside.ensures.0 c.if-stays_inside.true) in
@@ -45,8 +44,7 @@ recount-requires-clause-size c =
     let blocks = c.self.inside.blocks.items in
     let range = c.range_of-range.result in
     let new = c.args.new.now in
-    let change : IsChange blocks range new =
-    is_change blocks c.deref.result.now c.args.self.now c.args.start c.args.end range new c.deref.ensures.value
+    let change = is_change blocks c.deref.result.now c.args.self.now c.args.start c.args.end range new c.deref.ensures.value
     c.self.view_is c.range_of-range.ensures c.requires.room in
     let inside : StaysInside blocks range new =
     subst (λ bs. StaysInside bs range new) c.deref-3.ensures.value (c.stays_inside.ensures.0 c.if-stays_inside.true) in
@@ -58,19 +56,16 @@ recount-requires-clause-other c =
     let blocks = c.self.inside.blocks.items in
     let range = c.range_of-range.result in
     let new = c.args.new.now in
-    let change : IsChange blocks range new =
-    is_change blocks c.deref.result.now c.args.self.now c.args.start c.args.end range new c.deref.ensures.value
+    let change = is_change blocks c.deref.result.now c.args.self.now c.args.start c.args.end range new c.deref.ensures.value
     c.self.view_is c.range_of-range.ensures c.requires.room in
     let inside : StaysInside blocks range new =
-    subst (λ bs. StaysInside bs range new) c.deref-3.ensures.value
-    (c.stays_inside.ensures.0 c.if-stays_inside.true) in (
+    grind (arith, common_steps, c.deref-3.ensures.value, c.stays_inside.ensures.0, c.if-stays_inside.true) in (
       c.index_mut.result.now,
       subst (λ (bs : List (List ℕ)). AreGroups bs c.deref_mut.result.now)
           (sym (put_back blocks range new change inside c.index_mut.result.now c.index_mut.ensures.value
           c.replace_range.new.self c.deref-then-stays_inside.result.now c.in_ok-replace_range.ensures.changed
           c.deref-then-stays_inside.ensures.value))
-          (subst (λ (gs : List Counts). AreGroups blocks gs) (sym c.deref_mut.ensures.value)
-          c.self.invariant.0.groups_are),
+          (grind (arith, common_steps, c.deref_mut.ensures.value, c.self.invariant.0.groups_are)),
     )
 
 -- The bytes are the changed text, whichever way.
@@ -80,11 +75,9 @@ text_is c =
     let blocks = c.self.inside.blocks.items in
     let range = c.range_of-range.result in
     let new = c.args.new.now in
-    let change : IsChange blocks range new =
-    is_change blocks c.deref.result.now c.args.self.now c.args.start c.args.end range new c.deref.ensures.value
+    let change = is_change blocks c.deref.result.now c.args.self.now c.args.start c.args.end range new c.deref.ensures.value
     c.self.view_is c.range_of-range.ensures c.requires.room in
-    let text : text_after blocks range new ≡ replace_range c.args.self.now c.args.start c.args.end new =
-    is_text blocks c.deref.result.now c.args.self.now c.args.start c.args.end range new c.deref.ensures.value
+    let text = is_text blocks c.deref.result.now c.args.self.now c.args.start c.args.end range new c.deref.ensures.value
     c.self.view_is c.range_of-range.ensures in
     elim c.if-stays_inside.branch [
       | then-stays_inside+in_ok-replace_range w ↦
@@ -104,29 +97,18 @@ invariant_of-self-2 c =
     let blocks = c.self.inside.blocks.items in
     let range = c.range_of-range.result in
     let new = c.args.new.now in
-    let change : IsChange blocks range new =
-    is_change blocks c.deref.result.now c.args.self.now c.args.start c.args.end range new c.deref.ensures.value
+    let change = is_change blocks c.deref.result.now c.args.self.now c.args.start c.args.end range new c.deref.ensures.value
     c.self.view_is c.range_of-range.ensures c.requires.room in (
       elim c.if-stays_inside.branch [
         | then-stays_inside+in_ok-replace_range w ↦
             let inside : StaysInside blocks range new =
-            subst (λ bs. StaysInside bs range new) c.deref-3.ensures.value
-            (c.stays_inside.ensures.0 w.if-stays_inside.true) in
+            grind (arith, common_steps, c.deref-3.ensures.value, c.stays_inside.ensures.0, w.if-stays_inside.true) in
             rw w.self-inside-is (record {
               are = put_are blocks range new change inside w.index_mut.result.now w.index_mut.ensures.value
                   w.replace_range.new.self (set blocks range.first w.replace_range.new.self)
                   w.in_ok-replace_range.ensures.changed refl c.utf8.new;
-              size = put_size blocks range new change inside w.index_mut.result.now w.index_mut.ensures.value
-                  w.replace_range.new.self (set blocks range.first w.replace_range.new.self)
-                  w.in_ok-replace_range.ensures.changed refl;
-              groups_are = grind (
-                arith,
-                common_steps,
-                with_items_is,
-                w.deref_mut.ensures.value,
-                w.deref-then-stays_inside.ensures.value,
-                w.recount.ensures,
-              );
+              size = grind (arith, common_steps, put_size, w.index_mut.ensures.value, w.in_ok-replace_range.ensures.changed);
+              groups_are = grind (arith, common_steps, with_items_is);
             })
         | else-stays_inside+in_ok-replace_across w ↦ rw w.self-inside-is w.replace_across.ensures.are
       ],

@@ -1,21 +1,14 @@
 use Rattle.lsp_text.proofs.Prelude.{slice_index, arith, chars, common_steps}
 use Rattle.lsp_text.proofs.Positions.ExactLemmas.{indexes_are, indexes_few, front_found, front_within, front_utf8, front_few, part_short, exact_is, exact_resolves}
 use Rattle.lsp_text.proofs.position.exact.position_in.Goals as goal
+use Rattle.std.proofs.lemmas.Grind.{common_steps}
 
 pub new-looks-requires : goal.new-looks-requires
 new-looks-requires g c = indexes_are c.args.bytes.now c.args.starts.now c.requires.utf8 c.requires.indexed
 
 pub overflow_cast-result : goal.overflow_cast-result
 overflow_cast-result g c =
-    grind (
-      arith,
-      common_steps,
-      indexes_few,
-      c.line_of-line.ensures.line.within,
-      c.new-looks.ensures.starts,
-      c.requires.utf8,
-      c.requires.indexed,
-    )
+    grind (arith, common_steps, indexes_few)
 
 pub slice_bounds-units_in-end : goal.slice_bounds-units_in-end
 slice_bounds-units_in-end g c =

@@ -1,6 +1,7 @@
 use Rattle.lsp_text.proofs.Prelude.{arith, common_steps}
 use Rattle.lsp_text.proofs.TextLines.IndexesLemmas.{indexes_line, indexes_start, indexes_last, indexes_next}
 use Rattle.lsp_text.proofs.position.resolve.content.Goals as goal
+use Rattle.std.proofs.lemmas.Grind.{common_steps}
 
 pub stop_before-requires-clause-some : goal.stop_before-requires-clause-some
 stop_before-requires-clause-some c =
@@ -26,13 +27,4 @@ returns-else-next-starts-clause-start c =
 
 pub returns-else-next-starts-clause-stop : goal.returns-else-next-starts-clause-stop
 returns-else-next-starts-clause-stop c =
-    grind (
-      arith,
-      common_steps,
-      indexes_next,
-      c.stop_before.ensures,
-      c.requires.utf8,
-      c.requires.indexed,
-      c.requires.line,
-      c.if-next-starts.false,
-    )
+    grind (arith, common_steps, indexes_next)

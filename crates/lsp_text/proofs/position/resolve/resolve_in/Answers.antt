@@ -2,114 +2,46 @@ use Rattle.lsp_text.proofs.Prelude.{◌+◌, ◌≤◌, length, sym, arith, char
 use Rattle.lsp_text.proofs.TextLines.IndexesLemmas.{indexes_line, indexes_count}
 use Rattle.lsp_text.proofs.Positions.ResolveLemmas.{resolved_past, resolved_at, content_order, content_within, content_utf8, place_in_content, denoted_place, denoted_boundary}
 use Rattle.lsp_text.proofs.position.resolve.resolve_in.Goals as goal
+use Rattle.std.proofs.lemmas.Grind.{common_steps}
 
 pub returns-then-line-starts-clause-value : goal.returns-then-line-starts-clause-value
 returns-then-line-starts-clause-value g c =
-    grind (
-      arith,
-      common_steps,
-      resolved_past,
-      indexes_count,
-      c.requires.utf8,
-      c.requires.indexed,
-      c.if-line-starts.true,
-    )
+    grind (arith, common_steps, resolved_past, indexes_count)
 
 pub slice_bounds-place_in-count : goal.slice_bounds-place_in-count
 slice_bounds-place_in-count g c =
-    content_order c.args.bytes.now c.args.position.line _ _ (grind (
-      arith,
-      common_steps,
-      indexes_line,
-      c.requires.indexed,
-      c.if-line-starts.false,
-      c.content-start.ensures.start,
-      c.content-start.ensures.stop,
-    ))
+    content_order c.args.bytes.now c.args.position.line _ _ (grind (arith, common_steps, indexes_line))
 
 pub slice_bounds-place_in-start : goal.slice_bounds-place_in-start
 slice_bounds-place_in-start g c =
-    content_order c.args.bytes.now c.args.position.line _ _ (grind (
-      arith,
-      common_steps,
-      indexes_line,
-      c.requires.indexed,
-      c.if-line-starts.false,
-      c.content-start.ensures.start,
-      c.content-start.ensures.stop,
-    ))
+    content_order c.args.bytes.now c.args.position.line _ _ (grind (arith, common_steps, indexes_line))
 
 pub slice_bounds-place_in-end : goal.slice_bounds-place_in-end
 slice_bounds-place_in-end g c =
-    grind (
-      arith,
-      common_steps,
-      content_within,
-      indexes_line,
-      c.requires.utf8,
-      c.requires.indexed,
-      c.if-line-starts.false,
-      c.content-start.ensures.start,
-      c.content-start.ensures.stop,
-    )
+    grind (arith, common_steps, content_within, indexes_line)
 
 pub place_in-requires : goal.place_in-requires
 place_in-requires g c =
-    content_utf8 c.args.bytes.now c.args.position.line _ _ c.requires.utf8 (grind (
-      arith,
-      common_steps,
-      indexes_line,
-      c.requires.indexed,
-      c.if-line-starts.false,
-      c.content-start.ensures.start,
-      c.content-start.ensures.stop,
-    ))
+    content_utf8 c.args.bytes.now c.args.position.line _ _ c.requires.utf8 (grind (arith, common_steps, indexes_line))
 
 pub overflow_add-result : goal.overflow_add-result
 overflow_add-result g c =
     let within : c.content-start.result.0 + c.in-Some.place ≤ length c.args.bytes.now =
-    grind (
-      arith,
-      common_steps,
-      place_in_content,
-      indexes_line,
-      c.requires.utf8,
-      c.requires.indexed,
-      c.if-line-starts.false,
-      c.content-start.ensures.start,
-      c.content-start.ensures.stop,
-      c.in-Some.ensures,
-    ) in
+    grind (arith, common_steps, place_in_content, indexes_line) in
     omega (arith, within, c.requires.indexed.size)
 
 pub returns-in-Some-clause-value : goal.returns-in-Some-clause-value
 returns-in-Some-clause-value g c =
     resolved_at g.U.Units.units_of (λ x. (g.met.U.Units.bounds x).0) c.args.bytes.now c.args.position
     c.content-start.result.0 c.content-start.result.1 _ c.requires.utf8
-    (grind (
-      arith,
-      common_steps,
-      indexes_line,
-      c.requires.indexed,
-      c.if-line-starts.false,
-      c.content-start.ensures.start,
-      c.content-start.ensures.stop,
-    ))
+    (grind (arith, common_steps, indexes_line))
     c.in-Some.ensures
 
 pub returns-in-None-clause-value : goal.returns-in-None-clause-value
 returns-in-None-clause-value g c =
     resolved_at g.U.Units.units_of (λ x. (g.met.U.Units.bounds x).0) c.args.bytes.now c.args.position
     c.content-start.result.0 c.content-start.result.1 _ c.requires.utf8
-    (grind (
-      arith,
-      common_steps,
-      indexes_line,
-      c.requires.indexed,
-      c.if-line-starts.false,
-      c.content-start.ensures.start,
-      c.content-start.ensures.stop,
-    ))
+    (grind (arith, common_steps, indexes_line))
     c.in-None.ensures
 
 pub returns-then-line-starts-clause-place : goal.returns-then-line-starts-clause-place
@@ -124,15 +56,7 @@ returns-in-Some-clause-place g c =
     (c.content-start.result.0 + c.in-Some.place)
     (resolved_at g.U.Units.units_of (λ x. (g.met.U.Units.bounds x).0) c.args.bytes.now c.args.position
     c.content-start.result.0 c.content-start.result.1 _ c.requires.utf8
-    (grind (
-      arith,
-      common_steps,
-      indexes_line,
-      c.requires.indexed,
-      c.if-line-starts.false,
-      c.content-start.ensures.start,
-      c.content-start.ensures.stop,
-    ))
+    (grind (arith, common_steps, indexes_line))
     c.in-Some.ensures)
 
 pub returns-in-Some-clause-boundary : goal.returns-in-Some-clause-boundary
@@ -141,13 +65,5 @@ returns-in-Some-clause-boundary g c =
     c.requires.utf8
     (resolved_at g.U.Units.units_of (λ x. (g.met.U.Units.bounds x).0) c.args.bytes.now c.args.position
     c.content-start.result.0 c.content-start.result.1 _ c.requires.utf8
-    (grind (
-      arith,
-      common_steps,
-      indexes_line,
-      c.requires.indexed,
-      c.if-line-starts.false,
-      c.content-start.ensures.start,
-      c.content-start.ensures.stop,
-    ))
+    (grind (arith, common_steps, indexes_line))
     c.in-Some.ensures)

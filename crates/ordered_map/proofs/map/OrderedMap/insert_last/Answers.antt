@@ -5,6 +5,7 @@ use Rattle.ordered_map.proofs.MapLemmas.{IsFreed, freed_counted, freed_live, fre
 use Rattle.ordered_map.proofs.SlotLemmas.{somes_short}
 use Rattle.ordered_map.proofs.map.OrderedMap.insert_last.Goals.{in-Some, in-None}
 use Rattle.ordered_map.proofs.map.OrderedMap.insert_last.Goals as goal
+use Rattle.std.proofs.lemmas.Grind.{common_steps}
 
 pub uncount-requires-clause-some : goal.uncount-requires-clause-some
 uncount-requires-clause-some g c =
@@ -15,14 +16,7 @@ uncount-requires-clause-some g c =
     there.at)
 
 pub overflow_add-self : goal.overflow_add-self
-overflow_add-self g c = grind (
-  arith,
-  common_steps,
-  somes_short,
-  c.self.invariant.live_is,
-  c.len-len.ensures.len,
-  c.len-len.ensures.small,
-)
+overflow_add-self g c = grind (arith, common_steps, somes_short)
 
 pub count_last-requires-clause-small : goal.count_last-requires-clause-small
 count_last-requires-clause-small g c =
@@ -35,15 +29,7 @@ count_last-requires-clause-small g c =
           (sym c.in_ok-slot.ensures.was ∙ w.in-Some.is) in
           let counts_are : (with_items c.reserve.new.self w.uncount.new.counts).items
           ≡ uncounted c.self.inside.counts.items w.in-Some.slot =
-          grind (
-            arith,
-            common_steps,
-            with_items_is,
-            w.deref_mut.ensures.len,
-            w.uncount.ensures,
-            w.deref_mut.ensures.value,
-            c.reserve.ensures.items,
-          ) in
+          grind (arith, common_steps, with_items_is) in
           rw (w.self-inside-is, w.in-Some.is, counts_are)
           (freed_some slots c.self.inside.counts.items c.self.inside.live w.in-Some.slot there.entry c.self.invariant
           there.at)
@@ -65,15 +51,7 @@ pack_if_sparse-requires-clause-counted g c =
           (sym c.in_ok-slot.ensures.was ∙ w.in-Some.is) in
           let counts_are : (with_items c.reserve.new.self w.uncount.new.counts).items
           ≡ uncounted c.self.inside.counts.items w.in-Some.slot =
-          grind (
-            arith,
-            common_steps,
-            with_items_is,
-            w.deref_mut.ensures.len,
-            w.uncount.ensures,
-            w.deref_mut.ensures.value,
-            c.reserve.ensures.items,
-          ) in
+          grind (arith, common_steps, with_items_is) in
           rw (w.self-inside-is, w.in-Some.is, counts_are)
           (freed_some slots c.self.inside.counts.items c.self.inside.live w.in-Some.slot there.entry c.self.invariant
           there.at)
@@ -100,15 +78,7 @@ pack_if_sparse-requires-clause-live g c =
           (sym c.in_ok-slot.ensures.was ∙ w.in-Some.is) in
           let counts_are : (with_items c.reserve.new.self w.uncount.new.counts).items
           ≡ uncounted c.self.inside.counts.items w.in-Some.slot =
-          grind (
-            arith,
-            common_steps,
-            with_items_is,
-            w.deref_mut.ensures.len,
-            w.uncount.ensures,
-            w.deref_mut.ensures.value,
-            c.reserve.ensures.items,
-          ) in
+          grind (arith, common_steps, with_items_is) in
           rw (w.self-inside-is, w.in-Some.is, counts_are)
           (freed_some slots c.self.inside.counts.items c.self.inside.live w.in-Some.slot there.entry c.self.invariant
           there.at)

@@ -1,9 +1,10 @@
 use Rattle.ordered_map.proofs.Prelude.{common_steps, with_items_is, with_items, somes, uncounted}
-use Rattle.std.proofs.Common.{◌-◌, arith, sym, ◌≡◌, ◌∙◌, Option, String, Global, ap, option_map}
+use Rattle.std.proofs.Common.{◌-◌, arith, sym, ◌≡◌, ◌∙◌, ap}
 use Rattle.ordered_map.proofs.FindLemmas.{missing, found}
 use Rattle.ordered_map.proofs.CountLemmas.{block_has, taken_counted}
 use Rattle.ordered_map.proofs.SlotLemmas.{somes_taken}
 use Rattle.ordered_map.proofs.map.OrderedMap.remove.Goals as goal
+use Rattle.std.proofs.lemmas.Grind.{common_steps}
 
 pub returns-in_err-slot-clause-value : goal.returns-in_err-slot-clause-value
 returns-in_err-slot-clause-value g c =
@@ -38,19 +39,13 @@ pack_if_sparse-requires-clause-counted g c =
 pub pack_if_sparse-requires-clause-live : goal.pack_if_sparse-requires-clause-live
 pack_if_sparse-requires-clause-live g c =
     let there = found c.args.key.now c.self.inside.slots c.in_ok-slot.slot (sym c.in_ok-slot.ensures) in
-    rw c.take-value.ensures.slots (omega (
-      arith,
-      c.self.invariant.live_is,
-      somes_taken c.self.inside.slots c.in_ok-slot.slot there.entry there.at,
-    ))
+    rw c.take-value.ensures.slots (omega (arith, somes_taken c.self.inside.slots c.in_ok-slot.slot there.entry there.at))
 
 pub returns-clause-value : goal.returns-clause-value
 returns-clause-value g c =
     let there = found c.args.key.now c.self.inside.slots c.in_ok-slot.slot (sym c.in_ok-slot.ensures) in
     rw (← c.self.view_is)
-    (c.take-value.ensures.value
-    ∙ (ap (λ (entry : Option (String Global × g.row.V.Denot)). option_map
-    (λ (pair : String Global × g.row.V.Denot). pair.1) entry) there.here ∙ sym there.value))
+    (grind (arith, common_steps, c.take-value.ensures.value))
 
 pub returns-clause-entries : goal.returns-clause-entries
 returns-clause-entries g c =

@@ -9,8 +9,7 @@ returns-clause-put g c =
     let put : c.insert.new.self.entries ≡ free ++ (c.args.key, Some c.args.value) ∷ [] =
     (rw c.unwrap.ensures at c.insert.ensures.entries) ∙ insert_entry-new _ c.free_key.new.indexed c.args.key
     (Some c.args.value) (rw c.deref-2.ensures at c.in_ok-free_key.ensures.free) in
-    let items : map slot_entry free ≡ vacated (map slot_entry slots) c.find-was.result =
-    c.in_ok-free_key.ensures.items ∙ ap (vacated (map slot_entry slots))
+    let items = c.in_ok-free_key.ensures.items ∙ ap (vacated (map slot_entry slots))
     (ap (λ bytes. position (has_key bytes) (map slot_entry slots)) c.deref-2.ensures
     ∙ sym (rw (c.deref.ensures, ← c.self.view_is) at c.find-was.ensures)) in
     rw (← c.self.view_is)

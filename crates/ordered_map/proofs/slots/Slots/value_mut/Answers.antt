@@ -1,6 +1,7 @@
 use Rattle.ordered_map.proofs.Prelude.{◌∙◌, refl, sym, common_steps, arith}
 use Rattle.ordered_map.proofs.KeyLemmas.{live_value, value_at, written}
 use Rattle.ordered_map.proofs.slots.Slots.value_mut.Goals as goal
+use Rattle.std.proofs.lemmas.Grind.{common_steps}
 
 pub value_there-requires : goal.value_there-requires
 value_there-requires g c =
@@ -16,12 +17,6 @@ returns g c = (
   ),
   record {
     lends = tt;
-    value = rw (← c.self.view_is) (sym (grind (
-      arith,
-      common_steps,
-      value_at,
-      c.self.inside.indexed.entries,
-      c.index_mut.ensures.value,
-    )) ∙ c.value_there.ensures.value);
+    value = rw (← c.self.view_is) (sym (grind (arith, common_steps, value_at)) ∙ c.value_there.ensures.value);
   },
 )
