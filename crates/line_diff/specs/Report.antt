@@ -52,15 +52,21 @@ abbrev pub other_for : List (List ℕ) → Hunk → ℕ → List ℕ
 other_for others hunk index = if nat_lt (index - hunk.start) (hunk.other_end - hunk.other_start)
     then text_at others (hunk.other_start + (index - hunk.start)) else []
 
--- The changes by which it differs from that.
-abbrev pub line_makers : NumberRows → List (List ℕ) → List (List ℕ) → Hunk → ℕ → MakerNumbers
-line_makers rows lines others hunk index =
-    makers_of (row_at rows.owners index) (row_at rows.places index) (text_at lines index)
-    (other_for others hunk index)
+-- The lines of a document's text, with the changes that made them, and those of a file.
+pub record SideLines : Type 0 where
+  pub rows : NumberRows
+  pub lines : List (List ℕ)
+  pub others : List (List ℕ)
 
-abbrev pub own_line_at : NumberRows → List (List ℕ) → List (List ℕ) → Hunk → ℕ → List ℕ
-own_line_at rows lines others hunk index =
-    own_line (index + 1) (line_makers rows lines others hunk index) (text_at lines index)
+-- The changes by which a line of a hunk differs from the file's in its place.
+abbrev pub line_makers : SideLines → Hunk → ℕ → MakerNumbers
+line_makers sides hunk index =
+    makers_of (row_at sides.rows.owners index) (row_at sides.rows.places index)
+    (text_at sides.lines index) (other_for sides.others hunk index)
+
+abbrev pub own_line_at : SideLines → Hunk → ℕ → List ℕ
+own_line_at sides hunk index =
+    own_line (index + 1) (line_makers sides hunk index) (text_at sides.lines index)
 
 -- A line that the file alone has.
 abbrev pub file_line : List ℕ → List ℕ
@@ -76,16 +82,16 @@ missing_words count last =
     ++ codes "):\n"
 
 -- The lines of a hunk, or where they are missing.
-abbrev pub hunk_head : NumberRows → List (List ℕ) → List (List ℕ) → Hunk → List ℕ
-hunk_head rows lines others hunk = if hunk.start == hunk.end
-    then missing_words hunk.start (number_at (row_at rows.places hunk.start) 0)
-    else words_from (own_line_at rows lines others hunk) (hunk.end - hunk.start) hunk.start
+abbrev pub hunk_head : SideLines → Hunk → List ℕ
+hunk_head sides hunk = if hunk.start == hunk.end
+    then missing_words hunk.start (number_at (row_at sides.rows.places hunk.start) 0)
+    else words_from (own_line_at sides hunk) (hunk.end - hunk.start) hunk.start
 
 -- A place at which the texts differ.
-unfoldable pub hunk_words : NumberRows → List (List ℕ) → List (List ℕ) → Hunk → List ℕ
-hunk_words rows lines others hunk =
-    hunk_head rows lines others hunk
-    ++ words_from (file_line_at others) (hunk.other_end - hunk.other_start) hunk.other_start
+unfoldable pub hunk_words : SideLines → Hunk → List ℕ
+hunk_words sides hunk =
+    hunk_head sides hunk
+    ++ words_from (file_line_at sides.others) (hunk.other_end - hunk.other_start) hunk.other_start
 
 -- What follows.
 abbrev pub last_words : List ℕ
@@ -94,9 +100,10 @@ last_words = codes "For each line, a message named is wrong, a later one is miss
 -- How they differ, line by line. The next common line is sought in 2,000 lines of both.
 unfoldable pub difference_words : List ℕ → List ℕ → List (List ℕ) → List (List ℕ) → List ℕ
 difference_words owners places lines others =
-    codes "not the file's:\n"
-    ++ flat_map (hunk_words (number_rows owners places lines) lines others)
-    (hunks_of 2000 lines others) ++ last_words
+    let rows = number_rows owners places lines in
+    let sides : SideLines = record { rows = rows; lines = lines; others = others } in
+    codes "not the file's:\n" ++ flat_map (hunk_words sides) (hunks_of 2000 lines others)
+    ++ last_words
 
 -- ---- texts that are alike
 

@@ -14,6 +14,7 @@ use crate::makers::{Makers, NAMED, Numbers, Rows, first_of, makers_of, number_at
 use crate::shown::push_shown;
 use itoa::Buffer;
 use std::alloc::{AllocError, Global};
+use std::marker::Model;
 
 /// How far the next common line is sought: in so many lines of both texts together.
 const FARTHEST: usize = 2_000;
@@ -134,50 +135,6 @@ fn other_for<'a>(others: &[&'a str], hunk: &Hunk, index: usize) -> &'a str
     }
 }
 
-/// Returns the changes by which a line of a hunk differs from the file's in its place. Fails only
-/// where memory runs out.
-fn line_makers(
-    alloc: Global,
-    rows: &Rows<'_>,
-    lines: &[&str],
-    others: &[&str],
-    hunk: &Hunk,
-    index: usize,
-) -> Result<Makers, AllocError>
-    ensures { IfOk result
-        (λ makers. makers ≡ line_makers rows.now (map (λ line. line.now) lines.entry.now)
-        (map (λ line. line.now) others.entry.now) hunk.now index) }
-{
-    makers_of(
-        alloc,
-        row_at(&rows.owners, index),
-        row_at(&rows.places, index),
-        text_at(lines, index).as_bytes(),
-        other_for(others, hunk, index).as_bytes(),
-    )
-}
-
-/// Writes the lines of a hunk that the document has alone.
-fn push_own_lines(
-    alloc: Global,
-    buffer: &mut Vec<u8>,
-    rows: &Rows<'_>,
-    lines: &[&str],
-    others: &[&str],
-    hunk: &Hunk,
-) -> Result<(), AllocError>
-    ensures { OnOk result (buffer.new.items ≡ buffer.old.items
-        ++ words_from (own_line_at rows.now (map (λ line. line.now) lines.entry.now)
-        (map (λ line. line.now) others.entry.now) hunk.now) (hunk.now.end - hunk.now.start)
-        hunk.now.start) }
-{
-    for index in hunk.start..hunk.end {
-        let makers = line_makers(alloc, rows, lines, others, hunk, index)?;
-        push_own_line(buffer, index + 1, &makers, text_at(lines, index))?;
-    }
-    Ok(())
-}
-
 /// Writes a line that the file alone has.
 fn push_file_line(buffer: &mut Vec<u8>, line: &str) -> Result<(), AllocError>
     ensures { OnOk result (buffer.new.items ≡ buffer.old.items ++ file_line line.now) }
@@ -216,62 +173,88 @@ fn push_missing(buffer: &mut Vec<u8>, count: usize, last: u64) -> Result<(), All
     Ok(())
 }
 
-/// Writes the lines of a hunk that the document has alone, or where lines are missing.
-fn push_head(
-    alloc: Global,
-    buffer: &mut Vec<u8>,
-    rows: &Rows<'_>,
-    lines: &[&str],
-    others: &[&str],
-    hunk: &Hunk,
-) -> Result<(), AllocError>
-    ensures { OnOk result (buffer.new.items ≡ buffer.old.items
-        ++ hunk_head rows.now (map (λ line. line.now) lines.entry.now)
-        (map (λ line. line.now) others.entry.now) hunk.now) }
-{
-    if hunk.start == hunk.end {
-        let last = number_at(row_at(&rows.places, hunk.start), 0);
-        push_missing(buffer, hunk.start, last)
-    } else {
-        push_own_lines(alloc, buffer, rows, lines, others, hunk)
-    }
+/// The lines of a document's text, with the changes that made them, and those of a file.
+#[derive(Drop)]
+struct Sides<'a> {
+    rows: Rows<'a>,
+    lines: Vec<&'a str>,
+    others: Vec<&'a str>,
 }
 
-/// Writes a place at which the texts differ.
-#[tactic(auto, unfolding(crate::specs::Report::hunk_words))]
-fn push_hunk(
-    alloc: Global,
-    buffer: &mut Vec<u8>,
-    rows: &Rows<'_>,
-    lines: &[&str],
-    others: &[&str],
-    hunk: &Hunk,
-) -> Result<(), AllocError>
-    ensures { OnOk result (buffer.new.items ≡ buffer.old.items
-        ++ hunk_words rows.now (map (λ line. line.now) lines.entry.now)
-        (map (λ line. line.now) others.entry.now) hunk.now) }
-{
-    push_head(alloc, buffer, rows, lines, others, hunk)?;
-    push_file_lines(buffer, others, hunk.other_start, hunk.other_end)
+impl<'a> Model for Sides<'a> {
+    ghost use Rattle.std.specs.Prelude.{map};
+    ghost use Rattle.line_diff.specs.Report.{SideLines};
+
+    ghost Value = { SideLines };
+
+    ghost view = { λ s. record {
+      rows = s.rows;
+      lines = map (λ line. line.now) s.lines.items;
+      others = map (λ line. line.now) s.others.items;
+    } };
 }
 
-/// Writes each place at which two texts differ.
-fn push_hunks(
-    alloc: Global,
-    buffer: &mut Vec<u8>,
-    rows: &Rows<'_>,
-    lines: &[&str],
-    others: &[&str],
-    found: &[Hunk],
-) -> Result<(), AllocError>
-    ensures { OnOk result (buffer.new.items ≡ buffer.old.items
-        ++ flat_map (hunk_words rows.now (map (λ line. line.now) lines.entry.now)
-        (map (λ line. line.now) others.entry.now)) found.now) }
-{
-    for hunk in found {
-        push_hunk(alloc, buffer, rows, lines, others, hunk)?;
+impl<'a> Sides<'a> {
+    /// Returns the changes by which a line of a hunk differs from the file's in its place. Fails
+    /// only where memory runs out.
+    fn makers(&self, alloc: Global, hunk: &Hunk, index: usize) -> Result<Makers, AllocError>
+        ensures { IfOk result (λ makers. makers ≡ line_makers self.now hunk.now index) }
+    {
+        makers_of(
+            alloc,
+            row_at(&self.rows.owners, index),
+            row_at(&self.rows.places, index),
+            text_at(&self.lines, index).as_bytes(),
+            other_for(&self.others, hunk, index).as_bytes(),
+        )
     }
-    Ok(())
+
+    /// Writes the lines of a hunk that the document has alone.
+    fn push_own_lines(&self, buffer: &mut Vec<u8>, hunk: &Hunk) -> Result<(), AllocError>
+        ensures { OnOk result (buffer.new.items ≡ buffer.old.items
+            ++ words_from (own_line_at self.now hunk.now) (hunk.now.end - hunk.now.start)
+            hunk.now.start) }
+    {
+        let alloc = *buffer.allocator();
+        for index in hunk.start..hunk.end {
+            let makers = self.makers(alloc, hunk, index)?;
+            push_own_line(buffer, index + 1, &makers, text_at(&self.lines, index))?;
+        }
+        Ok(())
+    }
+
+    /// Writes the lines of a hunk that the document has alone, or where lines are missing.
+    fn push_head(&self, buffer: &mut Vec<u8>, hunk: &Hunk) -> Result<(), AllocError>
+        ensures { OnOk result
+            (buffer.new.items ≡ buffer.old.items ++ hunk_head self.now hunk.now) }
+    {
+        if hunk.start == hunk.end {
+            let last = number_at(row_at(&self.rows.places, hunk.start), 0);
+            push_missing(buffer, hunk.start, last)
+        } else {
+            self.push_own_lines(buffer, hunk)
+        }
+    }
+
+    /// Writes a place at which the texts differ.
+    fn push_hunk(&self, buffer: &mut Vec<u8>, hunk: &Hunk) -> Result<(), AllocError>
+        ensures { OnOk result
+            (buffer.new.items ≡ buffer.old.items ++ hunk_words self.now hunk.now) }
+    {
+        self.push_head(buffer, hunk)?;
+        push_file_lines(buffer, &self.others, hunk.other_start, hunk.other_end)
+    }
+
+    /// Writes each place at which the texts differ.
+    fn push_hunks(&self, buffer: &mut Vec<u8>, found: &[Hunk]) -> Result<(), AllocError>
+        ensures { OnOk result
+            (buffer.new.items ≡ buffer.old.items ++ flat_map (hunk_words self.now) found.now) }
+    {
+        for hunk in found {
+            self.push_hunk(buffer, hunk)?;
+        }
+        Ok(())
+    }
 }
 
 /// Writes how a text and a file differ, line by line.
@@ -291,7 +274,12 @@ fn push_differences(
     let rows = numbers.rows(alloc, &lines)?;
     let found = hunks_of(alloc, FARTHEST, &lines, &others)?;
     push_words(buffer, "not the file's:\n")?;
-    push_hunks(alloc, buffer, &rows, &lines, &others, &found)?;
+    let sides = Sides {
+        rows,
+        lines,
+        others,
+    };
+    sides.push_hunks(buffer, &found)?;
     push_words(buffer, LAST_WORDS)?;
     Ok(())
 }

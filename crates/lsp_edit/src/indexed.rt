@@ -163,36 +163,6 @@ impl IndexedText {
         }))
     }
 
-    /// Resolves a batch in a copy of the text.
-    fn left_delta<'a>(
-        &self,
-        encoding: Encoding,
-        changes: &'a [Change],
-        max_len: usize,
-    ) -> Result<Delta<'a>, BatchFault>
-        requires size { length self.now ≤ MAX_OLD_TEXT }
-        requires fits { sum_by (λ change. string_len change.text) changes.now ≤ MAX_NEW_TEXT }
-        ensures ok { IfOk result
-            (IsDeltaOf (units_in encoding) max_len self.now (map content_change changes.now)) }
-        ensures error { IfErr result (IsBatchFaultOf (units_in encoding) max_len self.now
-            (map content_change changes.now)) }
-        ensures whole { result ≡ Err NoMemory → (text : List ℕ)
-            → map content_change changes.now ≡ one_change None text
-            → IsOk (text_within max_len self.now
-            (meaning (units_in encoding) (chars self.now) (map content_change changes.now))) }
-    {
-        // States that the text is UTF-8.
-        let _ = self.len();
-        check_whole(changes, max_len)?;
-        let (text, ends) = self.draft(encoding, changes, max_len)?;
-        Ok(Delta::Left(Left {
-            encoding,
-            changes,
-            ends,
-            text,
-        }))
-    }
-
     /// Resolves a batch on the text (LSP 3.17, DidChangeTextDocumentParams), if the result has at
     /// most `max_len` bytes. The delta borrows the changes, and nothing of the text.
     ///
@@ -219,7 +189,18 @@ impl IndexedText {
     {
         match put_of(changes) {
             Some((range, new)) => self.put_delta(encoding, range, new, max_len),
-            None => self.left_delta(encoding, changes, max_len),
+            None => {
+                // States that the text is UTF-8.
+                let _ = self.len();
+                check_whole(changes, max_len)?;
+                let (text, ends) = self.draft(encoding, changes, max_len)?;
+                Ok(Delta::Left(Left {
+                    encoding,
+                    changes,
+                    ends,
+                    text,
+                }))
+            }
         }
     }
 

@@ -66,28 +66,12 @@ impl IndexedText {
         ensures memory { result ≡ Err edits_fault.NoMemory
             → IsOk (located (units_in encoding) (chars self.now) 0 edits.now) }
     {
-        match self.batch_or_fault(encoding, edits) {
-            Ok(batch) => Ok(batch),
-            Err(fault) => Err(decided_fault(self.text(), encoding, edits, fault)),
-        }
-    }
-
-    /// Returns the canonical batch of what text edits mean. Out of memory may come in place of each
-    /// fault.
-    fn batch_or_fault(
-        &self,
-        encoding: Encoding,
-        edits: &[TextEdit],
-    ) -> Result<Vec<Change>, TextEditFault>
-        ensures batch { IfOk result (λ batch.
-            IsBatchOfEdits (units_in encoding) self.now edits.now
-            (map content_change batch.items)) }
-        ensures error { IfErr result (λ fault.
-            IsEditsFault (units_in encoding) (chars self.now) edits.now fault) }
-    {
         let alloc = *self.allocator();
         let text = self.text();
-        let spans = spans_of_edits(alloc, text, encoding, edits)?;
+        let spans = match spans_of_edits(alloc, text, encoding, edits) {
+            Ok(spans) => spans,
+            Err(fault) => return Err(decided_fault(text, encoding, edits, fault)),
+        };
         Ok(canonical_of(alloc, text, &spans, encoding)?)
     }
 }

@@ -179,33 +179,16 @@ pub(crate) fn gaps_written(
     let mut text = Vec::new(alloc);
     for item in items {
         match *item {
-            Item::Old(index) => {
-                put_gap(
-                    &mut changes,
-                    before,
-                    lines,
-                    encoding,
-                    old,
-                    low,
-                    index,
-                    &text,
-                )?;
-                low = index + 1;
+            Item::Old(high) => {
+                put_gap(&mut changes, before, lines, encoding, old, low, high, &text)?;
+                low = high + 1;
                 text = Vec::new(alloc);
             }
             Item::New(character) => text.push(character)?,
         }
     }
-    put_gap(
-        &mut changes,
-        before,
-        lines,
-        encoding,
-        old,
-        low,
-        old.len(),
-        &text,
-    )?;
+    let end = old.len();
+    put_gap(&mut changes, before, lines, encoding, old, low, end, &text)?;
     changes.reverse();
     Ok(changes)
 }

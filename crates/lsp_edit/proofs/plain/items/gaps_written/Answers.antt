@@ -22,11 +22,11 @@ loop-item-preserved c =
             w.in_ok-put_gap-in-Old.ensures,
             w.deref.ensures.value,
           )
-          (write_old (units_in c.args.encoding) (chars c.args.before.now) _ _ _ _ _ c.loop-item.invariant w.in-Old.index
+          (write_old (units_in c.args.encoding) (chars c.args.before.now) _ _ _ _ _ c.loop-item.invariant w.in-Old.high
           _
-          (item_rest c.args.items.now c.loop-item.item-index _ (Old w.in-Old.index) c.loop-item-test.true
+          (item_rest c.args.items.now c.loop-item.item-index _ (Old w.in-Old.high) c.loop-item-test.true
           (ap item_of w.in-Old.is))
-          (w.in-Old.index + 1) (omega arith))
+          (w.in-Old.high + 1) (omega arith))
       | in-New+in_ok-push-in-New w ↦
           rw (w.changes-is, w.low-is, w.text-is, w.in_ok-push-in-New.ensures.items)
           (write_new (units_in c.args.encoding) (chars c.args.before.now) _ _ _ _ _ c.loop-item.invariant

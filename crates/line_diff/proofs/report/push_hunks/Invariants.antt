@@ -1,8 +1,0 @@
-use Rattle.line_diff.proofs.Prelude.{◌≡◌, ◌++◌, flat_map, map, take, hunk_words}
-use Rattle.line_diff.proofs.report.push_hunks.Given as goal
-
-abbrev pub invariant-loop-hunk : goal.invariant-loop-hunk
-invariant-loop-hunk l =
-    l.buffer.items ≡ l.fn.buffer.items
-    ++ flat_map (hunk_words l.rows (map (λ line. line.now) l.lines) (map (λ line. line.now) l.others))
-    (take l.hunk-index l.found)
