@@ -1,5 +1,5 @@
 -- Calls of a writer one after another, and what they wrote.
-use Rattle.std.proofs.Common.{◌≡◌, ◌⊎◌, ◌≤◌, ◌<◌, inl, inr, ℕ, ◌+◌, List, ◌++◌, Option, Result, Err, ap, sym, ◌∙◌, subst, arith, append_assoc}
+use Rattle.std.proofs.Common.{◌≡◌, ◌⊎◌, ◌≤◌, ◌<◌, inl, inr, ℕ, List, ◌++◌, Option, Err, ap, sym, ◌∙◌, subst, arith, append_assoc}
 use Rattle.std.proofs.KnownBytes.{Appends-trans}
 use Rattle.std.specs.Io.KnownBytes.{Appends}
 use Rattle.lsp_stream.specs.declared.fault.EngineFault.{EngineFault}
