@@ -1,29 +1,10 @@
 -- The command line: the options of the program, as `clap` gets them.
-use Rattle.std.specs.Prelude.{ℕ, ◌≡◌, ◌++◌, ◌∷◌, [], true, List, Some, codes, decimal, map}
-use Rattle.std.specs.Borrow.{Bor}
-use Rattle.clap.specs.Words.{App, Rule, Text, new_rule}
+use Rattle.std.specs.Prelude.{ℕ, ◌≡◌, ◌++◌, ◌∷◌, [], true, List, codes, decimal, map}
+use Rattle.clap.specs.Words.{App, Rule, Text}
 use Rattle.clap.specs.Simple.{new_shape}
-use Rattle.clap.specs.declared.builder.action.ArgAction.TheVariants.{SetTrue}
-use Rattle.clap.specs.declared.builder.value_parser.ValueParser.{ValueParser}
 use Rattle.clap.specs.declared.builder.value_parser.ValueParser.TheVariants.{Names, Unsigned}
 use Rattle.lsp_frame.specs.Limits.{default_limits}
-
--- References to the names that an option takes.
-abbrev pub Choices : Type 0
-Choices = Bor (List (Bor Text))
-
--- An option with one value, of a kind, and with a default or none.
-abbrev pub option_rule : Text → ValueParser → List Text → Rule
-option_rule name kind defaults = record (new_rule name) {
-  long = Some name;
-  value_names = 1;
-  parser = Some kind;
-  defaults = defaults;
-}
-
--- A flag.
-abbrev pub flag_rule : Text → Rule
-flag_rule name = record (new_rule name) { long = Some name; action = Some SetTrue }
+use Rattle.lsp_program.specs.Arguments.{Choices, flag_rule, option_rule}
 
 -- An option with a number from `least` to `greatest`.
 abbrev pub limit_rule : Text → ℕ → ℕ → List Text → Rule
@@ -57,11 +38,16 @@ server_rules = limit_rule (codes "server-max-body") 4096 1073741824 []
     ∷ limit_rule (codes "server-max-docs") 1 65536 []
     ∷ limit_rule (codes "server-max-changes") 1 1048576 [] ∷ []
 
+-- All options.
+abbrev pub program_rules : Choices → Choices → List Rule
+program_rules encodings forms =
+    choice_rules encodings forms ++ flag_rules ++ client_rules ++ server_rules
+
 -- The program with its options.
 abbrev pub program_app : Choices → Choices → App
 program_app encodings forms = record {
   top = record (new_shape (codes "lsp_simulate")) {
-    rules = choice_rules encodings forms ++ flag_rules ++ client_rules ++ server_rules;
+    rules = program_rules encodings forms;
     has_version = true;
   };
   subs = [];

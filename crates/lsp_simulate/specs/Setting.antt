@@ -1,8 +1,7 @@
 -- The setting of a session, by what `clap` finds in the words.
-use Rattle.std.specs.Prelude.{ℕ, ◌≡◌, ◌<◌, ◌^◌, ◌⊎◌, [], Result, Ok, Err, Bool, true, false, List, Option, Some, None, codes, option_map, option_and_then, if◌then◌else◌}
+use Rattle.std.specs.Prelude.{ℕ, ◌≡◌, ◌⊎◌, [], Result, Ok, Err, List, Option, Some, None, codes, option_map, option_and_then, if◌then◌else◌}
 use Rattle.std.specs.Str.{bytes_eq}
-use Rattle.std.specs.Str.Parse.{IsNumeral, digits_value, without_leading_plus}
-use Rattle.clap.specs.Matches.{found_of, first_value, one_text}
+use Rattle.clap.specs.Matches.{found_of, first_value}
 use Rattle.clap.specs.Simple.{App, matches_of}
 use Rattle.clap.specs.Faults.{fault_of}
 use Rattle.clap.specs.Kinds.{IsAmong}
@@ -18,32 +17,9 @@ use Rattle.lsp_server.specs.declared.config.EncodingChoice.{EncodingChoice}
 use Rattle.lsp_server.specs.declared.config.EncodingChoice.TheVariants.{Fixed, Negotiated}
 use Rattle.lsp_server.specs.declared.config.ChangeForm.{ChangeForm}
 use Rattle.lsp_server.specs.declared.config.ChangeForm.TheVariants.{Incremental, Full}
+use Rattle.lsp_program.specs.Found.{AreLimits, HasNumber, IsFlag}
 use Rattle.lsp_simulate.specs.CommandLine.{IsProgram}
 use Rattle.lsp_simulate.specs.declared.command_line.Setting.{Setting}
-
--- An option has this number: its text is a numeral in decimal digits, below 2 to the 64th.
-pub record HasNumber (options : ArgMatches) (id : List ℕ) (n : ℕ) : Type 0 where
-  pub text : List ℕ
-  pub found : one_text (found_of options) id ≡ Some text
-  pub numeral : IsNumeral 10 (without_leading_plus text)
-  pub value : n ≡ digits_value 10 (without_leading_plus text)
-  pub small : digits_value 10 (without_leading_plus text) < 2 ^ 64
-
--- A flag is set where `clap` finds the text `true` under its name, and isn't where it finds `false`
--- or nothing. It finds `true` if the option is there, else `false`.
-pub record IsFlag (options : ArgMatches) (id : List ℕ) (flag : Bool) : Type 0 where
-  pub missing : one_text (found_of options) id ≡ None → flag ≡ false
-  pub set : one_text (found_of options) id ≡ Some (codes "true") → flag ≡ true
-  pub not_set : one_text (found_of options) id ≡ Some (codes "false") → flag ≡ false
-
--- The client's limits are those of its options, each in its range. A flag makes them lenient.
-pub record AreClientLimits (options : ArgMatches) (limits : LimitsData) : Type 0 where
-  pub max_body : HasNumber options (codes "max-body") limits.max_body
-  pub max_text : HasNumber options (codes "max-text") limits.max_text
-  pub max_docs : HasNumber options (codes "max-docs") limits.max_docs
-  pub max_changes : HasNumber options (codes "max-changes") limits.max_changes
-  pub in_range : first_out_of_range limits ≡ None
-  pub lenient : IsFlag options (codes "lenient") limits.lenient
 
 -- The number of the first option, or where that has none, of the second.
 abbrev pub HasEither : ArgMatches → List ℕ → List ℕ → ℕ → Type 0
@@ -87,7 +63,7 @@ pub record IsConfig (options : ArgMatches) (config : Config) : Type 0 where
 
 -- The set-up of both ends.
 pub record IsSetting (options : ArgMatches) (setting : Setting) : Type 0 where
-  pub limits : AreClientLimits options setting.limits
+  pub limits : AreLimits options setting.limits
   pub utf8 : IsFlag options (codes "utf-8") setting.offers.utf8
   pub utf32 : IsFlag options (codes "utf-32") setting.offers.utf32
   pub config : IsConfig options setting.config

@@ -7,8 +7,9 @@
 
 ghost use Rattle.std.specs.Prelude.{◌≡◌, IfSome, IsSome, codes, false, map, ℕ};
 ghost use Rattle.lsp_frame.specs.Limits.{LimitsData};
-ghost use Rattle.lsp_simulate.specs.Setting.{AreClientLimits, AreServerLimits, AreWordsReadAs};
-ghost use Rattle.lsp_simulate.specs.Setting.{HasEither, HasNumber, IsConfig, IsFlag, IsSetting};
+ghost use Rattle.lsp_program.specs.Found.{IsFlag};
+ghost use Rattle.lsp_simulate.specs.Setting.{AreServerLimits, AreWordsReadAs, HasEither, IsConfig};
+ghost use Rattle.lsp_simulate.specs.Setting.{IsSetting};
 ghost use Rattle.lsp_simulate.specs.Setting.{choice_given, form_given};
 
 mod help;
@@ -18,6 +19,7 @@ use crate::command_line::options::program;
 use clap::{ArgMatches, Error};
 use lsp_frame::Limits;
 use lsp_message::Offers;
+use lsp_program::{limits_of, number_of};
 use lsp_server::{ChangeForm, Config, EncodingChoice};
 use lsp_text::Encoding;
 use std::alloc::Global;
@@ -48,7 +50,7 @@ fn setting_of(options: &ArgMatches<'_>) -> Option<Setting>
     ensures some { IfSome result (IsSetting options.now) }
     ensures none { (setting : Setting) → IsSetting options.now setting → IsSome result }
 {
-    let limits = client_limits(options)?;
+    let limits = limits_of(options)?;
     let config = config_of(options)?;
     Some(Setting {
         limits,
@@ -93,20 +95,6 @@ fn choice_of(options: &ArgMatches<'_>) -> Option<EncodingChoice>
     Some(EncodingChoice::Negotiated { prefer })
 }
 
-fn client_limits(options: &ArgMatches<'_>) -> Option<Limits>
-    ensures some { IfSome result (AreClientLimits options.now) }
-    ensures none { (limits : LimitsData) → AreClientLimits options.now limits → IsSome result }
-{
-    let max_body = number_of(options, "max-body")?;
-    let max_text = number_of(options, "max-text")?;
-    let max_docs = number_of(options, "max-docs")?;
-    let max_changes = number_of(options, "max-changes")?;
-    let Ok(limits) = Limits::new(max_body, max_text, max_docs, max_changes) else {
-        return None;
-    };
-    Some(with_leniency(options, limits))
-}
-
 /// Returns the server's limits. Those that no option sets are the client's.
 fn server_limits(options: &ArgMatches<'_>) -> Option<Limits>
     ensures some { IfSome result (AreServerLimits options.now) }
@@ -140,11 +128,4 @@ fn either(options: &ArgMatches<'_>, first: &str, second: &str) -> Option<usize>
     ensures none { (n : ℕ) → HasEither options.now first.now second.now n → IsSome result }
 {
     number_of(options, first).or(number_of(options, second))
-}
-
-fn number_of(options: &ArgMatches<'_>, id: &str) -> Option<usize>
-    ensures some { IfSome result (HasNumber options.now id.now) }
-    ensures none { (n : ℕ) → HasNumber options.now id.now n → IsSome result }
-{
-    options.get_one::<usize>(id)
 }

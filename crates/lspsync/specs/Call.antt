@@ -1,11 +1,10 @@
 -- The calls of the program, by what `clap` finds in its words.
-use Rattle.std.specs.Prelude.{ℕ, ◌≡◌, ◌<◌, ◌^◌, ◌⊎◌, ◌&&◌, ◌||◌, ◌∷◌, not, is_some, [], Result, Ok, Err, Bool, true, false, List, All, map, Option, Some, None, codes, option_map, option_and_then, unwrap_or, if◌then◌else◌, Vec}
+use Rattle.std.specs.Prelude.{ℕ, ◌≡◌, ◌⊎◌, ◌&&◌, ◌||◌, ◌∷◌, not, is_some, [], Result, Ok, Err, Bool, true, false, List, All, map, Option, Some, None, codes, option_map, option_and_then, unwrap_or, if◌then◌else◌, Vec}
 use Rattle.std.specs.declared.alloc.Global.{Global}
 use Rattle.std.specs.Option.{option_or}
 use Rattle.std.specs.Str.{bytes_eq}
 use Rattle.std.specs.String.{string_bytes}
-use Rattle.std.specs.Str.Parse.{IsNumeral, digits_value, without_leading_plus}
-use Rattle.clap.specs.Matches.{found_of, first_value, matched_of, one_text, raw_values, subcommand_name_of}
+use Rattle.clap.specs.Matches.{found_of, first_value, matched_of, raw_values, subcommand_name_of}
 use Rattle.clap.specs.Simple.{App, subcommand_of, subcommand_rows_of}
 use Rattle.clap.specs.Faults.{fault_of}
 use Rattle.clap.specs.Kinds.{IsAmong}
@@ -14,7 +13,6 @@ use Rattle.clap.specs.declared.error.Error.{Error}
 use Rattle.clap.specs.declared.error.kind.ErrorKind.TheVariants.{OutOfMemory}
 use Rattle.clap.specs.Walk.{rows_of}
 use Rattle.clap.specs.declared.parser.matches.ArgMatches.{ArgMatches}
-use Rattle.lsp_frame.specs.Limits.{LimitsData, first_out_of_range}
 use Rattle.lsp_text.specs.Units.{encoding_named}
 use Rattle.lsp_text.specs.declared.encoding.Encoding.{Encoding}
 use Rattle.lsp_server.specs.declared.config.Config.{Config}
@@ -25,35 +23,12 @@ use Rattle.lsp_replay.specs.declared.commands.Settings.{Settings}
 use Rattle.lsp_replay.specs.declared.commands.explained.Listing.{Listing}
 use Rattle.lsp_replay.specs.declared.commands.parts.Part.{Part}
 use Rattle.lsp_replay.specs.declared.commands.traced.Details.{Details}
+use Rattle.lsp_program.specs.Found.{AreLimits, HasNumber, IsFlag}
 use Rattle.lspsync.specs.CommandLine.{IsProgram}
 use Rattle.lspsync.specs.declared.command_line.Against.{Against}
 use Rattle.lspsync.specs.declared.command_line.Call.{Call}
 use Rattle.lspsync.specs.declared.command_line.Call.TheVariants as call
 use Rattle.lspsync.specs.declared.command_line.Task.{Task}
-
--- An option has this number: its text is a numeral in decimal digits, below 2 to the 64th.
-pub record HasNumber (options : ArgMatches) (id : List ℕ) (n : ℕ) : Type 0 where
-  pub text : List ℕ
-  pub found : one_text (found_of options) id ≡ Some text
-  pub numeral : IsNumeral 10 (without_leading_plus text)
-  pub value : n ≡ digits_value 10 (without_leading_plus text)
-  pub small : digits_value 10 (without_leading_plus text) < 2 ^ 64
-
--- A flag is set where `clap` finds the text `true` under its name, and isn't where it finds `false`
--- or nothing. It finds `true` if the option is there, else `false`.
-pub record IsFlag (options : ArgMatches) (id : List ℕ) (flag : Bool) : Type 0 where
-  pub missing : one_text (found_of options) id ≡ None → flag ≡ false
-  pub set : one_text (found_of options) id ≡ Some (codes "true") → flag ≡ true
-  pub not_set : one_text (found_of options) id ≡ Some (codes "false") → flag ≡ false
-
--- The four limits are those of the options, each in its range, and lenient by a flag.
-pub record AreLimits (options : ArgMatches) (limits : LimitsData) : Type 0 where
-  pub max_body : HasNumber options (codes "max-body") limits.max_body
-  pub max_text : HasNumber options (codes "max-text") limits.max_text
-  pub max_docs : HasNumber options (codes "max-docs") limits.max_docs
-  pub max_changes : HasNumber options (codes "max-changes") limits.max_changes
-  pub in_range : first_out_of_range limits ≡ None
-  pub lenient : IsFlag options (codes "lenient") limits.lenient
 
 -- The encoding that the options name.
 abbrev pub encoding_given : ArgMatches → Option Encoding

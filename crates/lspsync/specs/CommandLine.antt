@@ -1,34 +1,14 @@
 -- The command line: the options of the program, as `clap` gets them.
-use Rattle.std.specs.Prelude.{ℕ, ◌≡◌, ◌++◌, ◌∷◌, [], true, false, List, Some, codes, decimal, map}
-use Rattle.std.specs.Borrow.{Bor}
-use Rattle.clap.specs.Words.{App, Rule, Shape, Text, new_rule}
+use Rattle.std.specs.Prelude.{ℕ, ◌≡◌, ◌++◌, ◌∷◌, [], true, false, List, codes, decimal, map}
+use Rattle.clap.specs.Words.{App, Rule, Shape, Text}
 use Rattle.clap.specs.Simple.{new_shape}
-use Rattle.clap.specs.Lexer.{usize_max}
-use Rattle.clap.specs.declared.builder.action.ArgAction.TheVariants.{Append, SetTrue}
-use Rattle.clap.specs.declared.builder.value_parser.ValueParser.{ValueParser}
 use Rattle.clap.specs.declared.builder.value_parser.ValueParser.TheVariants.{Names, Unsigned}
-
--- References to the names that an option takes.
-abbrev pub Choices : Type 0
-Choices = Bor (List (Bor Text))
-
--- An option with one value, of a kind and with a default.
-abbrev pub option_rule : Text → ValueParser → Text → Rule
-option_rule name kind default = record (new_rule name) {
-  long = Some name;
-  value_names = 1;
-  parser = Some kind;
-  defaults = default ∷ [];
-}
-
--- A flag.
-abbrev pub flag_rule : Text → Rule
-flag_rule name = record (new_rule name) { long = Some name; action = Some SetTrue }
+use Rattle.lsp_program.specs.Arguments.{Choices, file_rule, flag_rule, log_rule, logs_rule, option_rule, text_rule}
 
 -- An option with a number from `least` to `greatest`.
 abbrev pub limit_rule : Text → ℕ → ℕ → ℕ → Rule
 limit_rule name least greatest default =
-    option_rule name (Unsigned least greatest) (decimal default)
+    option_rule name (Unsigned least greatest) (decimal default ∷ [])
 
 -- The options that each command has: the limits, and whether they are lenient.
 abbrev pub limit_rules : List Rule
@@ -37,42 +17,28 @@ limit_rules = limit_rule (codes "max-body") 4096 1073741824 16777216
     ∷ limit_rule (codes "max-docs") 1 65536 1024
     ∷ limit_rule (codes "max-changes") 1 1048576 65536 ∷ flag_rule (codes "lenient") ∷ []
 
--- An option with one value, any text, and no default.
-abbrev pub text_rule : Text → Rule
-text_rule name = record (new_rule name) { long = Some name; value_names = 1 }
-
--- An option with a number from `least` to `greatest`, and no default.
-abbrev pub number_rule : Text → ℕ → ℕ → Rule
-number_rule name least greatest = record (text_rule name) {
-  parser = Some (Unsigned least greatest);
-}
-
 -- A command with its own options, and those of all.
 abbrev pub command_shape : Text → List Rule → Shape
 command_shape name own = record (new_shape name) { rules = own ++ limit_rules }
 
 -- Each command has `--encoding`.
 abbrev pub encoding_rule : Choices → Rule
-encoding_rule encodings = option_rule (codes "encoding") (Names encodings) (codes "utf-16")
+encoding_rule encodings = option_rule (codes "encoding") (Names encodings) (codes "utf-16" ∷ [])
 
 -- `--sync` names what a server asks changes for.
 abbrev pub sync_rule : Choices → Rule
-sync_rule kinds = option_rule (codes "sync") (Names kinds) (codes "incremental")
+sync_rule kinds = option_rule (codes "sync") (Names kinds) (codes "incremental" ∷ [])
 
 -- The options of `serve`. `--stdio` changes nothing.
 abbrev pub server_rules : Choices → List Rule
 server_rules kinds = sync_rule kinds ∷ flag_rule (codes "stdio") ∷ []
 
--- The file of a log. Without one it is `-`, which is standard input.
-abbrev pub log_rule : Rule
-log_rule = record (new_rule (codes "FILE")) { defaults = codes "-" ∷ [] }
+-- The file of a log, and files of logs.
+abbrev pub log : Rule
+log = log_rule (codes "FILE")
 
--- Files of logs.
-abbrev pub logs_rule : Rule
-logs_rule = record log_rule {
-  action = Some Append;
-  range = Some (record { start_inclusive = 0; end_inclusive = usize_max });
-}
+abbrev pub logs : Rule
+logs = logs_rule (codes "FILE")
 
 -- The options of `check` that say what it writes of each record, and when.
 abbrev pub check_rules : List Rule
@@ -85,7 +51,7 @@ writing_rules = flag_rule (codes "documents") ∷ flag_rule (codes "squash") ∷
 
 -- `--at` is a record's number, from 1.
 abbrev pub at_rule : Rule
-at_rule = number_rule (codes "at") 1 18446744073709551615
+at_rule = option_rule (codes "at") (Unsigned 1 18446744073709551615) []
 
 -- `--uri` is any text.
 abbrev pub uri_rule : Rule
@@ -97,7 +63,7 @@ part_rules = at_rule ∷ uri_rule ∷ []
 
 -- The saved text that `compare` reads.
 abbrev pub saved_rule : Rule
-saved_rule = record (new_rule (codes "SAVED")) { required = true }
+saved_rule = file_rule (codes "SAVED")
 
 -- What `compare` compares.
 abbrev pub compare_rules : List Rule
@@ -117,13 +83,13 @@ program_app encodings kinds = record {
     has_version = true;
   };
   subs = command_shape (codes "serve") (encoding_rule encodings ∷ server_rules kinds)
-      ∷ command_shape (codes "check") (encoding_rule encodings ∷ check_rules ++ logs_rule ∷ [])
-      ∷ command_shape (codes "trace") (encoding_rule encodings ∷ detail_rules ++ logs_rule ∷ [])
-      ∷ command_shape (codes "replay") (encoding_rule encodings ∷ part_rules ++ log_rule ∷ [])
-      ∷ command_shape (codes "compare") (encoding_rule encodings ∷ compare_rules ++ log_rule ∷ [])
+      ∷ command_shape (codes "check") (encoding_rule encodings ∷ check_rules ++ logs ∷ [])
+      ∷ command_shape (codes "trace") (encoding_rule encodings ∷ detail_rules ++ logs ∷ [])
+      ∷ command_shape (codes "replay") (encoding_rule encodings ∷ part_rules ++ log ∷ [])
+      ∷ command_shape (codes "compare") (encoding_rule encodings ∷ compare_rules ++ log ∷ [])
       ∷ command_shape (codes "normalise")
-      (encoding_rule encodings ∷ writing_rules ++ log_rule ∷ [])
-      ∷ command_shape (codes "convert") (encoding_rule encodings ∷ log_rule ∷ []) ∷ [];
+      (encoding_rule encodings ∷ writing_rules ++ log ∷ [])
+      ∷ command_shape (codes "convert") (encoding_rule encodings ∷ log ∷ []) ∷ [];
 }
 
 -- The command line is the program's, with the names of the encodings and of the kinds of

@@ -4,18 +4,16 @@
 //! commands' pages say, and `misplaced` the text on an option of another command.
 //!
 //! What words mean is said by `clap`'s definitions, of a program with the options of `program_app`.
-//! Each function of `options` adds one option, so each is proved alone. The parse returns an
-//! `Option`, since `clap` has no law that values which it checked are there.
+//! The parse returns an `Option`, since `clap` has no law that values which it checked are there.
 
 ghost use Rattle.std.specs.Prelude.{◌≡◌, ◌≢◌, ◌||◌, codes, true, false};
-ghost use Rattle.std.specs.Prelude.{IfOk, IfSome, IsSome, ℕ, map, option_map};
+ghost use Rattle.std.specs.Prelude.{IfOk, IfSome, IsSome, map, option_map};
 ghost use Rattle.std.specs.String.{string_bytes};
-ghost use Rattle.lspsync.specs.Call.{AreDetails, AreLimits, AreSettings, AreWordsReadAs, HasNumber};
+ghost use Rattle.lspsync.specs.Call.{AreDetails, AreSettings, AreWordsReadAs};
 ghost use Rattle.lspsync.specs.Call.{IsCallNamed, IsConfig, IsExplained, IsFound, IsListing};
 ghost use Rattle.lspsync.specs.Call.{IsLogPart, encoding_given, ending_given, saved_given};
 ghost use Rattle.lspsync.specs.Loaded.{with_text};
 ghost use Rattle.lspsync.specs.Call.{file_named, files_given, is_whole, sync_given};
-ghost use Rattle.lsp_frame.specs.Limits.{LimitsData};
 
 mod help;
 mod misplaced;
@@ -25,7 +23,7 @@ mod texts;
 use crate::command_line::misplaced::placed;
 use crate::command_line::options::program;
 use clap::{ArgMatches, Error};
-use lsp_frame::Limits;
+use lsp_program::{limits_of, number_of};
 use lsp_replay::{Details, Listing, Part, Settings};
 use lsp_server::{ChangeForm, Config, EncodingChoice};
 use lsp_text::Encoding;
@@ -115,7 +113,7 @@ static STANDARD_INPUT: [&str; 1] = ["-"];
 pub fn parse<'a>(alloc: Global, words: &'a [&'a str]) -> Result<Option<Vec<Task>>, Error>
     ensures { AreWordsReadAs (map (λ word. word.now) words.entry.now) result }
 {
-    let mut program = program(alloc, help::limits())?;
+    let mut program = program(alloc)?;
     match program.try_get_matches_from_mut(words) {
         Ok(matches) => Ok(tasks_of(alloc, &matches)?),
         Err(error) => Err(placed(alloc, &mut program, words, error)?),
@@ -394,28 +392,4 @@ fn encoding_of(options: &ArgMatches<'_>) -> Option<Encoding>
     ensures { result ≡ encoding_given options.now }
 {
     Encoding::of_name(options.get_str("encoding")?)
-}
-
-fn limits_of(options: &ArgMatches<'_>) -> Option<Limits>
-    ensures some { IfSome result (AreLimits options.now) }
-    ensures none { (limits : LimitsData) → AreLimits options.now limits → IsSome result }
-{
-    let max_body = number_of(options, "max-body")?;
-    let max_text = number_of(options, "max-text")?;
-    let max_docs = number_of(options, "max-docs")?;
-    let max_changes = number_of(options, "max-changes")?;
-    let Ok(limits) = Limits::new(max_body, max_text, max_docs, max_changes) else {
-        return None;
-    };
-    if options.get_flag("lenient") {
-        return Some(limits.lenient());
-    }
-    Some(limits)
-}
-
-fn number_of(options: &ArgMatches<'_>, id: &str) -> Option<usize>
-    ensures some { IfSome result (HasNumber options.now id.now) }
-    ensures none { (n : ℕ) → HasNumber options.now id.now n → IsSome result }
-{
-    options.get_one::<usize>(id)
 }

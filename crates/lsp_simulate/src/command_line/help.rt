@@ -1,38 +1,12 @@
 //! The texts of help. They are in functions, so that proofs don't unfold them.
 
-ghost use Rattle.std.specs.Prelude.{◌≡◌};
-ghost use Rattle.lsp_simulate.specs.CommandLine.{client_rules, server_rules};
-ghost use Rattle.lsp_simulate.specs.inside.Options.{rules_of_limits};
+ghost use Rattle.std.specs.Prelude.{◌≡◌, map};
+ghost use Rattle.lsp_program.specs.Arguments.{rule_by};
+ghost use Rattle.lsp_program.specs.declared.arguments.OptionNames.{OptionNames};
+ghost use Rattle.lsp_simulate.specs.CommandLine.{program_rules};
 
-use lsp_frame::Limits;
-
-/// An option that sets a limit of an end.
-#[derive(Clone, Copy, Debug)]
-pub struct Limit {
-    pub name: &'static str,
-    pub least: usize,
-    pub greatest: usize,
-    /// The default, in decimal digits.
-    pub default: Option<&'static str>,
-    pub help: &'static str,
-}
-
-/// The options that set the limits of an end.
-#[derive(Clone, Copy, Debug)]
-pub struct LimitOptions {
-    pub body: Limit,
-    pub text: Limit,
-    pub docs: Limit,
-    pub changes: Limit,
-}
-
-/// The help of the flags.
-#[derive(Clone, Copy, Debug)]
-pub struct FlagHelp {
-    pub utf8: &'static str,
-    pub utf32: &'static str,
-    pub lenient: &'static str,
-}
+use lsp_program::Value::{ChangeForm, Encoding, Flag, Number};
+use lsp_program::{Argument, BODY, CHANGES, DOCS, TEXT};
 
 /// Returns the text above the list of options.
 pub fn about() -> &'static str {
@@ -44,106 +18,31 @@ pub fn notes() -> &'static str {
     NOTES
 }
 
-/// Returns the help of `--prefer`.
-pub fn prefer() -> &'static str {
-    PREFER
-}
-
-/// Returns the help of `--fixed`.
-pub fn fixed() -> &'static str {
-    FIXED
-}
-
-/// Returns the help of `--sync`.
-pub fn sync() -> &'static str {
-    SYNC
-}
-
-/// Returns the help of the flags.
-pub fn flags() -> FlagHelp {
-    FlagHelp {
-        utf8: UTF8,
-        utf32: UTF32,
-        lenient: LENIENT,
-    }
-}
-
-/// Returns the options that set the client's limits. Their defaults are those of
-/// `Limits::default()`.
-pub fn client_limits() -> &'static LimitOptions
-    ensures { rules_of_limits result.now ≡ client_rules }
+/// Returns the options. The defaults of the client's limits are those of `Limits::default()`, and the
+/// server's have none.
+pub fn options() -> &'static [Argument]
+    ensures { (names : OptionNames) → map (rule_by names) result.now
+        ≡ program_rules names.encodings names.change_forms }
 {
-    &CLIENT_LIMITS
+    OPTIONS.as_slice()
 }
 
-/// Returns the options that set the server's limits. They have no defaults.
-pub fn server_limits() -> &'static LimitOptions
-    ensures { rules_of_limits result.now ≡ server_rules }
-{
-    &SERVER_LIMITS
-}
-
-static CLIENT_LIMITS: LimitOptions = LimitOptions {
-    body: Limit {
-        name: "max-body",
-        least: Limits::LEAST_BODY,
-        greatest: Limits::GREATEST_BODY,
-        default: Some("16777216"),
-        help: MAX_BODY,
-    },
-    text: Limit {
-        name: "max-text",
-        least: 0,
-        greatest: Limits::GREATEST_TEXT,
-        default: Some("16777216"),
-        help: MAX_TEXT,
-    },
-    docs: Limit {
-        name: "max-docs",
-        least: 1,
-        greatest: Limits::GREATEST_DOCS,
-        default: Some("1024"),
-        help: MAX_DOCS,
-    },
-    changes: Limit {
-        name: "max-changes",
-        least: 1,
-        greatest: Limits::GREATEST_CHANGES,
-        default: Some("65536"),
-        help: MAX_CHANGES,
-    },
-};
-
-static SERVER_LIMITS: LimitOptions = LimitOptions {
-    body: Limit {
-        name: "server-max-body",
-        least: Limits::LEAST_BODY,
-        greatest: Limits::GREATEST_BODY,
-        default: None,
-        help: SAME,
-    },
-    text: Limit {
-        name: "server-max-text",
-        least: 0,
-        greatest: Limits::GREATEST_TEXT,
-        default: None,
-        help: SAME,
-    },
-    docs: Limit {
-        name: "server-max-docs",
-        least: 1,
-        greatest: Limits::GREATEST_DOCS,
-        default: None,
-        help: SAME,
-    },
-    changes: Limit {
-        name: "server-max-changes",
-        least: 1,
-        greatest: Limits::GREATEST_CHANGES,
-        default: None,
-        help: SAME,
-    },
-};
+static OPTIONS: [Argument; 14] = [
+    ("prefer", Encoding(Some("utf-16")), PREFER),
+    ("fixed", Encoding(None), FIXED),
+    ("sync", ChangeForm, SYNC),
+    ("utf-8", Flag, UTF8),
+    ("utf-32", Flag, UTF32),
+    ("lenient", Flag, LENIENT),
+    ("max-body", Number(BODY, Some("16777216")), MAX_BODY),
+    ("max-text", Number(TEXT, Some("16777216")), MAX_TEXT),
+    ("max-docs", Number(DOCS, Some("1024")), MAX_DOCS),
+    ("max-changes", Number(CHANGES, Some("65536")), MAX_CHANGES),
+    ("server-max-body", Number(BODY, None), SAME),
+    ("server-max-text", Number(TEXT, None), SAME),
+    ("server-max-docs", Number(DOCS, None), SAME),
+    ("server-max-changes", Number(CHANGES, None), SAME),
+];
 
 // Lines of help have at most 80 columns. `clap` writes 32 before the text of an option, and its default
 // after it.
@@ -171,21 +70,21 @@ Example, messages that arrive late; examples/ may be
 /usr/share/doc/laspidru/examples:
   lsp_simulate < examples/late-delivery.events";
 
-static UTF8: &str = "The client offers to count characters in UTF-8";
+const UTF8: &str = "The client offers to count characters in UTF-8";
 
-static UTF32: &str = "The client offers to count characters in UTF-32";
+const UTF32: &str = "The client offers to count characters in UTF-32";
 
-static LENIENT: &str = "Both ends take an edit of any version, and open
+const LENIENT: &str = "Both ends take an edit of any version, and open
 an open document again";
 
-static PREFER: &str = "What the server prefers to count in, if the
+const PREFER: &str = "What the server prefers to count in, if the
 client offers it; else utf-16
 (utf-8, utf-16, utf-32)";
 
-static FIXED: &str = "What the server counts in, whatever the client
+const FIXED: &str = "What the server counts in, whatever the client
 offers (utf-8, utf-16, utf-32)";
 
-static SYNC: &str = "How the client is asked to send changes: as
+const SYNC: &str = "How the client is asked to send changes: as
 whole texts or as ranges
 (full, incremental)";
 

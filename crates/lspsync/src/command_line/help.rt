@@ -1,17 +1,19 @@
 //! The pages of help. They are in functions, so that proofs don't unfold them.
 
-ghost use Rattle.std.specs.Prelude.{◌≡◌, ◌++◌, ◌∷◌, [], codes};
-ghost use Rattle.lspsync.specs.CommandLine.{check_rules, compare_rules, detail_rules, limit_rules, log_rule};
-ghost use Rattle.lspsync.specs.CommandLine.{logs_rule, part_rules, server_rules, writing_rules};
-ghost use Rattle.lspsync.specs.inside.Help.{IsPage, rules_of_limits};
+ghost use Rattle.std.specs.Prelude.{◌≡◌, map};
+ghost use Rattle.lsp_program.specs.Arguments.{rule_by};
+ghost use Rattle.lsp_program.specs.declared.arguments.OptionNames.{OptionNames};
+ghost use Rattle.lspsync.specs.CommandLine.{limit_rules, program_app};
+ghost use Rattle.lspsync.specs.inside.Options.{shape_by};
 
 use crate::command_line::texts::{
     ALL, AT, BODIES, BRIEF, CHECK, CHECK_EXAMPLE, COMPARE, COMPARE_EXAMPLE, CONVERT,
-    CONVERT_EXAMPLE, DOCUMENTS, ENCODING, ENDING, EXPLAIN, LIVE, NORMALISE, NORMALISE_EXAMPLE,
-    PREFERRED_ENCODING, REPLAY, REPLAY_EXAMPLE, SAVED, SERVE, SERVE_EXAMPLE, SQUASH, STDIO, SYNC,
-    TEXTS, TRACE, TRACE_EXAMPLE, URI,
+    CONVERT_EXAMPLE, DOCUMENTS, ENCODING, ENDING, EXPLAIN, LIVE, LOG, LOGS, NORMALISE,
+    NORMALISE_EXAMPLE, PREFERRED_ENCODING, REPLAY, REPLAY_EXAMPLE, SAVED, SERVE, SERVE_EXAMPLE,
+    SQUASH, STDIO, SYNC, TEXTS, TRACE, TRACE_EXAMPLE, URI,
 };
-use lsp_frame::Limits;
+use lsp_program::Value::{ChangeForm, Encoding, File, Flag, Log, Logs, Number, Text};
+use lsp_program::{Argument, BODY, CHANGES, DOCS, Range, TEXT};
 
 /// The help of a command.
 #[derive(Clone, Copy, Debug)]
@@ -20,86 +22,8 @@ pub struct Page {
     pub about: &'static str,
     /// A note on the command, and an example to paste.
     pub example: &'static str,
-    /// The meaning of `--encoding`.
-    pub encoding: &'static str,
-    /// The options that the command has beside those of all.
-    pub own: OwnHelp,
-}
-
-/// The options that a command has beside those of all, with their meanings. But for `serve` it
-/// takes a file too.
-#[derive(Clone, Copy, Debug)]
-pub enum OwnHelp {
-    /// There are none.
-    Nothing,
-    /// `--sync` and `--stdio`.
-    Serving(ServingHelp),
-    /// `--explain`, `--brief`, `--all` and `--live`.
-    Checking(CheckingHelp),
-    /// `--texts`, `--bodies` and `--live`.
-    Details(DetailHelp),
-    /// `--at` and `--uri`.
-    Part(PartHelp),
-    /// SAVED and `--uri`.
-    Comparing(ComparingHelp),
-    /// `--documents` and `--squash`.
-    Writing(WritingHelp),
-}
-
-/// The help of the options that say how a server talks.
-#[derive(Clone, Copy, Debug)]
-pub struct ServingHelp {
-    pub sync: &'static str,
-    pub stdio: &'static str,
-}
-
-/// The help of the options that say how a log is written.
-#[derive(Clone, Copy, Debug)]
-pub struct WritingHelp {
-    pub documents: &'static str,
-    pub squash: &'static str,
-}
-
-/// The help of the options that say what `check` writes of each record, and when.
-#[derive(Clone, Copy, Debug)]
-pub struct CheckingHelp {
-    pub explain: &'static str,
-    pub brief: &'static str,
-    pub all: &'static str,
-    pub live: &'static str,
-}
-
-/// The help of the options that say what `trace` writes of each record, and when.
-#[derive(Clone, Copy, Debug)]
-pub struct DetailHelp {
-    pub texts: &'static str,
-    pub bodies: &'static str,
-    pub live: &'static str,
-}
-
-/// The help of the options that name a part of a log.
-#[derive(Clone, Copy, Debug)]
-pub struct PartHelp {
-    pub at: &'static str,
-    pub uri: &'static str,
-}
-
-/// The help of what `compare` compares.
-#[derive(Clone, Copy, Debug)]
-pub struct ComparingHelp {
-    pub saved: &'static str,
-    pub ending: &'static str,
-}
-
-/// An option that sets a limit.
-#[derive(Clone, Copy, Debug)]
-pub struct Limit {
-    pub name: &'static str,
-    pub least: usize,
-    pub greatest: usize,
-    /// The default, in decimal digits.
-    pub default: &'static str,
-    pub help: &'static str,
+    /// The options and files that the command has beside the limits.
+    pub arguments: &'static [Argument],
 }
 
 /// Returns the text above the list of commands.
@@ -112,148 +36,113 @@ pub fn notes() -> &'static str {
     NOTES
 }
 
-pub fn serve() -> Page
-    ensures { IsPage result (codes "serve") server_rules }
+/// Returns the pages of all commands.
+pub fn pages() -> &'static [Page]
+    ensures { (names : OptionNames) → map (shape_by names) result.now
+        ≡ (program_app names.encodings names.change_forms).subs }
 {
+    PAGES.as_slice()
+}
+
+/// Returns the options that all commands have. Their defaults are those of `Limits::default()`.
+pub fn limits() -> &'static [Argument]
+    ensures { (names : OptionNames) → map (rule_by names) result.now ≡ limit_rules }
+{
+    LIMITS.as_slice()
+}
+
+static PAGES: [Page; 7] = [
     Page {
         name: "serve",
         about: SERVE,
         example: SERVE_EXAMPLE,
-        encoding: PREFERRED_ENCODING,
-        own: OwnHelp::Serving(ServingHelp {
-            sync: SYNC,
-            stdio: STDIO,
-        }),
-    }
-}
-
-pub fn check() -> Page
-    ensures { IsPage result (codes "check") (λ _. check_rules ++ logs_rule ∷ []) }
-{
-    Page {
-        own: OwnHelp::Checking(CheckingHelp {
-            explain: EXPLAIN,
-            brief: BRIEF,
-            all: ALL,
-            live: LIVE,
-        }),
-        ..log_page("check", CHECK, CHECK_EXAMPLE)
-    }
-}
-
-pub fn trace() -> Page
-    ensures { IsPage result (codes "trace") (λ _. detail_rules ++ logs_rule ∷ []) }
-{
-    Page {
-        own: OwnHelp::Details(DetailHelp {
-            texts: TEXTS,
-            bodies: BODIES,
-            live: LIVE,
-        }),
-        ..log_page("trace", TRACE, TRACE_EXAMPLE)
-    }
-}
-
-pub fn replay() -> Page
-    ensures { IsPage result (codes "replay") (λ _. part_rules ++ log_rule ∷ []) }
-{
-    Page {
-        own: OwnHelp::Part(PartHelp { at: AT, uri: URI }),
-        ..log_page("replay", REPLAY, REPLAY_EXAMPLE)
-    }
-}
-
-pub fn compare() -> Page
-    ensures { IsPage result (codes "compare") (λ _. compare_rules ++ log_rule ∷ []) }
-{
-    Page {
-        own: OwnHelp::Comparing(ComparingHelp {
-            saved: SAVED,
-            ending: ENDING,
-        }),
-        ..log_page("compare", COMPARE, COMPARE_EXAMPLE)
-    }
-}
-
-pub fn normalise() -> Page
-    ensures { IsPage result (codes "normalise") (λ _. writing_rules ++ log_rule ∷ []) }
-{
-    Page {
-        own: OwnHelp::Writing(WritingHelp {
-            documents: DOCUMENTS,
-            squash: SQUASH,
-        }),
-        ..log_page("normalise", NORMALISE, NORMALISE_EXAMPLE)
-    }
-}
-
-pub fn convert() -> Page
-    ensures { IsPage result (codes "convert") (λ _. log_rule ∷ []) }
-{
-    log_page("convert", CONVERT, CONVERT_EXAMPLE)
-}
-
-/// Returns the page of a command that reads a log.
-fn log_page(name: &'static str, about: &'static str, example: &'static str) -> Page
-    ensures { IsPage result name.now (λ _. log_rule ∷ []) }
-{
-    Page {
-        name,
-        about,
-        example,
-        encoding: ENCODING,
-        own: OwnHelp::Nothing,
-    }
-}
-
-/// The options that all commands have.
-#[derive(Clone, Copy, Debug)]
-pub struct LimitOptions {
-    pub body: Limit,
-    pub text: Limit,
-    pub docs: Limit,
-    pub changes: Limit,
-    /// The meaning of `--lenient`.
-    pub lenient: &'static str,
-}
-
-/// Returns the options that all commands have. Their defaults are those of `Limits::default()`.
-pub fn limits() -> &'static LimitOptions
-    ensures { rules_of_limits result.now ≡ limit_rules }
-{
-    &LIMITS
-}
-
-static LIMITS: LimitOptions = LimitOptions {
-    body: Limit {
-        name: "max-body",
-        least: Limits::LEAST_BODY,
-        greatest: Limits::GREATEST_BODY,
-        default: "16777216",
-        help: MAX_BODY,
+        arguments: &[
+            ("encoding", Encoding(Some("utf-16")), PREFERRED_ENCODING),
+            ("sync", ChangeForm, SYNC),
+            ("stdio", Flag, STDIO),
+        ],
     },
-    text: Limit {
-        name: "max-text",
-        least: 0,
-        greatest: Limits::GREATEST_TEXT,
-        default: "16777216",
-        help: MAX_TEXT,
+    Page {
+        name: "check",
+        about: CHECK,
+        example: CHECK_EXAMPLE,
+        arguments: &[
+            ("encoding", Encoding(Some("utf-16")), ENCODING),
+            ("explain", Flag, EXPLAIN),
+            ("brief", Flag, BRIEF),
+            ("all", Flag, ALL),
+            ("live", Flag, LIVE),
+            ("FILE", Logs, LOGS),
+        ],
     },
-    docs: Limit {
-        name: "max-docs",
-        least: 1,
-        greatest: Limits::GREATEST_DOCS,
-        default: "1024",
-        help: MAX_DOCS,
+    Page {
+        name: "trace",
+        about: TRACE,
+        example: TRACE_EXAMPLE,
+        arguments: &[
+            ("encoding", Encoding(Some("utf-16")), ENCODING),
+            ("texts", Flag, TEXTS),
+            ("bodies", Flag, BODIES),
+            ("live", Flag, LIVE),
+            ("FILE", Logs, LOGS),
+        ],
     },
-    changes: Limit {
-        name: "max-changes",
-        least: 1,
-        greatest: Limits::GREATEST_CHANGES,
-        default: "65536",
-        help: MAX_CHANGES,
+    Page {
+        name: "replay",
+        about: REPLAY,
+        example: REPLAY_EXAMPLE,
+        arguments: &[
+            ("encoding", Encoding(Some("utf-16")), ENCODING),
+            ("at", Number(RECORDS, None), AT),
+            ("uri", Text("URI"), URI),
+            ("FILE", Log, LOG),
+        ],
     },
-    lenient: LENIENT,
+    Page {
+        name: "compare",
+        about: COMPARE,
+        example: COMPARE_EXAMPLE,
+        arguments: &[
+            ("encoding", Encoding(Some("utf-16")), ENCODING),
+            ("SAVED", File, SAVED),
+            ("uri", Text("URI"), ENDING),
+            ("FILE", Log, LOG),
+        ],
+    },
+    Page {
+        name: "normalise",
+        about: NORMALISE,
+        example: NORMALISE_EXAMPLE,
+        arguments: &[
+            ("encoding", Encoding(Some("utf-16")), ENCODING),
+            ("documents", Flag, DOCUMENTS),
+            ("squash", Flag, SQUASH),
+            ("FILE", Log, LOG),
+        ],
+    },
+    Page {
+        name: "convert",
+        about: CONVERT,
+        example: CONVERT_EXAMPLE,
+        arguments: &[
+            ("encoding", Encoding(Some("utf-16")), ENCODING),
+            ("FILE", Log, LOG),
+        ],
+    },
+];
+
+static LIMITS: [Argument; 5] = [
+    ("max-body", Number(BODY, Some("16777216")), MAX_BODY),
+    ("max-text", Number(TEXT, Some("16777216")), MAX_TEXT),
+    ("max-docs", Number(DOCS, Some("1024")), MAX_DOCS),
+    ("max-changes", Number(CHANGES, Some("65536")), MAX_CHANGES),
+    ("lenient", Flag, LENIENT),
+];
+
+/// The numbers that a record may have.
+const RECORDS: Range = Range {
+    least: 1,
+    greatest: u64::MAX,
 };
 
 static PROGRAM: &str = "Applies an editor's change messages to a copy of each open text (Language

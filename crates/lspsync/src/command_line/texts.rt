@@ -1,9 +1,9 @@
 //! The texts of help of the commands and their options. Lines have at most 80 columns, with what
 //! `clap` writes before an option's text, 25 columns, and after it, its default.
 
-pub static SERVE: &str = "Be a language server that keeps the editor's documents, and no more";
+pub const SERVE: &str = "Be a language server that keeps the editor's documents, and no more";
 
-pub static SERVE_EXAMPLE: &str =
+pub const SERVE_EXAMPLE: &str =
     "It answers `initialize` and `shutdown`, takes the documents' messages, answers
 every other request with the error `method not found`, and ends at `exit`. Put
 it where an editor wants a server's command. The status is 0 where the editor
@@ -13,9 +13,9 @@ Example, which answers a recorded session; it ends before `exit`, so the status
 is 1:
   lspsync serve < examples/whole-text.log";
 
-pub static CHECK: &str = "Print what a server answers to each message of a log, a line each";
+pub const CHECK: &str = "Print what a server answers to each message of a log, a line each";
 
-pub static CHECK_EXAMPLE: &str =
+pub const CHECK_EXAMPLE: &str =
     "A line has the record's number and a word: `reply` or `error CODE` for a
 request, `changed`, `dropped`, `ignored` or `refused CAUSE` for a notification,
 `exit 0` or `exit 1`, and `server` for what the server sent. A record counts as
@@ -39,9 +39,9 @@ Example, a session with two changes that Laspidru refuses:
 Example, a session that goes on, as the editor types:
   tail -c +1 -f session.log | lspsync check --brief --live";
 
-pub static TRACE: &str = "Print each message of a log as JSON, with the answer and the reason";
+pub const TRACE: &str = "Print each message of a log as JSON, with the answer and the reason";
 
-pub static TRACE_EXAMPLE: &str =
+pub const TRACE_EXAMPLE: &str =
     "A line has the record's `number` and `offset`, who it is `from`, its `method`
 and `id`, the document's `uri`, the `word` of `check`, the `reason` if it was
 refused and the `last` record that opened, closed or refused the document,
@@ -53,9 +53,9 @@ Example, and the refused messages alone where `jq` is there:
   lspsync trace examples/stale-version.log
   lspsync trace examples/stale-version.log | jq -c 'select(.reason)'";
 
-pub static REPLAY: &str = "Print the documents that are open at the end of a log, a line each";
+pub const REPLAY: &str = "Print the documents that are open at the end of a log, a line each";
 
-pub static REPLAY_EXAMPLE: &str =
+pub const REPLAY_EXAMPLE: &str =
     "A line of JSON has the document's `languageId`, `text`, `uri` and `version`, in
 order of opening. The status is that of `check`. Nothing is printed where the
 log is faulty.
@@ -72,9 +72,9 @@ Example, and a document's text alone, then and after the third record:
   lspsync replay --uri file:///home/ada/hello.py examples/typing.log
   lspsync replay --uri file:///home/ada/hello.py --at 3 examples/typing.log";
 
-pub static COMPARE: &str = "Say which message made a document's text other than a saved one";
+pub const COMPARE: &str = "Say which message made a document's text other than a saved one";
 
-pub static COMPARE_EXAMPLE: &str =
+pub const COMPARE_EXAMPLE: &str =
     "SAVED is the editor's own text, as it saved it. It is compared with the last
 text of the document whose URI ends so, or as `--uri` says, also after its
 `didClose`. Where both differ in line ends, the last line end or a byte order
@@ -92,13 +92,13 @@ Example, of a text that is the same:
   lspsync replay --uri file:///home/ada/hello.py examples/typing.log > hello.py
   lspsync compare hello.py examples/typing.log";
 
-pub static SAVED: &str = "The file of the saved text";
+pub const SAVED: &str = "The file of the saved text";
 
-pub static ENDING: &str = "Compare the document whose URI ends so";
+pub const ENDING: &str = "Compare the document whose URI ends so";
 
-pub static NORMALISE: &str = "Write a log with each accepted change as its canonical message";
+pub const NORMALISE: &str = "Write a log with each accepted change as its canonical message";
 
-pub static NORMALISE_EXAMPLE: &str =
+pub const NORMALISE_EXAMPLE: &str =
     "The canonical message is the one that means the same. All other messages, and
 the refused ones, stay byte for byte. Two changes of one text of one document
 (its URI), under one version and in one encoding, get the same bytes exactly if
@@ -120,9 +120,9 @@ Example, what was done between two saves, of a log with a request after each
 key:
   lspsync normalise --documents --squash examples/two-saves-with-requests.log";
 
-pub static CONVERT: &str = "Write a log in the format of version 2, with the server's replies";
+pub const CONVERT: &str = "Write a log in the format of version 2, with the server's replies";
 
-pub static CONVERT_EXAMPLE: &str =
+pub const CONVERT_EXAMPLE: &str =
     "The output begins with the line `lsp-session-log 2`. Then come the messages,
 each after a mark: `>` for the editor's, byte for byte, and `<` for the server's
 reply. The other commands on logs read both versions, `convert` reads version 1
@@ -132,48 +132,48 @@ Example, and what its output says:
   lspsync convert examples/whole-text.log
   lspsync convert examples/whole-text.log | lspsync check";
 
-pub static LOG: &str = "The log; `-` is standard input";
+pub const LOG: &str = "The log; `-` is standard input";
 
-pub static LOGS: &str = "The logs; of several each has a heading on standard error,
+pub const LOGS: &str = "The logs; of several each has a heading on standard error,
 and the status is the greatest. `-` is standard input";
 
-pub static ENCODING: &str = "What a position's character counts in this log; one
+pub const ENCODING: &str = "What a position's character counts in this log; one
 of version 2 says it itself
 (utf-8, utf-16, utf-32)";
 
-pub static PREFERRED_ENCODING: &str = "What a position's character is to count, if the editor
+pub const PREFERRED_ENCODING: &str = "What a position's character is to count, if the editor
 offers it; else utf-16
 (utf-8, utf-16, utf-32)";
 
-pub static SYNC: &str = "How the editor is asked to send changes: as whole texts
+pub const SYNC: &str = "How the editor is asked to send changes: as whole texts
 or as ranges (full, incremental)";
 
-pub static STDIO: &str = "Changes nothing: it talks by standard input and output";
+pub const STDIO: &str = "Changes nothing: it talks by standard input and output";
 
-pub static DOCUMENTS: &str = "Leave out each message that is neither about the
+pub const DOCUMENTS: &str = "Leave out each message that is neither about the
 session nor about a document's text";
 
-pub static SQUASH: &str = "Write changes of one document that follow each other as
+pub const SQUASH: &str = "Write changes of one document that follow each other as
 one message, as between two saves";
 
-pub static AT: &str = "Replay up to the Nth record alone, from 1";
+pub const AT: &str = "Replay up to the Nth record alone, from 1";
 
-pub static URI: &str = "Print one document's last text alone, as it is, also
+pub const URI: &str = "Print one document's last text alone, as it is, also
 if it was closed: with this URI, or ending so";
 
-pub static EXPLAIN: &str = "Print why a message was refused or what is suspicious
+pub const EXPLAIN: &str = "Print why a message was refused or what is suspicious
 too, and at the end what to do next";
 
-pub static BRIEF: &str = "Print reasons and notes, and only the lines that have
+pub const BRIEF: &str = "Print reasons and notes, and only the lines that have
 them";
 
-pub static ALL: &str = "Print reasons and notes, and each note on its line,
+pub const ALL: &str = "Print reasons and notes, and each note on its line,
 also where its kind comes often";
 
-pub static LIVE: &str = "Flush what is printed before more is read: for a
+pub const LIVE: &str = "Flush what is printed before more is read: for a
 session that goes on";
 
-pub static TEXTS: &str = "Print the document's text too, where a message opened
+pub const TEXTS: &str = "Print the document's text too, where a message opened
 or changed it";
 
-pub static BODIES: &str = "Print each message too, where it is JSON";
+pub const BODIES: &str = "Print each message too, where it is JSON";

@@ -1,5 +1,6 @@
 use Rattle.lsp_simulate.proofs.Prelude.{◌≡◌, ◌∙◌, sym, Some, None}
-use Rattle.lsp_simulate.proofs.OptionLemmas.{no_some, server_given, server_within}
+use Rattle.lsp_simulate.proofs.OptionLemmas.{server_given, server_within}
+use Rattle.lsp_program.proofs.NumberLemmas.{no_some}
 use Rattle.lsp_simulate.proofs.command_line.server_limits.Goals as goal
 
 pub returns-in_err-max_body-clause-none : goal.returns-in_err-max_body-clause-none
