@@ -32,13 +32,8 @@ fn time_orders<R: Runtime + AllocGlobal>(rt: &R, count: u32) -> io::Result<()> {
         order: Order::First,
     };
     for (order, what) in &ORDERS {
-        let row = Row {
-            what,
-            size: count as usize,
-            repeats: 1,
-        };
         closing.order = *order;
-        time(rt, row, &mut closing)?;
+        time(rt, Row::new(what, count as usize, 1), &mut closing)?;
     }
     Ok(())
 }

@@ -19,19 +19,11 @@ const DOCUMENTS: u32 = 100;
 /// Types and deletes so many letters a round, and closes and opens so many documents.
 pub fn run<R: Runtime + AllocGlobal>(rt: &R, count: usize) -> io::Result<()> {
     let mut typing = done(Typing::new(rt.alloc(), count))?;
-    let row = Row {
-        what: "blocks of a text after letters were typed and deleted, letters",
-        size: count,
-        repeats: 1,
-    };
-    time(rt, row, &mut typing)?;
+    let what = "blocks of a text after letters were typed and deleted, letters";
+    time(rt, Row::new(what, count, 1), &mut typing)?;
     let mut opening = done(Opening::new(rt.alloc(), count))?;
-    let row = Row {
-        what: "slots of a table after documents were closed and opened, documents",
-        size: count,
-        repeats: 1,
-    };
-    time(rt, row, &mut opening)
+    let what = "slots of a table after documents were closed and opened, documents";
+    time(rt, Row::new(what, count, 1), &mut opening)
 }
 
 /// A text, and how many letters are typed in its middle.

@@ -53,13 +53,8 @@ fn time_calls<R: Runtime>(
     repeats: u32,
 ) -> io::Result<()> {
     for (call, what) in &CALLS {
-        let row = Row {
-            what,
-            size,
-            repeats,
-        };
         document.call = *call;
-        time(rt, row, document)?;
+        time(rt, Row::new(what, size, repeats), document)?;
     }
     Ok(())
 }
@@ -74,14 +69,10 @@ fn opened_store(alloc: Global, size: usize) -> Option<Store> {
     Some(store)
 }
 
-fn open_in_store(store: &mut Store, document: OpenParams) -> bool {
-    let OpenParams {
-        uri,
-        language,
-        version,
-        text,
-    } = document;
-    store.open(uri, language, version, text).is_ok()
+fn open_in_store(store: &mut Store, params: OpenParams) -> bool {
+    store
+        .open(params.uri, params.language, params.version, params.text)
+        .is_ok()
 }
 
 /// What a server answers that wants changed ranges, in UTF-16.
@@ -107,14 +98,10 @@ fn hear(client: &mut Client) -> bool {
     client.deliver(ANSWER).is_ok()
 }
 
-fn open_in_client(client: &mut Client, document: OpenParams) -> bool {
-    let OpenParams {
-        uri,
-        language,
-        version,
-        text,
-    } = document;
-    client.open(uri, language, version, text).is_ok()
+fn open_in_client(client: &mut Client, params: OpenParams) -> bool {
+    client
+        .open(params.uri, params.language, params.version, params.text)
+        .is_ok()
 }
 
 /// A document at each end, and the keystrokes. An even number of them leaves its text as it was.

@@ -60,13 +60,8 @@ fn time_calls<R: Runtime + AllocGlobal>(
 ) -> io::Result<()> {
     for (call, words) in &CALLS {
         let what = format!(in rt.alloc(); "{words} {} changes, bytes", batch.count)?;
-        let row = Row {
-            what: &what,
-            size: batch.text.len(),
-            repeats,
-        };
         batch.call = *call;
-        time(rt, row, batch)?;
+        time(rt, Row::new(&what, batch.text.len(), repeats), batch)?;
     }
     Ok(())
 }

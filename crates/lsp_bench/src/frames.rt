@@ -35,17 +35,12 @@ pub fn run<R: Runtime + AllocGlobal>(rt: &R, megabytes: u16) -> io::Result<()> {
 
 fn time_frames<R: Runtime + AllocGlobal>(rt: &R, size: usize, bytes: &[u8]) -> io::Result<()> {
     for (piece, what) in &PIECES {
-        let row = Row {
-            what,
-            size,
-            repeats: 1,
-        };
         let mut framing = Framing {
             alloc: rt.alloc(),
             bytes,
             piece: *piece,
         };
-        time(rt, row, &mut framing)?;
+        time(rt, Row::new(what, size, 1), &mut framing)?;
     }
     Ok(())
 }
@@ -70,13 +65,8 @@ pub fn time_copy<R: Runtime + AllocGlobal>(
     size: usize,
     bytes: &[u8],
 ) -> io::Result<()> {
-    let row = Row {
-        what,
-        size,
-        repeats: 1,
-    };
     let alloc = rt.alloc();
-    time(rt, row, &mut Copying { alloc, bytes })
+    time(rt, Row::new(what, size, 1), &mut Copying { alloc, bytes })
 }
 
 #[derive(Drop)]

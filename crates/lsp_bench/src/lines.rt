@@ -78,12 +78,8 @@ fn index<R: Runtime + AllocGlobal>(rt: &R, size: usize) -> io::Result<()> {
 }
 
 fn time_index<R: Runtime + AllocGlobal>(rt: &R, size: usize, text: &str) -> io::Result<()> {
-    let row = Row {
-        what: "Lines::new",
-        size,
-        repeats: 1,
-    };
     let alloc = rt.alloc();
+    let row = Row::new("Lines::new", size, 1);
     time(rt, row, &mut Indexing { alloc, text })
 }
 
@@ -149,11 +145,7 @@ fn time_looking<R: Runtime + AllocGlobal>(
     repeats: u32,
 ) -> io::Result<()> {
     let what = row_name(rt.alloc(), call, &looking)?;
-    let row = Row {
-        what: &what,
-        size: looking.case.column as usize,
-        repeats,
-    };
+    let row = Row::new(&what, looking.case.column as usize, repeats);
     time(rt, row, &mut looking)
 }
 

@@ -80,18 +80,13 @@ fn time_calls<R: Runtime + AllocGlobal>(
 ) -> io::Result<()> {
     let body = written(rt.alloc(), message)?;
     for (call, what) in calls {
-        let row = Row {
-            what,
-            size,
-            repeats,
-        };
         let mut work = Passing {
             alloc: rt.alloc(),
             message,
             body: &body,
             call: *call,
         };
-        time(rt, row, &mut work)?;
+        time(rt, Row::new(what, size, repeats), &mut work)?;
     }
     Ok(())
 }

@@ -43,14 +43,9 @@ fn time_ends<R: Runtime + AllocGlobal>(rt: &R, repeats: u32) -> io::Result<()> {
 
 fn time_calls<R: Runtime>(rt: &R, ends: &mut Ends, repeats: u32) -> io::Result<()> {
     for (call, what) in &CALLS {
-        let row = Row {
-            what,
-            size: SIZE,
-            repeats,
-        };
         ends.turn = 0;
         ends.call = *call;
-        time(rt, row, ends)?;
+        time(rt, Row::new(what, SIZE, repeats), ends)?;
     }
     Ok(())
 }

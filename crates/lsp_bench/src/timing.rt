@@ -28,6 +28,16 @@ pub struct Row<'a> {
     pub repeats: u32,
 }
 
+impl<'a> Row<'a> {
+    pub fn new(what: &'a str, size: usize, repeats: u32) -> Row<'a> {
+        Row {
+            what,
+            size,
+            repeats,
+        }
+    }
+}
+
 /// Times work. The sum of a round goes to standard output. The time of doing the work once goes to
 /// standard error, with what is added to the sum in a microsecond: megabytes a second, if the work
 /// results in a number of bytes.
