@@ -29,8 +29,8 @@ message, and say what to do next. A kind of note that comes often is on few
 lines; with `--all` it is on each. With `--brief` only lines with a reason or
 notes are printed.
 
-Input that is faulty (F1) at offset 0 is no such log: `lspsync-log-from` makes
-one of what an editor wrote.
+Input that is faulty (F1 or F2) at its beginning is no such log:
+`lspsync-log-from` makes one of what an editor wrote.
 
 Example, a session with two changes that Laspidru refuses:
   lspsync check examples/stale-version.log
