@@ -218,7 +218,9 @@ impl Store {
         let Some(stored) = self.documents.get_index_mut(index) else {
             unreachable!()
         };
-        stored.apply(version, delta)
+        stored.text.apply(delta)?;
+        stored.version = version;
+        Ok(())
     }
 
     /// Closes an open document; the others keep their order (LSP 3.17, DidCloseTextDocument).

@@ -1,5 +1,5 @@
 -- What a plan is of, and what it makes of a store.
-use Rattle.lsp_store.proofs.Prelude.{◌≡◌, ◌+◌, ◌≤◌, ℕ, ℤ, zero, suc, Bool, true, false, List, [], ◌∷◌, length, map, nat_lt, Option, Some, None, Result, Ok, Err, IfOk, IfErr, OnOk, OnErr, option_map, slice_get, position, String, string_bytes, bytes_eq, refl, sym, ap, ◌∙◌, subst, arith, ⊎_elim, cases_Bool, slice_get-map, bytes_eq-Decides, lookup, lookup_key, Global, set_value_at, LimitsData, Encoding, units_in, Item, ContentChange, meaning, canonical, IsDeltaOf, IsOn, bytes_after, delta_encoding, meant_by, DocumentItem, Plan, Stored, StoreData, Takes, entry_of, entry_under, IsPlanOf, IsPlanOn, after_plan, planned, planned_table, StoreFault, IsRefusal, body_refusal, canonical_batch, canonical_body, change_body, message_refusal, Refusal, after_change, changed, changes, entry_at, entry_refusal, common_steps}
+use Rattle.lsp_store.proofs.Prelude.{◌≡◌, ◌+◌, ◌≤◌, ℕ, ℤ, zero, suc, Bool, true, false, List, [], ◌∷◌, length, map, nat_lt, Option, Some, None, Result, Ok, Err, IfOk, IfErr, OnOk, option_map, slice_get, position, String, string_bytes, bytes_eq, refl, sym, ap, ◌∙◌, subst, arith, ⊎_elim, cases_Bool, slice_get-map, bytes_eq-Decides, lookup, lookup_key, Global, set_value_at, LimitsData, Encoding, units_in, Item, ContentChange, meaning, canonical, IsDeltaOf, IsOn, bytes_after, delta_encoding, meant_by, DocumentItem, Plan, Stored, StoreData, Takes, entry_of, entry_under, IsPlanOf, IsPlanOn, after_plan, planned, planned_table, StoreFault, IsRefusal, body_refusal, canonical_batch, canonical_body, change_body, message_refusal, Refusal, after_change, changed, changes, entry_at, entry_refusal, common_steps}
 use Rattle.std.specs.List.{position_or_len}
 use Rattle.std.specs.Str.{IsUtf8, chars}
 use Rattle.lsp_edit.specs.declared.delta.Delta.{Delta}
@@ -11,17 +11,9 @@ use Rattle.lsp_store.proofs.Tables.StoreLemmas.{get_found, may_take, seen}
 use Rattle.lsp_store.proofs.Tables.TableLemmas.{at_uri}
 
 -- what follows where a call succeeds, or fails
-pub on_ok : {A E P Q : Type 0} (r : Result A E) → (P → Q) → OnOk r P → OnOk r Q
-on_ok (Ok a) then p = then p
-on_ok (Err e) then p = tt
-
 pub on_ok_on : {A E P O Q : Type 0} (r : Result A E) → (P → O → Q) → OnOk r P → OnOk r O → OnOk r Q
 on_ok_on (Ok a) then p o = then p o
 on_ok_on (Err e) then p o = tt
-
-pub on_err : {A E P Q : Type 0} (r : Result A E) → (P → Q) → OnErr r P → OnErr r Q
-on_err (Ok a) then p = tt
-on_err (Err e) then p = then p
 
 pub if_ok : {A E : Type 0} {P Q : A → Type 0} (r : Result A E) → ((a : A) → P a → Q a) → IfOk r P → IfOk r Q
 if_ok (Ok a) then p = then a p
@@ -76,11 +68,17 @@ put_planned (e ∷ es) zero key stored new version delta at is =
 put_planned (e ∷ es) (suc index) key stored new version delta at is =
     ap (λ (table : List DocumentItem). entry_of e ∷ table) (put_planned es index key stored new version delta at is)
 
-pub put_same : (es : List (String Global × Stored)) (index : ℕ) (key : String Global) (stored : Stored)
-    → slice_get es index ≡ Some (key, stored) → set_value_at es index stored ≡ es
-put_same [] index key stored at = absurd (cc)
-put_same (e ∷ es) zero key stored at = grind (arith, common_steps)
-put_same (e ∷ es) (suc index) key stored at = ap (λ rest. e ∷ rest) (put_same es index key stored at)
+pub put_unchanged : (es : List (String Global × Stored)) (index : ℕ) (key : String Global) (stored new : Stored)
+    → slice_get es index ≡ Some (key, stored) → ((uri : List ℕ) → entry_under uri new ≡ entry_under uri stored)
+    → map entry_of (set_value_at es index new) ≡ map entry_of es
+put_unchanged [] index key stored new at is = absurd (cc)
+put_unchanged (e ∷ es) zero key stored new at is =
+    let same : e.1 ≡ stored =
+    ap (λ (o : Option (String Global × Stored)). elim o [ None ↦ stored | Some p ↦ p.1 ]) at in
+    ap (λ (entry : DocumentItem). entry ∷ map entry_of es) (is (string_bytes e.0)
+    ∙ ap (λ (s : Stored). entry_under (string_bytes e.0) s) (sym same))
+put_unchanged (e ∷ es) (suc index) key stored new at is =
+    ap (λ (table : List DocumentItem). entry_of e ∷ table) (put_unchanged es index key stored new at is)
 
 pub put_length : (es : List (String Global × Stored)) (index : ℕ) (stored : Stored)
     → length (set_value_at es index stored) ≡ length es
@@ -190,9 +188,12 @@ module _ (limits : LimitsData) (es : List (String Global × Stored)) (kept : Sto
         ≡ after_plan kept plan
     plan_applied new is next set = grind (arith, common_steps, put_planned)
 
-    pub plan_unchanged : (next : List (String Global × Stored)) → next ≡ set_value_at es plan.index stored
-        → seen limits next ≡ kept
-    plan_unchanged next set = ap (seen limits) (set ∙ put_same es plan.index h.key stored h.at) ∙ view
+    pub plan_unchanged : (new : Stored) → ((uri : List ℕ) → entry_under uri new ≡ entry_under uri stored)
+        → (next : List (String Global × Stored)) → next ≡ set_value_at es plan.index new → seen limits next ≡ kept
+    plan_unchanged new is next set =
+        ap (seen limits) set
+        ∙ ap (λ (table : List DocumentItem). record (seen limits es) { table = table })
+        (put_unchanged es plan.index h.key stored new h.at is) ∙ view
 
 -- ---- the message of a plan
 

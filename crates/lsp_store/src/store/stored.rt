@@ -22,9 +22,8 @@ impl Stored {
     ghost use Rattle.lsp_text.specs.Units.{units_in};
     ghost use Rattle.lsp_edit.specs.Edited.{content_change};
     ghost use Rattle.lsp_text.specs.declared.position.Range.{Range};
-    ghost use Rattle.lsp_edit.specs.Delta.{IsDeltaOf, IsOn, bytes_after};
+    ghost use Rattle.lsp_edit.specs.Delta.{IsDeltaOf};
     ghost use Rattle.lsp_edit.specs.Indexed.{one_change};
-    ghost use Rattle.lsp_store.specs.Plan.{planned};
     ghost use Rattle.lsp_store.specs.declared.fault.StoreFault.TheVariants.{NoMemory};
     ghost use Rattle.lsp_store.specs.Table.{IsLeftToMeaning, entry_refusal, is_stale};
     ghost use Rattle.lsp_store.specs.Faults.{refusal_fault, IsRefusal};
@@ -124,19 +123,5 @@ impl Stored {
             Ok(delta) => Ok(delta),
             Err(fault) => Err(StoreFault::from(fault)),
         }
-    }
-
-    /// Applies a delta that was made of the document's text, and sets its version. Fails only where
-    /// memory runs out, and then changes nothing.
-    pub fn apply(&mut self, version: i32, delta: Delta<'_>) -> Result<(), AllocError>
-        requires on { IsOn self.old.text delta }
-        requires short { length (bytes_after self.old.text delta) ≤ 1073741824 }
-        ensures applied { OnOk result ((uri : List ℕ) →
-            entry_under uri self.new ≡ planned (entry_under uri self.old) version delta.entry) }
-        ensures unchanged { OnErr result (self.new ≡ self.old) }
-    {
-        self.text.apply(delta)?;
-        self.version = version;
-        Ok(())
     }
 }
