@@ -7,6 +7,7 @@ use Rattle.lsp_log.specs.declared.record.Version.TheVariants.{One, Two}
 use Rattle.lsp_log.specs.declared.record.Sender.{Sender}
 use Rattle.lsp_log.specs.declared.record.Sender.TheVariants.{Client}
 use Rattle.lsp_log.specs.declared.record.Head.{Head}
+use Rattle.lsp_log.specs.declared.record.Record as found
 use Rattle.lsp_stream.specs.declared.fault.EngineFault.{EngineFault}
 use Rattle.lsp_stream.specs.declared.fault.EngineFault.TheVariants.{Frame, NoMemory, BadLog}
 use Rattle.lsp_log.specs.declared.splitter.Splitter.{Splitter}
@@ -77,6 +78,10 @@ record_head s
 -- The record that is coming in, with this body.
 abbrev pub record_at : Splitter → List ℕ → Record
 record_at s body = record { head = record_head s; raw = s.framer.buffered; body = body }
+
+-- A record as it is found, by its bytes.
+abbrev pub record_of : found.Record → Record
+record_of r = record { head = r.head; raw = r.raw.now; body = r.body.now }
 
 -- Why the rest of the input isn't taken.
 abbrev pub IsSplitFault : ℕ → List ℕ → Log → EngineFault → Type 0

@@ -1,7 +1,7 @@
 //! What a log is: its version and its records; and how it is split, in whatever pieces it comes.
 //!
 //! - `splitter`: the records of a log that comes in pieces.
-//! - `record`: the versions of a log, and what is known of a record beside its frame.
+//! - `record`: the versions of a log, and its records.
 //! - `opening`: the first bytes of an input, as many as decide its version.
 //! - `laws`: what holds of every log.
 #![tactic(auto)]
@@ -13,5 +13,5 @@ mod splitter;
 
 pub use laws::reading_laws;
 pub use opening::{Opening, read_opening};
-pub use record::{Head, Sender, VERSION_LINE, Version};
+pub use record::{Head, Record, Sender, VERSION_LINE, Version};
 pub use splitter::Splitter;

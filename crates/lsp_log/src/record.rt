@@ -1,4 +1,4 @@
-//! The versions of a log, and what is known of a record beside its frame.
+//! The versions of a log, and its records.
 
 ghost use Rattle.std.specs.Prelude.{◌≡◌, ◌≢◌, ◌∷◌, [], MatchOption};
 ghost use Rattle.lsp_log.specs.Log.{line_of, mark_of, is_line_due};
@@ -65,4 +65,14 @@ pub struct Head {
     pub place: u64,
     /// Whether it is the first record of a version 2 log, to whose output the log's line belongs.
     pub line_due: bool,
+}
+
+/// A complete record.
+#[derive(Clone, Copy, Debug)]
+pub struct Record<'a> {
+    pub head: Head,
+    /// The bytes of its frame.
+    pub raw: &'a [u8],
+    /// The body of its frame.
+    pub body: &'a [u8],
 }

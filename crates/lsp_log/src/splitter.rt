@@ -5,11 +5,12 @@
 ghost use Rattle.std.specs.Prelude.{◌≡◌, ◌≢◌, ◌↔◌, ◌<◌, ◌≤◌, ◌++◌, ◌∷◌, [], ℕ, List, None, true, false, length, drop, Err, IfOk, IfErr, OnOk, MatchOption};
 ghost use Rattle.lsp_frame.specs.Frame.{IsFrameOf};
 ghost use Rattle.lsp_frame.specs.Stream.{IsFrame};
-ghost use Rattle.lsp_log.specs.Log.{LogRules, Record, mark_of};
+ghost use Rattle.lsp_log.specs.Log as log;
+ghost use Rattle.lsp_log.specs.Log.{LogRules, mark_of};
 ghost use Rattle.lsp_log.specs.Splitting.{IsSplitterFault};
-ghost use Rattle.lsp_log.specs.Splitting.{IsReady, IsFed, IsAfter, IsSplitFault, IsOpen, IsSide, log_at, record_head, buffered_of, mark_part};
+ghost use Rattle.lsp_log.specs.Splitting.{IsReady, IsFed, IsAfter, IsSplitFault, IsOpen, IsSide, log_at, record_at, record_head, record_of, buffered_of, mark_part};
 
-use crate::record::{Head, Sender, Version};
+use crate::record::{Head, Record, Sender, Version};
 use lsp_frame::{Framer, Limits};
 use lsp_stream::EngineFault;
 use std::alloc::Global;
@@ -60,12 +61,12 @@ impl Splitter {
         ensures fed { OnOk result (IsFed self.new) }
         ensures version { self.new.version ≡ self.old.version }
         ensures is_after { IfOk result
-            (λ k. (log_rules : LogRules) (input : List ℕ) (records : List Record) →
+            (λ k. (log_rules : LogRules) (input : List ℕ) (records : List log.Record) →
             IsAfter log_rules input piece.now records self.old →
             IsAfter log_rules input (drop k piece.now) records self.new) }
         ensures kind { IfErr result IsSplitterFault }
         ensures error { IfErr result
-            (λ fault. (log_rules : LogRules) (input : List ℕ) (records : List Record) →
+            (λ fault. (log_rules : LogRules) (input : List ℕ) (records : List log.Record) →
             IsAfter log_rules input piece.now records self.old →
             IsSplitFault log_rules.max_body input (log_at self.old records piece.now) fault) }
         // Out of memory changes nothing. A mark takes none, nor does an empty piece.
@@ -87,12 +88,12 @@ impl Splitter {
         ensures fed { OnOk result (IsFed self.new) }
         ensures version { self.new.version ≡ self.old.version }
         ensures is_after { IfOk result
-            (λ k. (log_rules : LogRules) (input : List ℕ) (records : List Record) →
+            (λ k. (log_rules : LogRules) (input : List ℕ) (records : List log.Record) →
             IsAfter log_rules input piece.now records self.old →
             IsAfter log_rules input (drop k piece.now) records self.new) }
         ensures kind { IfErr result IsSplitterFault }
         ensures error { IfErr result
-            (λ fault. (log_rules : LogRules) (input : List ℕ) (records : List Record) →
+            (λ fault. (log_rules : LogRules) (input : List ℕ) (records : List log.Record) →
             IsAfter log_rules input piece.now records self.old →
             IsSplitFault log_rules.max_body input (log_at self.old records piece.now) fault) }
         ensures memory { result ≢ Err EngineFault.NoMemory }
@@ -110,15 +111,30 @@ impl Splitter {
         }
     }
 
-    /// Returns the frame of the buffered record, once it is complete: all its bytes, and its body.
-    pub fn frame(&self) -> Option<(&[u8], &[u8])>
+    /// Returns the buffered record, once it is complete.
+    pub fn record(&self) -> Option<Record<'_>>
         ensures { MatchOption result
             (self.now.framer.failed ≡ false →
             IsFrame self.now.framer.limits.max_body self.now.framer.buffered → ⊥)
-            (λ frame. (frame.0.now ≡ self.now.framer.buffered)
-            × IsFrameOf self.now.framer.limits.max_body self.now.framer.buffered frame.1.now) }
+            (λ r. (record_of r ≡ record_at self.now r.body.now)
+            × IsFrameOf self.now.framer.limits.max_body self.now.framer.buffered r.body.now) }
     {
-        Some((self.framer.spelling()?, self.framer.body()?))
+        let raw = self.framer.spelling()?;
+        let body = self.framer.body()?;
+        let head = self.head();
+        Some(Record { head, raw, body })
+    }
+
+    /// Returns what is known of the record that is coming in, beside its frame.
+    fn head(&self) -> Head
+        ensures { result ≡ record_head self.now }
+    {
+        Head {
+            side: self.side.unwrap_or(Sender::Client),
+            version: self.version,
+            place: self.place,
+            line_due: self.line_due,
+        }
     }
 
     /// Releases the buffered record. Does nothing if none is complete.
@@ -127,15 +143,11 @@ impl Splitter {
         ensures ready { IsReady self.new }
         ensures version { self.new.version ≡ self.old.version }
         ensures is_after { (log_rules : LogRules) (input more body : List ℕ)
-            (records : List Record) →
+            (records : List log.Record) →
             IsFrameOf log_rules.max_body self.old.framer.buffered body →
             IsAfter log_rules input more records self.old →
             IsAfter log_rules input more
-            (records ++ (record {
-              head = record_head self.old;
-              raw = self.old.framer.buffered;
-              body = body;
-            } ∷ [])) self.new }
+            (records ++ (record_at self.old body ∷ [])) self.new }
         ensures none { (IsFrame self.old.framer.limits.max_body self.old.framer.buffered → ⊥) →
             self.new ≡ self.old }
     {
@@ -165,18 +177,6 @@ impl Splitter {
         ensures { result ≡ self.now.line_due }
     {
         self.line_due
-    }
-
-    /// Returns what is known of the record that is coming in, beside its frame.
-    pub fn head(&self) -> Head
-        ensures { result ≡ record_head self.now }
-    {
-        Head {
-            side: self.side.unwrap_or(Sender::Client),
-            version: self.version,
-            place: self.place,
-            line_due: self.line_due,
-        }
     }
 }
 

@@ -53,7 +53,7 @@ pub use Rattle.lsp_log.proofs.LogLemmas.{are_push, due_after, together_push}
 pub use Rattle.lsp_log.proofs.UniqueLemmas.{first_byte}
 pub use Rattle.lsp_log.specs.Log.{AreRecords, HasNoRecord, IsBadMark, IsCut, IsMalformed, IsReadAs, IsRecord, IsUndecided, IsVersion, Log, LogRules, Record, is_line_due, line_of, mark_of, record_bytes, together, version_line}
 pub use Rattle.lsp_log.specs.Opening.{IsBelowLine, IsLineFront, IsUnfinished}
-pub use Rattle.lsp_log.specs.Splitting.{IsAfter, IsFed, IsOpen, IsReady, IsSplitFault, buffered_of, log_at, record_at, record_head}
+pub use Rattle.lsp_log.specs.Splitting.{IsAfter, IsFed, IsOpen, IsReady, IsSplitFault, buffered_of, log_at, record_at, record_head, record_of}
 pub use Rattle.lsp_log.specs.declared.record.Head.{Head}
 pub use Rattle.lsp_log.specs.declared.record.Sender.{Sender}
 pub use Rattle.lsp_log.specs.declared.record.Sender.TheVariants.{Client, Server}
@@ -103,7 +103,7 @@ pub use Rattle.lsp_replay.specs.declared.session.canonical.Canonical.{Canonical}
 pub use Rattle.lsp_replay.specs.inside.AllRecords.{CutAtEnd, EndedBy, IsFaultReported, IsFirstPart, IsRunReport, IsShort, Passed, PassedEnd, ShortAtEnd}
 pub use Rattle.lsp_replay.specs.inside.Bodies.{BodyData, IsChangeTaken, IsReceived, body_read, body_view, from_client, from_server, judge_read}
 pub use Rattle.lsp_replay.specs.inside.Commands.{run_output_in}
-pub use Rattle.lsp_replay.specs.inside.Engine.{AtEnd, BreaksAtEnd, Broken, BrokenAtEnd, IsLoopRun, IsPieceFault, IsRunFault, Ran, RanOut, RanOutAtEnd, Reached, RefusesInput, Stopped}
+pub use Rattle.lsp_replay.specs.inside.Engine.{AtEnd, BreaksAtEnd, Broken, BrokenAtEnd, IsLoopRun, IsPieceFault, IsRunFault, Ran, RanOut, RanOutAtEnd, Reached, RefusesInput, Stopped, reading_by}
 pub use Rattle.lsp_replay.specs.inside.Facts.{AreFacts, IsAbout, IsLearned, canonical_json, explained_by, is_change_read, known_by, members_by, reason_of, uri_read}
 pub use Rattle.lsp_replay.specs.inside.Joining.{IsBegun, IsChange, IsChangeWriting, IsFramed, IsJoined, IsLonger, IsOpenAfter, IsOpenIn, IsOther, IsWriting, refusal_of, server_after}
 pub use Rattle.lsp_replay.specs.inside.Kept.{closed_by, kept_after, text_at, text_closed}
@@ -114,7 +114,7 @@ pub use Rattle.lsp_replay.specs.inside.Parts.{found_now, replayed_in}
 pub use Rattle.lsp_replay.specs.inside.Piped.{IsAdmitted, once_written, piped, written_due}
 pub use Rattle.lsp_replay.specs.inside.Progress.{BothSpend, Ends, IsEndFault, IsHandleFault, IsHandled, IsLastFault, IsProgress, Runs}
 pub use Rattle.lsp_replay.specs.inside.Run.{IsRanOf}
-pub use Rattle.lsp_replay.specs.inside.RunOutput.{IsRecordFault, after, output_of}
+pub use Rattle.lsp_replay.specs.inside.RunOutput.{IsQuiet, IsRecordFault, after, output_of}
 pub use Rattle.lsp_replay.specs.inside.Session.{judge_at}
 pub use Rattle.lsp_replay.specs.inside.Squashed.{IsSquashStep, OpenSeries, Squashing, Step, begun, begun_on, change_output, end_bytes, faulty, joined_by, longer, open_bytes, other_step, series_of, squash_step, squash_view, squashed_in, squashed_steps, step_at, step_if}
 pub use Rattle.lsp_replay.specs.inside.Taken.{IsChangeWitnessed, IsHeard, IsShown, IsTaken, IsTakenAs, accepted_if, accepted_of, ranged_read, ranged_with, received_of}

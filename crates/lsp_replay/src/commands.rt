@@ -173,7 +173,7 @@ pub fn serve_on<R: Source, W: Sink>(
         session: Session::new(alloc, config),
     };
     let mut pipeline = Pipeline::new(alloc, serve, None);
-    run_on(alloc, ends, &mut pipeline, rules, max_turns)
+    run_on(alloc, ends, &mut pipeline, rules, true, max_turns)
 }
 
 /// Writes a line for each record of a log, with its number, from 1, and a word for what a server

@@ -1,24 +1,22 @@
-//! From a reader to a writer, record by record.
+//! From a reader to a writer, record by record: each is handed to the handler, and its output is
+//! written before more is read.
 //!
-//! Whether output is flushed before more is read is a constant of the engine's handler. A record's
-//! head has its log's version, so an engine keeps none.
+//! With `flushes` all output is flushed before more is read. A record's head has its log's version,
+//! so an engine keeps none.
 
-ghost use Rattle.std.specs.Prelude.{◌≡◌, ◌≢◌, ◌&&◌, [], ℕ, List, Option, Err, not, true, OnOk, OnErr, IfOk, IfErr};
+ghost use Rattle.std.specs.Prelude.{◌≡◌, ◌≢◌, ◌&&◌, [], ℕ, List, Option, Err, not, true, OnOk, OnErr, IfOk, IfErr, MatchOption};
 ghost use Rattle.std.specs.Io.KnownBytes.{Appends};
 ghost use Rattle.lsp_stream.specs.Ports.{ports};
 ghost use Rattle.lsp_stream.specs.Turns.{AppendsFront, AppendsShort, WritesFew, WritesWithin};
 ghost use Rattle.lsp_stream.specs.inside.Turns.{LeavesFlushed};
 ghost use Rattle.lsp_log.specs.Log.{LogRules, Record};
-ghost use Rattle.lsp_log.specs.Splitting.{IsReady};
+ghost use Rattle.lsp_log.specs.Splitting.{IsFed, IsReady};
 ghost use Rattle.lsp_log.specs.laws.Logs.{VersionLaw, FirstLaw};
 ghost use Rattle.lsp_replay.specs.RunOutput.{RunOutput};
 ghost use Rattle.lsp_replay.specs.Engine.{WroteRecords};
-ghost use Rattle.lsp_replay.specs.inside.Engine.{IsLoopRun, reading_by, AtEnd, Reached};
+ghost use Rattle.lsp_replay.specs.inside.Engine.{IsLoopRun, IsPieceFault, Stopped, reading_by, AtEnd, Reached};
 ghost use Rattle.lsp_replay.specs.inside.Progress.{IsLastFault, IsEndFault, IsProgress};
 
-mod records;
-
-use crate::engine::records::take_piece;
 use crate::handler::Handler;
 use crate::outcome::Outcome;
 use lsp_frame::Limits;
@@ -51,12 +49,104 @@ fn accept(version: Version, refuses_two: bool) -> Result<(), EngineFault>
     }
 }
 
+/// Hands the buffered record to the handler, if it is complete, writes its output, and releases it.
+fn take_record<W: Sink, H: Handler>(
+    splitter: &mut Splitter,
+    handler: &mut H,
+    writer: &mut W,
+    buffer: &mut Vec<u8>,
+    flushes: bool,
+    turns: &mut Turns,
+) -> Result<Option<Outcome>, EngineFault>
+    requires { IsFed splitter.old }
+    ensures ready { OnOk result (IsReady splitter.new) }
+    ensures version { splitter.new.version ≡ splitter.old.version }
+    ensures progress { IfOk result
+        (λ end. (log_rules : LogRules) (run_output : List Record → RunOutput)
+        (received : Option (List ℕ)) (input more : List ℕ) →
+        IsProgress log_rules run_output received input more splitter.old (H.run_output handler.old)
+        (W.seen writer.old).written →
+        MatchOption end
+        (IsProgress log_rules run_output received input more splitter.new (H.run_output handler.new)
+        (W.seen writer.new).written)
+        (λ outcome. Stopped log_rules run_output input received (W.seen writer.new).written
+        (Ok outcome))) }
+    ensures error { IfErr result
+        (λ fault. (log_rules : LogRules) (run_output : List Record → RunOutput)
+        (received : Option (List ℕ)) (input more : List ℕ) →
+        IsProgress log_rules run_output received input more splitter.old (H.run_output handler.old)
+        (W.seen writer.old).written →
+        IsPieceFault log_rules run_output (flushes && not (W.seen writer.new).flushed) input
+        received (W.seen writer.new).written fault) }
+    ensures calls { WritesWithin turns.old.left turns.new.left
+        (W.seen writer.old) (W.seen writer.new) result }
+    ensures all_flushed { LeavesFlushed flushes (W.seen writer.old) (W.seen writer.new) result }
+    ensures few { WritesFew (W.seen writer.old) (W.seen writer.new) result }
+{
+    reading_laws();
+    let Some(found) = splitter.record() else {
+        return Ok(None);
+    };
+    buffer.clear();
+    let given = handler.handle(&found, buffer)?;
+    let output = given.output.bytes(found.raw, buffer);
+    write_given(writer, output, flushes, turns)?;
+    splitter.next();
+    Ok(given.end)
+}
+
+/// Handles the records that become complete with the bytes of a piece, up to one that ends the run.
+fn take_piece<W: Sink, H: Handler>(
+    splitter: &mut Splitter,
+    handler: &mut H,
+    writer: &mut W,
+    buffer: &mut Vec<u8>,
+    piece: &[u8],
+    flushes: bool,
+    turns: &mut Turns,
+) -> Result<Option<Outcome>, EngineFault>
+    requires { IsReady splitter.old }
+    ensures ready { OnOk result (IsReady splitter.new) }
+    ensures version { splitter.new.version ≡ splitter.old.version }
+    ensures progress { IfOk result
+        (λ end. (log_rules : LogRules) (run_output : List Record → RunOutput)
+        (received : Option (List ℕ)) (input : List ℕ) →
+        IsProgress log_rules run_output received input piece.now splitter.old
+        (H.run_output handler.old) (W.seen writer.old).written →
+        MatchOption end
+        (IsProgress log_rules run_output received input [] splitter.new (H.run_output handler.new)
+        (W.seen writer.new).written)
+        (λ outcome. Stopped log_rules run_output input received (W.seen writer.new).written
+        (Ok outcome))) }
+    ensures error { IfErr result
+        (λ fault. (log_rules : LogRules) (run_output : List Record → RunOutput)
+        (received : Option (List ℕ)) (input : List ℕ) →
+        IsProgress log_rules run_output received input piece.now splitter.old
+        (H.run_output handler.old) (W.seen writer.old).written →
+        IsPieceFault log_rules run_output (flushes && not (W.seen writer.new).flushed) input
+        received (W.seen writer.new).written fault) }
+    ensures calls { WritesWithin turns.old.left turns.new.left
+        (W.seen writer.old) (W.seen writer.new) result }
+    ensures all_flushed { LeavesFlushed flushes (W.seen writer.old) (W.seen writer.new) result }
+    ensures few { WritesFew (W.seen writer.old) (W.seen writer.new) result }
+{
+    let mut at = 0;
+    'bytes: while at < piece.len() {
+        at += splitter.feed(&piece[at..])?;
+        if let Some(outcome) = take_record(splitter, handler, writer, buffer, flushes, turns)? {
+            return Ok(Some(outcome));
+        }
+    }
+    Ok(None)
+}
+
 /// Writes the output at the end of the input, part by part.
 fn write_last<W: Sink, H: Handler>(
     handler: &mut H,
     writer: &mut W,
     buffer: &mut Vec<u8>,
     line_due: bool,
+    flushes: bool,
     turns: &mut Turns,
 ) -> Result<Outcome, EngineFault>
     ensures wrote { OnOk result
@@ -67,7 +157,7 @@ fn write_last<W: Sink, H: Handler>(
         (AppendsFront (W.seen writer.old).written (W.seen writer.new).written
         ((H.run_output handler.old []).last line_due)) }
     ensures short { IfErr result (λ fault. fault ≡ EngineFault.TooManyTurns →
-        AppendsShort (H.FLUSHES && not (W.seen writer.new).flushed) (W.seen writer.old).written
+        AppendsShort (flushes && not (W.seen writer.new).flushed) (W.seen writer.old).written
         (W.seen writer.new).written
         ((H.run_output handler.old []).last line_due)) }
     ensures kind { IfErr result IsLastFault }
@@ -76,14 +166,14 @@ fn write_last<W: Sink, H: Handler>(
         Appends (W.seen writer.old).written (W.seen writer.new).written []) }
     ensures calls { WritesWithin turns.old.left turns.new.left
         (W.seen writer.old) (W.seen writer.new) result }
-    ensures all_flushed { LeavesFlushed H.FLUSHES (W.seen writer.old) (W.seen writer.new) result }
+    ensures all_flushed { LeavesFlushed flushes (W.seen writer.old) (W.seen writer.new) result }
     ensures few { WritesFew (W.seen writer.old) (W.seen writer.new) result }
 {
     let mut due = line_due;
     'parts: loop {
         buffer.clear();
         let end = handler.finish(due, buffer)?;
-        write_given(writer, buffer, H::FLUSHES, turns)?;
+        write_given(writer, buffer, flushes, turns)?;
         match end {
             Some(outcome) => return Ok(outcome),
             None => due = false,
@@ -98,6 +188,7 @@ fn finish_run<W: Sink, H: Handler>(
     writer: &mut W,
     buffer: &mut Vec<u8>,
     place: u64,
+    flushes: bool,
     turns: &mut Turns,
 ) -> Result<Outcome, EngineFault>
     requires { IsReady splitter.now }
@@ -112,7 +203,7 @@ fn finish_run<W: Sink, H: Handler>(
         (received : Option (List ℕ)) (input : List ℕ) →
         IsProgress log_rules run_output received input [] splitter.now (H.run_output handler.old)
         (W.seen writer.old).written →
-        IsEndFault log_rules run_output (H.FLUSHES && not (W.seen writer.new).flushed) input
+        IsEndFault log_rules run_output (flushes && not (W.seen writer.new).flushed) input
         received (W.seen writer.new).written place fault) }
     ensures whole { IfErr result (λ fault. fault ≡ EngineFault.NoMemory → H.parts handler.old ≡ 0 →
         (log_rules : LogRules) (run_output : List Record → RunOutput)
@@ -123,14 +214,15 @@ fn finish_run<W: Sink, H: Handler>(
     ensures not_read { IfErr result (λ fault. fault ≢ EngineFault.Read) }
     ensures calls { WritesWithin turns.old.left turns.new.left
         (W.seen writer.old) (W.seen writer.new) result }
-    ensures all_flushed { LeavesFlushed H.FLUSHES (W.seen writer.old) (W.seen writer.new) result }
+    ensures all_flushed { LeavesFlushed flushes (W.seen writer.old) (W.seen writer.new) result }
     ensures few { WritesFew (W.seen writer.old) (W.seen writer.new) result }
 {
     reading_laws();
     if !splitter.at_rest() {
         return Err(EngineFault::Truncated { place });
     }
-    write_last(handler, writer, buffer, splitter.line_due(), turns)
+    let due = splitter.line_due();
+    write_last(handler, writer, buffer, due, flushes, turns)
 }
 
 /// Reads to the end of the input. Hands each record to the handler as soon as it is complete, and
@@ -140,9 +232,10 @@ pub fn run_on<R: Source, W: Sink, H: Handler>(
     ends: &mut Duplex<'_, R, W>,
     handler: &mut H,
     rules: InputRules,
+    flushes: bool,
     max_turns: u64,
 ) -> Result<Outcome, EngineFault>
-    ensures run { IsLoopRun (reading_by rules) (H.run_output handler.old) H.FLUSHES max_turns
+    ensures run { IsLoopRun (reading_by rules) (H.run_output handler.old) flushes max_turns
         (ports (R.seen ends.old.reader.now) (W.seen ends.old.writer.now))
         (ports (R.seen ends.new.reader.now) (W.seen ends.new.writer.now)) result }
     // Where the end has one part, what is written when memory runs out is the output of records,
@@ -152,7 +245,7 @@ pub fn run_on<R: Source, W: Sink, H: Handler>(
         (R.seen ends.old.reader.now).left (R.seen ends.new.reader.now).left
         (W.seen ends.old.writer.now).written (W.seen ends.new.writer.now).written }
     // No read came before all that was written was flushed.
-    ensures in_time { H.FLUSHES ≡ true → (W.seen ends.old.writer.now).flushed ≡ true →
+    ensures in_time { flushes ≡ true → (W.seen ends.old.writer.now).flushed ≡ true →
         ends.new.read_early ≡ ends.old.read_early }
     ensures same_reader { ends.new.reader.ghost_name ≡ ends.old.reader.ghost_name }
     ensures same_writer { ends.new.writer.ghost_name ≡ ends.old.writer.ghost_name }
@@ -178,6 +271,7 @@ pub fn run_on<R: Source, W: Sink, H: Handler>(
             ends.writer(),
             &mut buffer,
             &buf[from..to],
+            flushes,
             &mut turns,
         )?;
         if let Some(outcome) = end {
@@ -190,6 +284,7 @@ pub fn run_on<R: Source, W: Sink, H: Handler>(
                 ends.writer(),
                 &mut buffer,
                 place,
+                flushes,
                 &mut turns,
             );
         }

@@ -27,7 +27,7 @@ use crate::printer::reasons::is_idle;
 use crate::session::counting::has_changed;
 use crate::session::witness::Witness;
 use crate::session::{RecordBody, Session, Taken, Verdict, in_log};
-use lsp_log::Head;
+use lsp_log::Record;
 use lsp_message::ChangeParams;
 use lsp_server::{Answer, Refusal};
 use lsp_store::StoreFault;
@@ -131,28 +131,30 @@ impl Known {
     pub fn take<W: Witness>(
         &mut self,
         session: &mut Session,
-        head: Head,
-        body: &[u8],
+        item: &Record<'_>,
         read: RecordBody<'_>,
         witness: &mut W,
     ) -> Result<Facts, EngineFault>
-        requires is_read { IsReadOf head body.now read }
+        requires is_read { IsReadOf item.now.head item.now.body.now read }
         requires fits { W.Fits witness.old session.old.server }
-        ensures facts { IfOk result (AreFacts self.old session.old head body.now) }
+        ensures facts { IfOk result
+            (AreFacts self.old session.old item.now.head item.now.body.now) }
         ensures in_log { IfOk result (λ facts. verdict_view facts.verdict ≢ bad) }
-        ensures session { OnOk result (session.new ≡ (judge_at session.old head body.now).session) }
-        ensures known { OnOk result (self.new ≡ known_after self.old session.old head body.now
-            (judge_at session.old head body.now)) }
+        ensures session { OnOk result (session.new
+            ≡ (judge_at session.old item.now.head item.now.body.now).session) }
+        ensures known { OnOk result
+            (self.new ≡ known_after self.old session.old item.now.head item.now.body.now
+            (judge_at session.old item.now.head item.now.body.now)) }
         ensures shown { OnOk result (IsShown (witness.new ≡ witness.old)
             (W.HasSeen witness.old witness.new) session.old session.new
-            (accepted_of session.old head body.now)) }
+            (accepted_of session.old item.now.head item.now.body.now)) }
         ensures error { IfErr result (λ fault. (fault ≡ EngineFault.NoMemory)
-            ⊎ ((fault ≡ EngineFault.BadLog head.place)
-            × ((judge_at session.old head body.now).verdict ≡ bad))) }
+            ⊎ ((fault ≡ EngineFault.BadLog item.now.head.place)
+            × ((judge_at session.old item.now.head item.now.body.now).verdict ≡ bad))) }
     {
-        let about = about_of(self.alloc, session.server(), self.ranged, body, &read)?;
+        let about = about_of(self.alloc, session.server(), self.ranged, item.body, &read)?;
         let taken = session.take(read, witness)?;
-        in_log(&taken.verdict, head.place)?;
+        in_log(&taken.verdict, item.head.place)?;
         Ok(self.learn(session.records(), about, taken)?)
     }
 

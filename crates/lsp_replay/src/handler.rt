@@ -1,13 +1,14 @@
 //! What the loop writes for the records of a log and for its end.
 
-ghost use Rattle.std.specs.Prelude.{◌≡◌, ◌<◌, ◌++◌, ◌∷◌, ◌⊎◌, [], ℕ, Bool, List, None, false, IfOk, IfErr, MatchOption};
+ghost use Rattle.std.specs.Prelude.{◌≡◌, ◌<◌, ◌++◌, ◌∷◌, ◌⊎◌, [], ℕ, List, None, false, IfOk, IfErr, MatchOption};
 ghost use Rattle.lsp_frame.specs.Frame.{IsFrameOf};
-ghost use Rattle.lsp_log.specs.Log.{Record};
+ghost use Rattle.lsp_log.specs.Log as log;
+ghost use Rattle.lsp_log.specs.Splitting.{record_of};
 ghost use Rattle.lsp_replay.specs.RunOutput.{RunOutput, stopped};
-ghost use Rattle.lsp_replay.specs.inside.RunOutput.{after, output_of, IsRecordFault};
+ghost use Rattle.lsp_replay.specs.inside.RunOutput.{IsQuiet, after, output_of, IsRecordFault};
 
 use crate::outcome::Outcome;
-use lsp_log::Head;
+use lsp_log::Record;
 use lsp_stream::EngineFault;
 
 /// Which bytes are a record's output.
@@ -19,6 +20,21 @@ pub enum Output {
     Bytes,
     /// The buffer that was filled for the record, from an index on.
     BytesFrom(usize),
+}
+
+impl Output {
+    /// Returns the bytes of a record's output, of its frame and of the buffer that was filled for
+    /// it.
+    pub fn bytes<'a>(self, raw: &'a [u8], buffer: &'a [u8]) -> &'a [u8]
+        ensures { result.now ≡ output_of self raw.now buffer.now }
+    {
+        match self {
+            Output::Frame => raw,
+            Output::Bytes => buffer,
+            Output::BytesFrom(start) if start < buffer.len() => &buffer[start..],
+            Output::BytesFrom(_) => b"",
+        }
+    }
 }
 
 /// The output of a record, and whether it ends the run.
@@ -38,50 +54,39 @@ impl Given {
     }
 }
 
+/// The output of a record, or the fault that ends the run.
+pub type Printed = Result<Given, EngineFault>;
+
+/// The outcome after the last part of the output at the end of the input, and `None` after others.
+pub type Finished = Result<Option<Outcome>, EngineFault>;
+
 /// What an engine writes for each record of a log, and for its end.
 pub trait Handler {
     // The output for the records that are still to come.
-    ghost run_output: { Self → List Record → RunOutput };
-
-    // Whether each output is flushed before more is read.
-    ghost FLUSHES: { Bool };
-
-    const FLUSHES: bool;
+    ghost run_output: { Self → List log.Record → RunOutput };
 
     // How often `finish` may still return without the outcome.
     ghost parts: { Self → ℕ };
 
     /// Handles a complete record. Its output is its frame, or is written into `buffer`, which is
     /// empty before.
-    fn handle(
-        &mut self,
-        head: Head,
-        raw: &[u8],
-        body: &[u8],
-        buffer: &mut Vec<u8>,
-    ) -> Result<Given, EngineFault>
-        requires is_frame_of { (max_body : ℕ) × IsFrameOf max_body raw.now body.now }
+    fn handle(&mut self, item: &Record<'_>, buffer: &mut Vec<u8>) -> Printed
+        requires is_frame_of { (max_body : ℕ)
+            × IsFrameOf max_body item.now.raw.now item.now.body.now }
         requires empty { buffer.old.items ≡ [] }
-        ensures ok { IfOk result (λ given. (more : List Record) →
-            run_output self.old
-            (record { head = head; raw = raw.now; body = body.now } ∷ more) ≡
-            after (output_of given.output raw.now buffer.new.items) given.end
+        ensures ok { IfOk result (λ given. (more : List log.Record) →
+            run_output self.old (record_of item.now ∷ more)
+            ≡ after (output_of given.output item.now.raw.now buffer.new.items) given.end
             (run_output self.new more)) }
         ensures error { IfErr result
             (λ fault. (fault ≡ EngineFault.NoMemory)
-            ⊎ (IsRecordFault fault × ((more : List Record) →
-            run_output self.old
-            (record { head = head; raw = raw.now; body = body.now } ∷ more)
-            ≡ stopped [] (Err fault)))) };
+            ⊎ (IsRecordFault fault × ((more : List log.Record) →
+            run_output self.old (record_of item.now ∷ more) ≡ stopped [] (Err fault)))) };
 
     /// Writes a part of the output at the end of the input into `buffer`; with the last part it
     /// returns the outcome. `line_due` says whether it is the first part, and the input a log of
     /// version 2 without records.
-    fn finish(
-        &mut self,
-        line_due: bool,
-        buffer: &mut Vec<u8>,
-    ) -> Result<Option<Outcome>, EngineFault>
+    fn finish(&mut self, line_due: bool, buffer: &mut Vec<u8>) -> Finished
         requires { buffer.old.items ≡ [] }
         ensures ok { IfOk result (λ end. MatchOption end
             (((run_output self.old []).last line_due
@@ -93,7 +98,5 @@ pub trait Handler {
         ensures error { IfErr result (λ fault. fault ≡ EngineFault.NoMemory) };
 
     // Without records nothing is written, and nothing ends the run.
-    ghost silent: { (h : Self) → (run_output h []).out ≡ [] };
-
-    ghost unstopped: { (h : Self) → (run_output h []).stop ≡ None };
+    ghost quiet: { (h : Self) → IsQuiet (run_output h) };
 }

@@ -1,22 +1,21 @@
 //! From a record's bytes to a command's output: the body is read once, a record that doesn't stay
 //! is left out, and any other is printed.
 
-ghost use Rattle.std.specs.Prelude.{◌≡◌, ℕ, Err, IfOk, List, true};
+ghost use Rattle.std.specs.Prelude.{◌≡◌, ℕ, Err, IfOk, List, false, true};
 ghost use Rattle.lsp_stream.specs.Ports.{ports};
 ghost use Rattle.lsp_log.specs.laws.Logs.{FirstLaw, VersionLaw};
 ghost use Rattle.lsp_replay.specs.Engine.{WroteRecords};
 ghost use Rattle.lsp_replay.specs.inside.Engine.{IsLoopRun, reading_by};
-ghost use Rattle.lsp_replay.specs.inside.Piped.{IsAdmitted, once_written, piped, piped_silent, piped_unstopped, written_due};
+ghost use Rattle.lsp_replay.specs.inside.Piped.{IsAdmitted, once_written, piped, piped_quiet, written_due};
 ghost use Rattle.lsp_replay.specs.inside.Reads.{IsReadOf};
 
 use crate::engine::{InputRules, run_on};
-use crate::handler::{Given, Handler, Output};
+use crate::handler::{Finished, Given, Handler, Output, Printed};
 use crate::outcome::Outcome;
 use crate::printer::Printer;
-use crate::printer::live::Live;
 use crate::session::RecordBody;
 use crate::session::selecting::Selection;
-use lsp_log::Head;
+use lsp_log::{Head, Record};
 use lsp_message::Scratch;
 use lsp_stream::{Duplex, EngineFault, Sink, Source};
 use std::alloc::{AllocError, Global};
@@ -77,37 +76,21 @@ impl<P: Printer> Pipeline<P> {
 impl<P: Printer> Handler for Pipeline<P> {
     ghost run_output = { λ p. piped p.selection (P.run_output p.printer) (P.reached p.printer) };
 
-    ghost FLUSHES = { P.FLUSHES };
-
-    const FLUSHES: bool = P::FLUSHES;
-
     ghost parts = { λ p. P.parts p.printer };
 
-    ghost silent = { λ p. piped_silent p.selection (P.run_output p.printer) (P.reached p.printer)
-        (P.silent p.printer) };
+    ghost quiet = { λ p. piped_quiet p.selection (P.run_output p.printer) (P.reached p.printer)
+        (P.quiet p.printer) };
 
-    ghost unstopped = { λ p. piped_unstopped p.selection (P.run_output p.printer)
-        (P.reached p.printer) (P.unstopped p.printer) };
-
-    fn handle(
-        &mut self,
-        head: Head,
-        raw: &[u8],
-        body: &[u8],
-        buffer: &mut Vec<u8>,
-    ) -> Result<Given, EngineFault> {
-        let read = RecordBody::read(self.alloc, head, body, &mut self.scratch)?;
-        let Some(head) = self.admit(head, &read)? else {
+    fn handle(&mut self, item: &Record<'_>, buffer: &mut Vec<u8>) -> Printed {
+        let read = RecordBody::read(self.alloc, item.head, item.body, &mut self.scratch)?;
+        let Some(head) = self.admit(item.head, &read)? else {
             return Ok(Given::more(Output::Bytes));
         };
-        self.printer.print(head, raw, body, read, buffer)
+        let item = Record { head, ..*item };
+        self.printer.print(&item, read, buffer)
     }
 
-    fn finish(
-        &mut self,
-        line_due: bool,
-        buffer: &mut Vec<u8>,
-    ) -> Result<Option<Outcome>, EngineFault> {
+    fn finish(&mut self, line_due: bool, buffer: &mut Vec<u8>) -> Finished {
         let due = self.take_due(line_due);
         self.printer.finish(due, buffer)
     }
@@ -124,7 +107,7 @@ pub fn run<R: Source, W: Sink, P: Printer + Drop>(
     max_turns: u64,
 ) -> Result<Outcome, EngineFault>
     ensures run { IsLoopRun (reading_by rules)
-        (piped selection (P.run_output printer) (P.reached printer)) P.FLUSHES max_turns
+        (piped selection (P.run_output printer) (P.reached printer)) false max_turns
         (ports (R.seen reader.old) (W.seen writer.old))
         (ports (R.seen reader.new) (W.seen writer.new)) result }
     // Where the end has one part, what is written when memory runs out is the output of records,
@@ -140,7 +123,7 @@ pub fn run<R: Source, W: Sink, P: Printer + Drop>(
 {
     let mut ends = Duplex::new(reader, writer);
     let mut pipeline = Pipeline::new(alloc, printer, selection);
-    run_on(alloc, &mut ends, &mut pipeline, rules, max_turns)
+    run_on(alloc, &mut ends, &mut pipeline, rules, false, max_turns)
 }
 
 /// Runs a command over both ends of a connection. All that it writes is flushed before more is read.
@@ -169,6 +152,6 @@ pub fn run_live<R: Source, W: Sink, P: Printer + Drop>(
     ensures version { VersionLaw }
     ensures first { FirstLaw }
 {
-    let mut pipeline = Pipeline::new(alloc, Live { printer }, None);
-    run_on(alloc, ends, &mut pipeline, rules, max_turns)
+    let mut pipeline = Pipeline::new(alloc, printer, None);
+    run_on(alloc, ends, &mut pipeline, rules, true, max_turns)
 }

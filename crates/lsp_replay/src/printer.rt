@@ -3,16 +3,17 @@
 //!
 //! Its modules are the commands, `serving`, `checking`, `explaining`, `tracing`, `replaying`,
 //! `partial` (of a part of a log), `listing` (which documents were opened), `comparing`,
-//! `normalising`, `squashing` and `converting`. `live` is any of them, flushed before more is read.
+//! `normalising`, `squashing` and `converting`.
 //! `front` writes what comes before a record's frame, `reasons` why a record was refused, and
 //! `noted` what is suspicious of one that was accepted.
 
-ghost use Rattle.std.specs.Prelude.{◌≡◌, ◌<◌, ◌++◌, ◌∷◌, ◌⊎◌, [], ℕ, Bool, List, None, false, Err, IfOk, IfErr, MatchOption, OnOk};
-ghost use Rattle.lsp_log.specs.Log.{Record};
+ghost use Rattle.std.specs.Prelude.{◌≡◌, ◌<◌, ◌++◌, ◌∷◌, ◌⊎◌, [], ℕ, List, false, Err, IfOk, IfErr, MatchOption, OnOk};
+ghost use Rattle.lsp_log.specs.Log as log;
+ghost use Rattle.lsp_log.specs.Splitting.{record_of};
 ghost use Rattle.lsp_replay.specs.RunOutput.{RunOutput, stopped};
 ghost use Rattle.lsp_replay.specs.Session as spec;
 ghost use Rattle.lsp_replay.specs.inside.Reads.{IsReadOf};
-ghost use Rattle.lsp_replay.specs.inside.RunOutput.{after, output_of, IsRecordFault};
+ghost use Rattle.lsp_replay.specs.inside.RunOutput.{IsQuiet, after, output_of, IsRecordFault};
 ghost use Rattle.lsp_replay.specs.inside.Session.{judge_at};
 
 pub(crate) mod checking;
@@ -21,7 +22,6 @@ pub(crate) mod converting;
 pub(crate) mod explaining;
 mod front;
 pub(crate) mod listing;
-pub(crate) mod live;
 pub(crate) mod normalising;
 pub(crate) mod noted;
 pub(crate) mod partial;
@@ -31,24 +31,17 @@ pub(crate) mod serving;
 pub(crate) mod squashing;
 pub(crate) mod tracing;
 
-use crate::handler::Given;
-use crate::outcome::Outcome;
+use crate::handler::{Finished, Printed};
 use crate::session::{RecordBody, Session};
-use lsp_log::Head;
-use lsp_stream::EngineFault;
+use lsp_log::Record;
 
 /// What a command writes of each record of a log, and of its end.
 pub trait Printer {
     // The output for the records that are still to come.
-    ghost run_output: { Self → List Record → RunOutput };
+    ghost run_output: { Self → List log.Record → RunOutput };
 
     // The session before them.
     ghost reached: { Self → spec.Session };
-
-    // Whether each output is flushed before more is read.
-    ghost FLUSHES: { Bool };
-
-    const FLUSHES: bool;
 
     // How often `finish` may still return without the outcome.
     ghost parts: { Self → ℕ };
@@ -59,38 +52,24 @@ pub trait Printer {
 
     /// Takes a record whose body was read. Its output is its frame, or is written into `buffer`,
     /// which is empty before.
-    fn print(
-        &mut self,
-        head: Head,
-        raw: &[u8],
-        body: &[u8],
-        read: RecordBody<'_>,
-        buffer: &mut Vec<u8>,
-    ) -> Result<Given, EngineFault>
-        requires is_read { IsReadOf head body.now read }
+    fn print(&mut self, item: &Record<'_>, read: RecordBody<'_>, buffer: &mut Vec<u8>) -> Printed
+        requires is_read { IsReadOf item.now.head item.now.body.now read }
         requires empty { buffer.old.items ≡ [] }
-        ensures ok { IfOk result (λ given. (more : List Record) →
-            run_output self.old
-            (record { head = head; raw = raw.now; body = body.now } ∷ more) ≡
-            after (output_of given.output raw.now buffer.new.items) given.end
+        ensures ok { IfOk result (λ given. (more : List log.Record) →
+            run_output self.old (record_of item.now ∷ more)
+            ≡ after (output_of given.output item.now.raw.now buffer.new.items) given.end
             (run_output self.new more)) }
-        ensures session { OnOk result
-            (reached self.new ≡ (judge_at (reached self.old) head body.now).session) }
+        ensures session { OnOk result (reached self.new
+            ≡ (judge_at (reached self.old) item.now.head item.now.body.now).session) }
         ensures error { IfErr result
             (λ fault. (fault ≡ EngineFault.NoMemory)
-            ⊎ (IsRecordFault fault × ((more : List Record) →
-            run_output self.old
-            (record { head = head; raw = raw.now; body = body.now } ∷ more)
-            ≡ stopped [] (Err fault)))) };
+            ⊎ (IsRecordFault fault × ((more : List log.Record) →
+            run_output self.old (record_of item.now ∷ more) ≡ stopped [] (Err fault)))) };
 
     /// Writes a part of the output at the end of the input into `buffer`; with the last part it
     /// returns the outcome. `line_due` says whether it is the first part, and the line of version 2
     /// still to be written.
-    fn finish(
-        &mut self,
-        line_due: bool,
-        buffer: &mut Vec<u8>,
-    ) -> Result<Option<Outcome>, EngineFault>
+    fn finish(&mut self, line_due: bool, buffer: &mut Vec<u8>) -> Finished
         requires { buffer.old.items ≡ [] }
         ensures ok { IfOk result (λ end. MatchOption end
             (((run_output self.old []).last line_due
@@ -102,7 +81,5 @@ pub trait Printer {
         ensures error { IfErr result (λ fault. fault ≡ EngineFault.NoMemory) };
 
     // Without records nothing is written, and nothing ends the run.
-    ghost silent: { (h : Self) → (run_output h []).out ≡ [] };
-
-    ghost unstopped: { (h : Self) → (run_output h []).stop ≡ None };
+    ghost quiet: { (h : Self) → IsQuiet (run_output h) };
 }

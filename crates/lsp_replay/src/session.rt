@@ -1,7 +1,9 @@
-//! A server over the records of a log: each record is read once, and taken.
+//! A server over the records of a log: each record is read once, and taken. A change is planned
+//! once, shown to the witness, and applied. A plan of several changes is composed again for its
+//! canonical message, and once more for a squash.
 //!
 //! - `witness`: what is made of an accepted change, before it is applied.
-//! - `changes`: changes that the server receives, each of which is planned once.
+//! - `answering`: records that are no change which a running server receives.
 //! - `canonical`: the canonical bodies of accepted changes.
 //! - `joining`: the open series of accepted changes.
 //! - `selecting`: the records that stay where others are left out.
@@ -10,21 +12,24 @@
 //! - `closing`: the text of a document that a record may close.
 //! - `opening`: the document that a record may open.
 
-ghost use Rattle.std.specs.Prelude.{ℕ, ◌≡◌, ◌≢◌, ◌⊎◌, IfErr, IfOk, List, MatchResult, OnErr, OnOk, MatchOption, None, Some};
+ghost use Rattle.std.specs.Prelude.{ℕ, ◌≡◌, ◌≢◌, ◌⊎◌, IfErr, IfOk, List, MatchResult, OnOk, None, Some};
 ghost use Rattle.lsp_message.specs.Message.{reading};
 ghost use Rattle.lsp_message.specs.Params.{ChangeData};
-ghost use Rattle.lsp_message.specs.Seen.{change_view, id_view};
-ghost use Rattle.lsp_server.specs.Incoming.{incoming_of};
+ghost use Rattle.lsp_message.specs.Seen.{change_view};
+ghost use Rattle.lsp_server.specs.declared.phase.Phase.TheVariants.{Running};
+ghost use Rattle.lsp_server.specs.Incoming.{did_change, incoming_of};
+ghost use Rattle.lsp_server.specs.Planned.{IsNotObeyed};
 ghost use Rattle.lsp_server.specs.Seen.{incoming_view};
-ghost use Rattle.lsp_replay.specs.Session.{bad, counted, opened, judge_client, is_early, expected_after, session_outcome};
-ghost use Rattle.lsp_replay.specs.inside.Bodies.{IsReceived, body_view, judge_read};
+ghost use Rattle.lsp_server.specs.Step.{step_on};
+ghost use Rattle.lsp_replay.specs.Session.{bad, opened, session_outcome};
+ghost use Rattle.lsp_replay.specs.inside.Bodies.{IsChangeTaken, IsReceived, body_view};
 ghost use Rattle.lsp_replay.specs.inside.Reads.{IsReadOf};
 ghost use Rattle.lsp_replay.specs.inside.Session.{judge_at};
-ghost use Rattle.lsp_replay.specs.inside.Taken.{IsHeard, IsTakenAs};
+ghost use Rattle.lsp_replay.specs.inside.Taken.{IsChangeWitnessed, IsTakenAs};
 ghost use Rattle.lsp_replay.specs.inside.Verdicts.{verdict_view};
 
+mod answering;
 pub(crate) mod canonical;
-pub(crate) mod changes;
 pub(crate) mod closing;
 pub(crate) mod counting;
 pub(crate) mod joining;
@@ -34,12 +39,11 @@ pub(crate) mod selecting;
 pub(crate) mod witness;
 
 use crate::outcome::Outcome;
-use crate::session::counting::{is_refused, one_more};
-use crate::session::results::copied;
+use crate::session::counting::one_more;
 use crate::session::witness::{Nothing, Witness};
 use lsp_log::{Head, Sender, Version};
 use lsp_message::{ChangeParams, Id, Scratch};
-use lsp_server::{Answer, Config, Incoming, Phase, Server, ServerFault};
+use lsp_server::{Answer, Config, Incoming, Phase, PlannedChange, Server};
 use lsp_stream::EngineFault;
 use std::alloc::{AllocError, Global};
 use std::marker::Model;
@@ -248,84 +252,44 @@ impl Session {
         }
     }
 
-    /// Takes a record that is no change which a running server receives.
-    fn take_other(&mut self, read: RecordBody<'_>) -> Result<Taken, AllocError>
-        ensures verdict { IfOk result
-            (λ t. verdict_view t.verdict ≡ (judge_read self.old (body_view read.entry)).verdict) }
-        ensures session { OnOk result
-            (self.new ≡ (counted (judge_read self.old (body_view read.entry))).session) }
-        ensures change { IfOk result (λ t. t.change ≡ None) }
-        ensures ranged { IfOk result (IsHeard self.old (body_view read.entry)) }
+    /// Judges a change that the server receives. If it is accepted, its plan is shown to the
+    /// witness and applied.
+    fn change<W: Witness>(
+        &mut self,
+        params: &ChangeParams,
+        witness: &mut W,
+    ) -> Result<Verdict, AllocError>
+        requires running { self.old.server.phase ≡ Running }
+        requires known { self.old.expected ≡ None }
+        requires fits { W.Fits witness.old self.old.server }
+        ensures { IfOk result (λ v. IsChangeWitnessed (witness.new ≡ witness.old)
+            (W.HasSeen witness.old witness.new) self.old self.new (change_view params.now)
+            (verdict_view v)) }
     {
-        let taken = match read {
-            RecordBody::Client(version, incoming) => Taken {
-                verdict: self.answer(version, incoming)?,
-                change: None,
-                ranged: None,
-            },
-            RecordBody::Server(body) => self.hear(body)?,
-        };
+        match self.server.plan(params)? {
+            PlannedChange::Accepted(plan) => {
+                witness.see(self, params, &plan)?;
+                let answer = self.server.commit_change(plan)?;
+                self.records = one_more(self.records);
+                self.messages = one_more(self.messages);
+                Ok(Verdict::Answered(answer))
+            }
+            PlannedChange::Answered(answer) => Ok(self.refuse(answer)),
+        }
+    }
+
+    /// Counts a change that the server refuses with this answer.
+    fn refuse(&mut self, answer: Answer) -> Verdict
+        requires running { self.old.server.phase ≡ Running }
+        requires known { self.old.expected ≡ None }
+        ensures { (p : ChangeData)
+            → IsNotObeyed self.old.server (step_on self.old.server (did_change (Some p))) answer
+            → IsChangeTaken self.old p (verdict_view result) self.new }
+    {
         self.records = one_more(self.records);
-        Ok(taken)
-    }
-
-    /// Judges a client's record in a log of this version.
-    fn answer(&mut self, version: Version, incoming: Incoming) -> Result<Verdict, AllocError>
-        ensures verdict { IfOk result
-            (λ v. verdict_view v
-            ≡ (judge_client self.old version (incoming_view incoming)).verdict) }
-        ensures session { OnOk result
-            (self.new ≡ (judge_client self.old version (incoming_view incoming)).session) }
-        ensures memory { OnErr result
-            ((judge_client self.old version (incoming_view incoming)).verdict ≢ bad) }
-    {
-        if self.server.phase() == Phase::Ended || self.is_early(&incoming) {
-            return Ok(Verdict::Bad);
-        }
-        let expected = self.begun_by(version, &incoming)?;
-        let answer = match self.server.handle_incoming(incoming) {
-            Ok(answer) => answer,
-            Err(ServerFault::NoMemory) => return Err(AllocError),
-            Err(ServerFault::AlreadyEnded) => unreachable!(),
-        };
-        if expected.is_some() {
-            self.expected = expected;
-        }
         self.messages = one_more(self.messages);
-        if is_refused(&answer) {
-            self.refusals = one_more(self.refusals);
-        }
-        Ok(Verdict::Answered(answer))
-    }
-
-    /// Returns whether it is a change that comes before the result of `initialize`, which says its
-    /// encoding.
-    fn is_early(&self, incoming: &Incoming) -> bool
-        ensures { result ≡ is_early self.now (incoming_view incoming.now) }
-    {
-        self.expected.is_some()
-            && self.server.phase() == Phase::Running
-            && matches!(incoming, Incoming::DidChange(_))
-    }
-
-    /// Returns the id of an `initialize` that is accepted, in a log of version 2, which has its
-    /// result.
-    fn begun_by(&self, version: Version, incoming: &Incoming) -> Result<Option<Id>, AllocError>
-        ensures { IfOk result (λ begun. MatchOption begun
-            (expected_after self.now version (incoming_view incoming.now) ≡ self.now.expected)
-            (λ id. expected_after self.now version (incoming_view incoming.now)
-            ≡ Some (id_view id))) }
-    {
-        if version != Version::Two || self.server.phase() != Phase::New {
-            return Ok(None);
-        }
-        match incoming {
-            Incoming::Initialize {
-                id,
-                offers: Some(_),
-            } => Ok(Some(copied(id)?)),
-            _ => Ok(None),
-        }
+        self.refusals = one_more(self.refusals);
+        Verdict::Answered(answer)
     }
 }
 

@@ -1,7 +1,7 @@
 -- What a run wrote where its input is cut, and where a write failed.
-use Rattle.lsp_replay.proofs.Prelude.{◌≡◌, ℕ, List, [], ◌∷◌, ◌++◌, length, Bool, true, ◌<◌, Option, Some, None, Result, Ok, Err, refl, sym, ◌∙◌, ap, subst, arith, append_assoc, append-nil, inl, inr, length-append, ◌⊎◌, MatchOption, OnOk, OnErr, IfOk, IfErr, Appends, Appends-trans, Appends-nil, Outcome, EngineFault, Read, Write, Frame, Truncated, BodyTooLong, NoMemory, TooManyTurns, BadLog, Splitter, AppendsFront, AppendsShort, LogRules, Record, Log, HasNoRecord, IsCut, IsUndecided, mark_of, IsReady, log_at, buffered_of, IsUnfinished, RestLaw, RunOutput, written_first, after, last_of, Reached, AtEnd, BrokenAtEnd, RanOutAtEnd, IsHandleFault, IsLastFault, IsEndFault, IsProgress, common_steps}
+use Rattle.lsp_replay.proofs.Prelude.{◌≡◌, ℕ, List, [], ◌∷◌, ◌++◌, length, Bool, true, ◌<◌, Option, Some, None, Result, Ok, Err, refl, sym, ◌∙◌, ap, subst, arith, append_assoc, append-nil, inl, inr, length-append, ◌⊎◌, MatchOption, OnOk, OnErr, IfOk, IfErr, Appends, Appends-trans, Appends-nil, Outcome, EngineFault, Read, Write, Frame, Truncated, BodyTooLong, NoMemory, TooManyTurns, BadLog, Splitter, AppendsFront, AppendsShort, LogRules, Record, Log, HasNoRecord, IsCut, IsUndecided, mark_of, IsReady, log_at, buffered_of, IsUnfinished, RestLaw, RunOutput, IsQuiet, written_first, stopped, after, last_of, IsRecordFault, Reached, AtEnd, BrokenAtEnd, RanOutAtEnd, IsHandled, IsHandleFault, IsLastFault, IsEndFault, IsProgress, common_steps}
 use Rattle.lsp_log.proofs.SplitLemmas.{frame_len}
-use Rattle.lsp_replay.proofs.Runs.WroteRecordLemmas.{IsQuiet, went_so_far}
+use Rattle.lsp_replay.proofs.Runs.WroteRecordLemmas.{went_so_far}
 
 pub empty_rest : (max_body : ℕ) (log : Log) → log.rest ≡ [] → HasNoRecord max_body log
 empty_rest max_body log nothing side raw body more is_frame_of e =
@@ -164,6 +164,28 @@ write_fault unflushed old new received_old received_new r bytes out end fault wr
     grind (arith, common_steps, record_out)
 write_fault unflushed old new received_old received_new r bytes out end fault writes silent is (inr at) front short =
     grind (arith, common_steps, record_out)
+
+-- A record's output was written.
+pub handled : (old new : List Record → RunOutput) (received_old received_new : Option (List ℕ)) (r : Record)
+    (bytes out : List ℕ) (end : Option Outcome)
+    → ((more : List Record) → old (r ∷ more) ≡ after out end (new more)) → bytes ≡ out
+    → Appends received_old received_new bytes → IsHandled old new received_old received_new r end
+handled old new received_old received_new r bytes out None writes is wrote =
+    record { out = out; run_output = writes; wrote = rw is at wrote }
+handled old new received_old received_new r bytes out (Some outcome) writes is wrote =
+    record { out = out; run_output = writes; wrote = rw is at wrote }
+
+-- A fault comes at a record before anything of it is written.
+pub handle_fault : (unflushed : Bool) (old : List Record → RunOutput) (received : Option (List ℕ)) (r : Record)
+    (fault : EngineFault) → (fault ≡ NoMemory)
+    ⊎ (IsRecordFault fault × ((more : List Record) → old (r ∷ more) ≡ stopped [] (Err fault)))
+    → IsHandleFault old unflushed received received r fault
+handle_fault unflushed old received r fault (inl is) = rw is (Appends-nil received)
+handle_fault unflushed old received r (BodyTooLong place) (inr ends) =
+    record { out = []; run_output = ends.1; wrote = Appends-nil received }
+handle_fault unflushed old received r (BadLog place) (inr ends) =
+    record { out = []; run_output = ends.1; wrote = Appends-nil received }
+handle_fault unflushed old received r _ (inr ends) = absurd ends.0
 
 -- what two clauses say of one answer
 pub ok_and : {T E : Type 0} (r : Result T E) (X : Type 0) (P Q : T → Type 0) → OnOk r X → IfOk r P

@@ -1,8 +1,7 @@
 -- A run between two reads, and its end.
-use Rattle.lsp_replay.proofs.Prelude.{◌≡◌, ℕ, ◌+◌, ◌-◌, ◌<◌, ◌≤◌, ◌^◌, Bool, true, false, List, [], ◌∷◌, ◌++◌, length, take, drop, Option, Result, Ok, Err, refl, sym, ◌∙◌, ap, subst, arith, append_assoc, append-nil, inl, inr, ◌⊎◌, ◌||◌, min, nat_eq, IfOk, IfErr, length-append, length-take, drop-take, take-append-drop, Consumes, Appends, Keeps, Appends-nil, Consumes-trans, Consumes-kept, place_after, IsFrameOf, lines_bytes, Outcome, EngineFault, Read, Write, Frame, Truncated, BodyTooLong, NoMemory, TooManyTurns, BadLog, Version, One, Two, Splitter, LogRules, Record, IsVersion, IsUndecided, line_of, version_line, together, record_bytes, IsLineFront, IsBelowLine, IsUnfinished, IsReady, IsOpen, IsAfter, buffered_of, RestLaw, RunOutput, PortState, WroteRecords, IsPieceFault, Reached, Stopped, AtEnd, Ran, IsRunFault, IsProgress, Runs, IsEndFault, common_steps}
+use Rattle.lsp_replay.proofs.Prelude.{◌≡◌, ℕ, ◌+◌, ◌-◌, ◌<◌, ◌≤◌, ◌^◌, Bool, true, false, List, [], ◌∷◌, ◌++◌, length, take, drop, Option, Result, Ok, Err, refl, sym, ◌∙◌, ap, subst, arith, append_assoc, append-nil, inl, inr, ◌⊎◌, ◌||◌, min, nat_eq, IfOk, IfErr, length-append, length-take, drop-take, take-append-drop, Consumes, Appends, Keeps, Appends-nil, Consumes-trans, Consumes-kept, place_after, IsFrameOf, lines_bytes, Outcome, EngineFault, Read, Write, Frame, Truncated, BodyTooLong, NoMemory, TooManyTurns, BadLog, Version, One, Two, Splitter, LogRules, Record, IsVersion, IsUndecided, line_of, version_line, together, record_bytes, IsLineFront, IsBelowLine, IsUnfinished, IsReady, IsOpen, IsAfter, buffered_of, RestLaw, RunOutput, PortState, WroteRecords, IsPieceFault, Reached, Stopped, AtEnd, Ran, IsRunFault, IsProgress, Runs, IsEndFault, common_steps, IsQuiet}
 use Rattle.lsp_frame.proofs.FrameLemmas.{or-true}
 use Rattle.lsp_replay.proofs.Runs.EngineLemmas.{went_read}
-use Rattle.lsp_replay.proofs.Runs.WroteRecordLemmas.{IsQuiet}
 
 together_more : (version : Version) (rs : List Record) (rest more : List ℕ) → together version rs (rest ++ more)
     ≡ together version rs rest ++ more

@@ -1,12 +1,7 @@
 -- What a run wrote, record by record.
-use Rattle.lsp_replay.proofs.Prelude.{◌≡◌, ℕ, ◌+◌, ◌-◌, ◌≤◌, List, [], ◌∷◌, ◌++◌, length, take, drop, Bool, Option, Some, None, Result, Ok, Err, refl, sym, ◌∙◌, ap, subst, arith, append_assoc, append-nil, inl, inr, drop-drop, MatchOption, Appends, Appends-trans, IsFrameOf, Outcome, EngineFault, Read, Write, Frame, Truncated, BodyTooLong, NoMemory, TooManyTurns, BadLog, Head, Splitter, AppendsFront, AppendsShort, LogRules, Record, Log, IsReadAs, IsFed, IsAfter, IsSplitFault, log_at, record_head, record_at, BufferedLaw, RunOutput, written_first, IsPieceFault, Reached, Stopped, Broken, RanOut, common_steps}
+use Rattle.lsp_replay.proofs.Prelude.{◌≡◌, ℕ, ◌+◌, ◌-◌, ◌≤◌, List, [], ◌∷◌, ◌++◌, length, take, drop, Bool, Option, Some, None, Result, Ok, Err, refl, sym, ◌∙◌, ap, subst, arith, append_assoc, append-nil, inl, inr, drop-drop, MatchOption, Appends, Appends-trans, IsFrameOf, Outcome, EngineFault, Read, Write, Frame, Truncated, BodyTooLong, NoMemory, TooManyTurns, BadLog, Splitter, AppendsFront, AppendsShort, LogRules, Record, Log, IsReadAs, IsFed, IsAfter, IsSplitFault, log_at, record_at, BufferedLaw, RunOutput, IsQuiet, written_first, IsPieceFault, Reached, Stopped, Broken, RanOut, common_steps}
 use Rattle.std.proofs.lemmas.Slice.{between_to_end}
 use Rattle.lsp_replay.specs.inside.Progress.{Continues, Ends, IsHandled, IsHandleFault, IsProgress}
-
--- Without more records nothing more is written, and the run goes on.
-pub record IsQuiet (now : List Record → RunOutput) : Type 0 where
-  pub silent : (now []).out ≡ []
-  pub unstopped : (now []).stop ≡ None
 
 module _ (log_rules : LogRules) (run_output : List Record → RunOutput) (received : Option (List ℕ))
     (input : List ℕ) where
@@ -114,11 +109,6 @@ module _ (log_rules : LogRules) (run_output : List Record → RunOutput) (receiv
   split_faults unflushed more s now received_now received_new _ w quiet nothing why = absurd why
 
   -- The record that is held was handled.
-  held_record : (s : Splitter) (head : Head) (raw body : List ℕ) → head ≡ record_head s → raw ≡ s.framer.buffered
-      → record_at s body ≡ (record { head = head; raw = raw; body = body })
-  held_record s head raw body e f = ap (λ (h : Head). record { head = h; raw = s.framer.buffered; body = body }) (sym e)
-      ∙ ap (λ z. record { head = head; raw = z; body = body }) (sym f)
-
   is_frame_here : (more : List ℕ) (s : Splitter) (now : List Record → RunOutput) (received_now : Option (List ℕ))
       (body : List ℕ) → IsProgress log_rules run_output received input more s now received_now
       → IsFrameOf s.framer.limits.max_body s.framer.buffered body → IsFrameOf log_rules.max_body s.framer.buffered body
@@ -126,19 +116,19 @@ module _ (log_rules : LogRules) (run_output : List Record → RunOutput) (receiv
       subst (λ (m : ℕ). IsFrameOf m s.framer.buffered body) w.is_after.limit is_frame_of
 
   pub taken_fault : (unflushed : Bool) → BufferedLaw → (more : List ℕ) (s : Splitter) (now : List Record → RunOutput)
-      (received_now received_new : Option (List ℕ)) (head : Head) (raw body : List ℕ) (fault : EngineFault) → IsFed s
-      → head ≡ record_head s → raw ≡ s.framer.buffered → IsFrameOf s.framer.limits.max_body s.framer.buffered body
-      → IsQuiet now
-      → IsHandleFault now unflushed received_now received_new (record { head = head; raw = raw; body = body }) fault
+      (received_now received_new : Option (List ℕ)) (r : Record) (fault : EngineFault) → IsFed s
+      → r ≡ record_at s r.body → IsFrameOf s.framer.limits.max_body s.framer.buffered r.body → IsQuiet now
+      → IsHandleFault now unflushed received_now received_new r fault
       → IsProgress log_rules run_output received input more s now received_now
       → IsPieceFault log_rules run_output unflushed input received received_new fault
-  taken_fault unflushed buffered_law more s now received_now received_new head raw body fault fed e f is_frame_of quiet
-      why w =
-      let reads = buffered_law log_rules input more body w.records s fed is_frame_of w.is_after in
-      record_fault unflushed (record { version = s.version; records = w.records ++ record_at s body ∷ []; rest = more })
-      more s now received_now received_new (record_at s body) fault w reads refl quiet
-      (subst (λ (r : Record). IsHandleFault now unflushed received_now received_new r fault)
-      (sym (held_record s head raw body e f)) why)
+  taken_fault unflushed buffered_law more s now received_now received_new r fault fed e is_frame_of quiet why w =
+      let reads = buffered_law log_rules input more r.body w.records s fed is_frame_of w.is_after in
+      record_fault unflushed (record {
+        version = s.version;
+        records = w.records ++ record_at s r.body ∷ [];
+        rest = more;
+      }) more s now received_now received_new (record_at s r.body) fault w reads refl quiet
+      (subst (λ (r : Record). IsHandleFault now unflushed received_now received_new r fault) e why)
 
   handled_went : (more : List ℕ) (s n : Splitter) (now new : List Record → RunOutput)
       (received_now received_new : Option (List ℕ)) (r : Record) (answer : Option Outcome)
@@ -152,19 +142,18 @@ module _ (log_rules : LogRules) (run_output : List Record → RunOutput) (receiv
       grind (arith, common_steps, went_to_end)
 
   pub taken_went : (more : List ℕ) (s n : Splitter) (now new : List Record → RunOutput)
-      (received_now received_new : Option (List ℕ)) (head : Head) (raw body : List ℕ) (answer : Option Outcome)
-      → head ≡ record_head s → raw ≡ s.framer.buffered → IsFrameOf s.framer.limits.max_body s.framer.buffered body
-      → ((records : List Record) → IsFrameOf log_rules.max_body s.framer.buffered body
-      → IsAfter log_rules input more records s → IsAfter log_rules input more (records ++ record_at s body ∷ []) n)
-      → IsHandled now new received_now received_new (record { head = head; raw = raw; body = body }) answer
+      (received_now received_new : Option (List ℕ)) (r : Record) (answer : Option Outcome) → r ≡ record_at s r.body
+      → IsFrameOf s.framer.limits.max_body s.framer.buffered r.body
+      → ((records : List Record) → IsFrameOf log_rules.max_body s.framer.buffered r.body
+      → IsAfter log_rules input more records s → IsAfter log_rules input more (records ++ record_at s r.body ∷ []) n)
+      → IsHandled now new received_now received_new r answer
       → IsProgress log_rules run_output received input more s now received_now
       → MatchOption answer (IsProgress log_rules run_output received input more n new received_new)
       (λ outcome. Stopped log_rules run_output input received received_new (Ok outcome))
-  taken_went more s n now new received_now received_new head raw body answer e f is_frame_of next handled w =
-      handled_went more s n now new received_now received_new (record_at s body) answer w
-      (next w.records (is_frame_here more s now received_now body w is_frame_of) w.is_after)
-      (subst (λ (r : Record). IsHandled now new received_now received_new r answer)
-      (sym (held_record s head raw body e f)) handled)
+  taken_went more s n now new received_now received_new r answer e is_frame_of next handled w =
+      handled_went more s n now new received_now received_new (record_at s r.body) answer w
+      (next w.records (is_frame_here more s now received_now r.body w is_frame_of) w.is_after)
+      (subst (λ (r : Record). IsHandled now new received_now received_new r answer) e handled)
 
   -- The bytes of a piece were taken.
   pub went_fed : (piece bytes : List ℕ) (at k : ℕ) (s n : Splitter) (now : List Record → RunOutput)

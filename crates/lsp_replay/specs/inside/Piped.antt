@@ -1,11 +1,12 @@
 -- What a command writes of the records that stay, if some are left out.
-use Rattle.std.specs.Prelude.{ℕ, ◌≡◌, ◌||◌, Bool, false, List, [], Option, Some, None}
+use Rattle.std.specs.Prelude.{ℕ, ◌≡◌, ◌||◌, Bool, false, List, Option, Some, None}
 use Rattle.lsp_log.specs.declared.record.Head.{Head}
 use Rattle.lsp_log.specs.Log.{Record}
 use Rattle.lsp_replay.specs.Documents.{Selection, kept_in, output_of_kept}
 use Rattle.lsp_replay.specs.RunOutput.{RunOutput}
 use Rattle.lsp_replay.specs.Session.{Session}
 use Rattle.lsp_replay.specs.inside.Reads.{IsSelection}
+use Rattle.lsp_replay.specs.inside.RunOutput.{IsQuiet}
 
 -- The output of a command, whose session is `s` before these records: of all of them, or of those
 -- that stay.
@@ -14,15 +15,11 @@ piped None run_output s = run_output
 piped (Some c) run_output s = λ rs. output_of_kept run_output (kept_in s c rs)
 
 -- Without records nothing is written, and nothing ends the run.
-pub piped_silent : (c : Option Selection) (run_output : List Record → RunOutput) (s : Session)
-    → (run_output []).out ≡ [] → (piped c run_output s []).out ≡ []
-piped_silent None run_output s silent = silent
-piped_silent (Some c) run_output s silent = silent
-
-pub piped_unstopped : (c : Option Selection) (run_output : List Record → RunOutput) (s : Session)
-    → (run_output []).stop ≡ None → (piped c run_output s []).stop ≡ None
-piped_unstopped None run_output s unstopped = unstopped
-piped_unstopped (Some c) run_output s unstopped = unstopped
+pub piped_quiet : (c : Option Selection) (run_output : List Record → RunOutput) (s : Session)
+    → IsQuiet run_output → IsQuiet (piped c run_output s)
+piped_quiet None run_output s quiet = quiet
+piped_quiet (Some c) run_output s quiet =
+    record { silent = quiet.silent; unstopped = quiet.unstopped }
 
 -- A record is left out, or it stays and is written under a head.
 abbrev pub IsAdmitted : Session → Option Selection → Option Selection → Head → List ℕ → Option Head

@@ -1,5 +1,6 @@
 -- What only proofs and private contracts use of `RunOutput`.
-use Rattle.std.specs.Prelude.{ℕ, List, drop, Option, Some, None, Ok}
+use Rattle.std.specs.Prelude.{ℕ, ◌≡◌, List, [], drop, Option, Some, None, Ok}
+use Rattle.lsp_log.specs.Log.{Record}
 use Rattle.lsp_replay.specs.declared.outcome.Outcome.{Outcome}
 use Rattle.lsp_stream.specs.declared.fault.EngineFault.{EngineFault}
 use Rattle.lsp_stream.specs.declared.fault.EngineFault.TheVariants.{Read, Write, Frame, Truncated, BodyTooLong, NoMemory, TooManyTurns, BadLog}
@@ -12,6 +13,11 @@ use Rattle.lsp_replay.specs.RunOutput.{RunOutput, written_first, stopped}
 abbrev pub after : List ℕ → Option Outcome → RunOutput → RunOutput
 after bytes None c = written_first bytes c
 after bytes (Some outcome) c = stopped bytes (Ok outcome)
+
+-- Without more records nothing more is written, and the run goes on.
+pub record IsQuiet (run_output : List Record → RunOutput) : Type 0 where
+  pub silent : (run_output []).out ≡ []
+  pub unstopped : (run_output []).stop ≡ None
 
 -- A record's output: its frame, or the buffer that was filled for it, all of it or from an index
 -- on.

@@ -1,20 +1,18 @@
 //! `check`: what a server answers to each record of a log, line by line.
 
-ghost use Rattle.std.specs.Prelude.{◌≡◌, ◌++◌, refl, OnOk, decimal, false};
+ghost use Rattle.std.specs.Prelude.{◌≡◌, ◌++◌, refl, OnOk, decimal};
 ghost use Rattle.lsp_server.specs.Seen.{answer_view};
 ghost use Rattle.lsp_replay.specs.Commands.{checking, check_line, code_word, verdict_word, word_of};
 ghost use Rattle.lsp_replay.specs.inside.Commands.{run_output_in};
 ghost use Rattle.lsp_replay.specs.inside.Verdicts.{verdict_view};
 
-use crate::handler::{Given, Output};
-use crate::outcome::Outcome;
+use crate::handler::{Finished, Given, Output, Printed};
 use crate::printer::Printer;
 use crate::session::{RecordBody, Session, Verdict};
 use itoa::Buffer;
-use lsp_log::Head;
+use lsp_log::Record;
 use lsp_message::ErrorCode;
 use lsp_server::Answer;
-use lsp_stream::EngineFault;
 use std::alloc::AllocError;
 
 /// Writes a line for each record.
@@ -28,38 +26,21 @@ impl Printer for Check {
 
     ghost reached = { λ check. check.session };
 
-    ghost FLUSHES = { false };
-
-    const FLUSHES: bool = false;
-
     ghost parts = { λ check. 0 };
 
-    ghost silent = { λ _. refl };
-
-    ghost unstopped = { λ _. refl };
+    ghost quiet = { λ _. record { silent = refl; unstopped = refl } };
 
     fn session(&self) -> &Session {
         &self.session
     }
 
-    fn print(
-        &mut self,
-        head: Head,
-        _raw: &[u8],
-        _body: &[u8],
-        read: RecordBody<'_>,
-        buffer: &mut Vec<u8>,
-    ) -> Result<Given, EngineFault> {
-        let verdict = self.session.accept(head, read)?;
+    fn print(&mut self, item: &Record<'_>, read: RecordBody<'_>, buffer: &mut Vec<u8>) -> Printed {
+        let verdict = self.session.accept(item.head, read)?;
         push_verdict_line(buffer, self.session.records(), &verdict)?;
         Ok(Given::more(Output::Bytes))
     }
 
-    fn finish(
-        &mut self,
-        _line_due: bool,
-        _buffer: &mut Vec<u8>,
-    ) -> Result<Option<Outcome>, EngineFault> {
+    fn finish(&mut self, _line_due: bool, _buffer: &mut Vec<u8>) -> Finished {
         Ok(Some(self.session.outcome()))
     }
 }

@@ -1,6 +1,6 @@
 //! `compare`: whether a document's last text is that of a file, and else which message made it so.
 
-ghost use Rattle.std.specs.Prelude.{◌≡◌, refl, IfOk, OnOk, false, option_map, string_bytes};
+ghost use Rattle.std.specs.Prelude.{◌≡◌, refl, IfOk, OnOk, option_map, string_bytes};
 ghost use Rattle.line_diff.specs.Compared.{equality};
 ghost use Rattle.lsp_store.specs.Table.{entry_at};
 ghost use Rattle.lsp_replay.specs.Compared.{compared_outcome, learned, taken_if};
@@ -12,15 +12,14 @@ ghost use Rattle.lsp_replay.specs.inside.Verdicts.{verdict_view};
 mod splices;
 
 use crate::facts::asked::{copied_text, uri_of};
-use crate::handler::{Given, Output};
+use crate::handler::{Finished, Given, Output, Printed};
 use crate::outcome::{Missing, Outcome};
 use crate::printer::Printer;
 use crate::printer::comparing::splices::splices_on;
 use crate::session::{RecordBody, Session, Verdict};
 use line_diff::{Comparison, Splice};
-use lsp_log::{Head, Sender};
+use lsp_log::{Record, Sender};
 use lsp_server::{Answer, Incoming};
-use lsp_stream::EngineFault;
 use std::alloc::{AllocError, Global};
 
 /// Writes at the end whether the document's text is the file's.
@@ -128,40 +127,23 @@ impl Printer for Compare {
 
     ghost reached = { λ compare. compare.session };
 
-    ghost FLUSHES = { false };
-
-    const FLUSHES: bool = false;
-
     ghost parts = { λ compare. 0 };
 
-    ghost silent = { λ _. refl };
-
-    ghost unstopped = { λ _. refl };
+    ghost quiet = { λ _. record { silent = refl; unstopped = refl } };
 
     fn session(&self) -> &Session {
         &self.session
     }
 
-    fn print(
-        &mut self,
-        head: Head,
-        _raw: &[u8],
-        _body: &[u8],
-        read: RecordBody<'_>,
-        _buffer: &mut Vec<u8>,
-    ) -> Result<Given, EngineFault> {
+    fn print(&mut self, item: &Record<'_>, read: RecordBody<'_>, _buffer: &mut Vec<u8>) -> Printed {
         let uri = self.uri_in(&read)?;
         let splices = self.splices_in(&read)?;
-        let verdict = self.session.accept(head, read)?;
+        let verdict = self.session.accept(item.head, read)?;
         self.learn(uri.as_deref(), splices.as_deref(), &verdict)?;
         Ok(Given::more(Output::Bytes))
     }
 
-    fn finish(
-        &mut self,
-        _line_due: bool,
-        buffer: &mut Vec<u8>,
-    ) -> Result<Option<Outcome>, EngineFault> {
+    fn finish(&mut self, _line_due: bool, buffer: &mut Vec<u8>) -> Finished {
         self.comparison.push_report(self.alloc, buffer)?;
         Ok(Some(self.outcome()))
     }

@@ -1,18 +1,16 @@
 //! `convert`: makes a log of version 2, with the server's replies, of a log of version 1.
 
-ghost use Rattle.std.specs.Prelude.{◌≡◌, ◌++◌, refl, OnOk, false};
+ghost use Rattle.std.specs.Prelude.{◌≡◌, ◌++◌, refl, OnOk};
 ghost use Rattle.lsp_replay.specs.Commands.{converting, line_before, reply_record};
 ghost use Rattle.lsp_replay.specs.inside.Commands.{run_output_in};
 ghost use Rattle.lsp_replay.specs.inside.Verdicts.{verdict_view};
 
-use crate::handler::{Given, Output};
-use crate::outcome::Outcome;
+use crate::handler::{Finished, Given, Output, Printed};
 use crate::printer::Printer;
 use crate::printer::front::push_line;
 use crate::session::{RecordBody, Session, Verdict};
-use lsp_log::Head;
+use lsp_log::Record;
 use lsp_server::Answer;
-use lsp_stream::EngineFault;
 use std::alloc::AllocError;
 
 /// Writes each record with its mark, and after it the reply.
@@ -36,41 +34,24 @@ impl Printer for Convert {
 
     ghost reached = { λ convert. convert.session };
 
-    ghost FLUSHES = { false };
-
-    const FLUSHES: bool = false;
-
     ghost parts = { λ convert. 0 };
 
-    ghost silent = { λ _. refl };
-
-    ghost unstopped = { λ _. refl };
+    ghost quiet = { λ _. record { silent = refl; unstopped = refl } };
 
     fn session(&self) -> &Session {
         &self.session
     }
 
-    fn print(
-        &mut self,
-        head: Head,
-        raw: &[u8],
-        _body: &[u8],
-        read: RecordBody<'_>,
-        buffer: &mut Vec<u8>,
-    ) -> Result<Given, EngineFault> {
+    fn print(&mut self, item: &Record<'_>, read: RecordBody<'_>, buffer: &mut Vec<u8>) -> Printed {
         self.push_first_line(buffer)?;
-        let verdict = self.session.accept(head, read)?;
+        let verdict = self.session.accept(item.head, read)?;
         buffer.extend_from_slice(b">")?;
-        buffer.extend_from_slice(raw)?;
+        buffer.extend_from_slice(item.raw)?;
         push_reply(buffer, &verdict)?;
         Ok(Given::more(Output::Bytes))
     }
 
-    fn finish(
-        &mut self,
-        _line_due: bool,
-        buffer: &mut Vec<u8>,
-    ) -> Result<Option<Outcome>, EngineFault> {
+    fn finish(&mut self, _line_due: bool, buffer: &mut Vec<u8>) -> Finished {
         self.push_first_line(buffer)?;
         Ok(Some(self.session.outcome()))
     }

@@ -1,7 +1,7 @@
 //! `check` with reasons: what a server answers to each record of a log, why it was refused, and
 //! what is suspicious of it.
 
-ghost use Rattle.std.specs.Prelude.{◌≡◌, ◌++◌, refl, OnOk, codes, decimal, false, flat_map, option_map, string_bytes};
+ghost use Rattle.std.specs.Prelude.{◌≡◌, ◌++◌, refl, OnOk, codes, decimal, flat_map, option_map, string_bytes};
 ghost use Rattle.lsp_message.specs.Message.{reading};
 ghost use Rattle.lsp_message.specs.Seen.{change_view};
 ghost use Rattle.lsp_replay.specs.Counts.{counts_words};
@@ -16,11 +16,10 @@ use crate::commands::Listing;
 use crate::counts::Counts;
 use crate::counts::tallies::{Tally, has_repeated, has_tallies};
 use crate::facts::{Facts, Known, has_notes};
-use crate::handler::{Given, Output};
+use crate::handler::{Finished, Given, Output, Printed};
 use crate::members::{push_json_string, push_number, push_words};
 use crate::notes::Note;
 use crate::notes::saved::{notification_params, saved_uri};
-use crate::outcome::Outcome;
 use crate::printer::Printer;
 use crate::printer::checking::push_verdict;
 use crate::printer::noted::push_notes;
@@ -29,8 +28,7 @@ use crate::session::counting::{is_refused, refuses};
 use crate::session::witness::Nothing;
 use crate::session::{RecordBody, Session, Verdict};
 use lsp_frame::Limits;
-use lsp_log::Head;
-use lsp_stream::EngineFault;
+use lsp_log::Record;
 use std::alloc::{AllocError, Global};
 
 /// Writes a line for each record, or for some, and at the end what came how often and what to do
@@ -63,42 +61,25 @@ impl Printer for Explain {
 
     ghost reached = { λ explain. explain.session };
 
-    ghost FLUSHES = { false };
-
-    const FLUSHES: bool = false;
-
     ghost parts = { λ explain. 0 };
 
-    ghost silent = { λ _. refl };
-
-    ghost unstopped = { λ _. refl };
+    ghost quiet = { λ _. record { silent = refl; unstopped = refl } };
 
     fn session(&self) -> &Session {
         &self.session
     }
 
-    fn print(
-        &mut self,
-        head: Head,
-        _raw: &[u8],
-        body: &[u8],
-        read: RecordBody<'_>,
-        buffer: &mut Vec<u8>,
-    ) -> Result<Given, EngineFault> {
+    fn print(&mut self, item: &Record<'_>, read: RecordBody<'_>, buffer: &mut Vec<u8>) -> Printed {
         let mut witness = Nothing;
         let facts = self
             .known
-            .take(&mut self.session, head, body, read, &mut witness)?;
+            .take(&mut self.session, item, read, &mut witness)?;
         let limits = self.session.server().store().limits();
-        push_facts(self.alloc, buffer, self.listing, limits, &facts, body)?;
+        push_facts(self.alloc, buffer, self.listing, limits, &facts, item.body)?;
         Ok(Given::more(Output::Bytes))
     }
 
-    fn finish(
-        &mut self,
-        _line_due: bool,
-        buffer: &mut Vec<u8>,
-    ) -> Result<Option<Outcome>, EngineFault> {
+    fn finish(&mut self, _line_due: bool, buffer: &mut Vec<u8>) -> Finished {
         self.push_end(buffer)?;
         Ok(Some(self.session.outcome()))
     }

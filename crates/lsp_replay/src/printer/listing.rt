@@ -1,16 +1,14 @@
 //! Which message opened each document of a log first.
 
-ghost use Rattle.std.specs.Prelude.{refl, false};
+ghost use Rattle.std.specs.Prelude.{refl};
 ghost use Rattle.lsp_replay.specs.inside.Openings.{listed_in};
 
-use crate::handler::{Given, Output};
+use crate::handler::{Finished, Given, Output, Printed};
 use crate::openings::Openings;
-use crate::outcome::Outcome;
 use crate::printer::Printer;
 use crate::session::opening::{opened_if, opened_uri};
 use crate::session::{RecordBody, Session};
-use lsp_log::Head;
-use lsp_stream::EngineFault;
+use lsp_log::Record;
 use std::alloc::Global;
 
 /// Writes the list at the end.
@@ -26,41 +24,24 @@ impl Printer for ListOpenings {
 
     ghost reached = { λ list. list.session };
 
-    ghost FLUSHES = { false };
-
-    const FLUSHES: bool = false;
-
     ghost parts = { λ list. 0 };
 
-    ghost silent = { λ _. refl };
-
-    ghost unstopped = { λ _. refl };
+    ghost quiet = { λ _. record { silent = refl; unstopped = refl } };
 
     fn session(&self) -> &Session {
         &self.session
     }
 
-    fn print(
-        &mut self,
-        head: Head,
-        _raw: &[u8],
-        _body: &[u8],
-        read: RecordBody<'_>,
-        _buffer: &mut Vec<u8>,
-    ) -> Result<Given, EngineFault> {
+    fn print(&mut self, item: &Record<'_>, read: RecordBody<'_>, _buffer: &mut Vec<u8>) -> Printed {
         let uri = opened_uri(self.alloc, &read)?;
-        let verdict = self.session.accept(head, read)?;
+        let verdict = self.session.accept(item.head, read)?;
         let opened = opened_if(&verdict, uri);
         self.openings
             .take(opened.as_deref(), self.session.records())?;
         Ok(Given::more(Output::Bytes))
     }
 
-    fn finish(
-        &mut self,
-        _line_due: bool,
-        buffer: &mut Vec<u8>,
-    ) -> Result<Option<Outcome>, EngineFault> {
+    fn finish(&mut self, _line_due: bool, buffer: &mut Vec<u8>) -> Finished {
         self.openings.push(buffer)?;
         Ok(Some(self.session.outcome()))
     }

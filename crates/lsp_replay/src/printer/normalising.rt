@@ -1,6 +1,6 @@
 //! `normalise`: writes a log in which each accepted change is its canonical message.
 
-ghost use Rattle.std.specs.Prelude.{ℕ, ◌≡◌, ◌≤◌, ◌⊎◌, ◌++◌, List, [], length, drop, Option, Some, false, refl, IfOk, IfErr, OnOk, Err};
+ghost use Rattle.std.specs.Prelude.{ℕ, ◌≡◌, ◌≤◌, ◌⊎◌, ◌++◌, List, [], length, drop, Option, Some, refl, IfOk, IfErr, OnOk, Err};
 ghost use Rattle.lsp_frame.specs.Frame.{frame};
 ghost use Rattle.lsp_log.specs.Log.{mark_of};
 ghost use Rattle.lsp_replay.specs.inside.RunOutput.{output_of};
@@ -8,14 +8,13 @@ ghost use Rattle.lsp_replay.specs.Commands.{normalising, line_if, front_of, writ
 ghost use Rattle.lsp_replay.specs.inside.Commands.{run_output_in};
 ghost use Rattle.lsp_replay.specs.inside.Verdicts.{IsAppended};
 
-use crate::handler::{Given, Output};
-use crate::outcome::Outcome;
+use crate::handler::{Finished, Given, Output, Printed};
 use crate::printer::Printer;
 use crate::printer::front::{line_bytes, mark_bytes, push_front, push_line};
 use crate::session::canonical::{Appended, Canonical};
 use crate::session::{RecordBody, Session, in_log};
 use lsp_frame::{put_before, put_header};
-use lsp_log::Head;
+use lsp_log::{Head, Record};
 use lsp_stream::EngineFault;
 use std::alloc::AllocError;
 use std::mem::swap;
@@ -33,40 +32,23 @@ impl Printer for Normalise {
 
     ghost reached = { λ normalise. normalise.session };
 
-    ghost FLUSHES = { false };
-
-    const FLUSHES: bool = false;
-
     ghost parts = { λ normalise. 0 };
 
-    ghost silent = { λ _. refl };
-
-    ghost unstopped = { λ _. refl };
+    ghost quiet = { λ _. record { silent = refl; unstopped = refl } };
 
     fn session(&self) -> &Session {
         &self.session
     }
 
-    fn print(
-        &mut self,
-        head: Head,
-        raw: &[u8],
-        _body: &[u8],
-        read: RecordBody<'_>,
-        buffer: &mut Vec<u8>,
-    ) -> Result<Given, EngineFault> {
+    fn print(&mut self, item: &Record<'_>, read: RecordBody<'_>, buffer: &mut Vec<u8>) -> Printed {
         self.canonical.clear(FRONT_ROOM)?;
         let taken = self.session.take(read, &mut self.canonical)?;
-        in_log(&taken.verdict, head.place)?;
-        let output = push_record(buffer, &mut self.canonical, head, raw)?;
+        in_log(&taken.verdict, item.head.place)?;
+        let output = push_record(buffer, &mut self.canonical, item)?;
         Ok(Given::more(output))
     }
 
-    fn finish(
-        &mut self,
-        line_due: bool,
-        buffer: &mut Vec<u8>,
-    ) -> Result<Option<Outcome>, EngineFault> {
+    fn finish(&mut self, line_due: bool, buffer: &mut Vec<u8>) -> Finished {
         push_line(buffer, line_due)?;
         Ok(Some(self.session.outcome()))
     }
@@ -81,8 +63,7 @@ const FRONT_ROOM: usize = 64;
 fn push_record(
     buffer: &mut Vec<u8>,
     canonical: &mut Canonical,
-    head: Head,
-    raw: &[u8],
+    item: &Record<'_>,
 ) -> Result<Output, EngineFault>
     requires { canonical.old.appended ≡ Some Appended.Body →
         FRONT_ROOM ≤ length canonical.old.bytes.items }
@@ -90,22 +71,25 @@ fn push_record(
         (λ output. (max_body : ℕ) (canonical_log : Option (List ℕ)) (body room : List ℕ) →
         length room ≡ FRONT_ROOM →
         IsAppended max_body canonical_log canonical.old.appended room canonical.old.bytes.items →
-        written max_body (record { head = head; raw = raw.now; body = body })
-        (front_of head) canonical_log ≡ writes (output_of output raw.now buffer.new.items)) }
+        written max_body (record { head = item.now.head; raw = item.now.raw.now; body = body })
+        (front_of item.now.head) canonical_log
+        ≡ writes (output_of output item.now.raw.now buffer.new.items)) }
     ensures error { IfErr result
-        (λ fault. (fault ≡ EngineFault.NoMemory) ⊎ ((fault ≡ EngineFault.BodyTooLong head.place)
+        (λ fault. (fault ≡ EngineFault.NoMemory)
+        ⊎ ((fault ≡ EngineFault.BodyTooLong item.now.head.place)
         × ((max_body : ℕ) (canonical_log : Option (List ℕ)) (body room : List ℕ) →
         length room ≡ FRONT_ROOM →
         IsAppended max_body canonical_log canonical.old.appended room canonical.old.bytes.items →
-        written max_body (record { head = head; raw = raw.now; body = body })
-        (front_of head) canonical_log ≡ ends [] (Err (EngineFault.BodyTooLong head.place))))) }
+        written max_body (record { head = item.now.head; raw = item.now.raw.now; body = body })
+        (front_of item.now.head) canonical_log
+        ≡ ends [] (Err (EngineFault.BodyTooLong item.now.head.place))))) }
 {
     let Some(appended) = canonical.appended else {
-        return Ok(push_as_it_is(buffer, head, raw)?);
+        return Ok(push_as_it_is(buffer, item.head, item.raw)?);
     };
-    within_limit(appended, head.place)?;
+    within_limit(appended, item.head.place)?;
     swap(buffer, &mut canonical.bytes);
-    let start = put_front(buffer, head);
+    let start = put_front(buffer, item.head);
     Ok(Output::BytesFrom(start))
 }
 

@@ -1,6 +1,6 @@
 //! `replay` of a part of a log: the documents after a record, or the last text of one document.
 
-ghost use Rattle.std.specs.Prelude.{◌≡◌, ◌++◌, refl, IfOk, OnOk, false};
+ghost use Rattle.std.specs.Prelude.{◌≡◌, ◌++◌, refl, IfOk, OnOk};
 ghost use Rattle.lsp_replay.specs.Session.{session_outcome};
 ghost use Rattle.lsp_replay.specs.Commands.{report_from};
 ghost use Rattle.lsp_replay.specs.Parts.{is_last, part_bytes, part_data, part_outcome};
@@ -9,16 +9,15 @@ ghost use Rattle.lsp_replay.specs.inside.Parts.{found_now, replayed_in, text_now
 pub(crate) mod chosen;
 
 use crate::commands::Part;
-use crate::handler::{Given, Output};
+use crate::handler::{Finished, Given, Output, Printed};
 use crate::outcome::{Missing, Outcome};
 use crate::printer::Printer;
 use crate::printer::partial::chosen::Chosen;
 use crate::printer::replaying::push_document_line;
 use crate::session::opening::{opened_if, opened_uri};
 use crate::session::{RecordBody, Session};
-use lsp_log::Head;
+use lsp_log::Record;
 use lsp_store::Store;
-use lsp_stream::EngineFault;
 use std::alloc::{AllocError, Global};
 
 /// Writes the documents after the part's last record, or the last text of one.
@@ -74,32 +73,19 @@ impl Printer for ReplayPart {
 
     ghost reached = { λ replay. replay.session };
 
-    ghost FLUSHES = { false };
-
-    const FLUSHES: bool = false;
-
     ghost parts = { λ replay. 0 };
 
-    ghost silent = { λ _. refl };
-
-    ghost unstopped = { λ _. refl };
+    ghost quiet = { λ _. record { silent = refl; unstopped = refl } };
 
     fn session(&self) -> &Session {
         &self.session
     }
 
-    fn print(
-        &mut self,
-        head: Head,
-        _raw: &[u8],
-        _body: &[u8],
-        read: RecordBody<'_>,
-        buffer: &mut Vec<u8>,
-    ) -> Result<Given, EngineFault> {
+    fn print(&mut self, item: &Record<'_>, read: RecordBody<'_>, buffer: &mut Vec<u8>) -> Printed {
         let found = self.chosen.uri();
         let closed = self.session.closed_text(&read, found)?;
         let uri = opened_uri(self.alloc, &read)?;
-        let verdict = self.session.accept(head, read)?;
+        let verdict = self.session.accept(item.head, read)?;
         let opened = opened_if(&verdict, uri);
         self.chosen.keep(closed);
         self.chosen.take(self.part.uri.as_deref(), opened);
@@ -113,11 +99,7 @@ impl Printer for ReplayPart {
         })
     }
 
-    fn finish(
-        &mut self,
-        _line_due: bool,
-        buffer: &mut Vec<u8>,
-    ) -> Result<Option<Outcome>, EngineFault> {
+    fn finish(&mut self, _line_due: bool, buffer: &mut Vec<u8>) -> Finished {
         if self.part.at.is_some() {
             return Ok(Some(Outcome {
                 status: 1,

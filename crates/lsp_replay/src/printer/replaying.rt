@@ -1,17 +1,15 @@
 //! `replay`: the documents that are open at the end of a log.
 
-ghost use Rattle.std.specs.Prelude.{◌≡◌, ◌++◌, ◌-◌, refl, OnOk, length, false};
+ghost use Rattle.std.specs.Prelude.{◌≡◌, ◌++◌, ◌-◌, refl, OnOk, length};
 ghost use Rattle.lsp_replay.specs.Commands.{replaying_from, document_line};
 ghost use Rattle.lsp_replay.specs.inside.Commands.{run_output_in};
 
-use crate::handler::{Given, Output};
-use crate::outcome::Outcome;
+use crate::handler::{Finished, Given, Output, Printed};
 use crate::printer::Printer;
 use crate::session::{RecordBody, Session};
-use lsp_log::Head;
+use lsp_log::Record;
 use lsp_message::push_document;
 use lsp_store::Document;
-use lsp_stream::EngineFault;
 use std::alloc::AllocError;
 
 /// Writes a line for each document that is open at the end, in order of opening.
@@ -27,37 +25,20 @@ impl Printer for Replay {
 
     ghost reached = { λ replay. replay.session };
 
-    ghost FLUSHES = { false };
-
-    const FLUSHES: bool = false;
-
     ghost parts = { λ replay. length replay.session.server.table - replay.next };
 
-    ghost silent = { λ _. refl };
-
-    ghost unstopped = { λ _. refl };
+    ghost quiet = { λ _. record { silent = refl; unstopped = refl } };
 
     fn session(&self) -> &Session {
         &self.session
     }
 
-    fn print(
-        &mut self,
-        head: Head,
-        _raw: &[u8],
-        _body: &[u8],
-        read: RecordBody<'_>,
-        _buffer: &mut Vec<u8>,
-    ) -> Result<Given, EngineFault> {
-        self.session.accept(head, read)?;
+    fn print(&mut self, item: &Record<'_>, read: RecordBody<'_>, _buffer: &mut Vec<u8>) -> Printed {
+        self.session.accept(item.head, read)?;
         Ok(Given::more(Output::Bytes))
     }
 
-    fn finish(
-        &mut self,
-        _line_due: bool,
-        buffer: &mut Vec<u8>,
-    ) -> Result<Option<Outcome>, EngineFault> {
+    fn finish(&mut self, _line_due: bool, buffer: &mut Vec<u8>) -> Finished {
         let documents = self.session.server().store();
         if self.next >= documents.len() {
             return Ok(Some(self.session.outcome()));

@@ -1,20 +1,19 @@
 //! `serve`: runs a server's end between a reader and a writer.
 
-ghost use Rattle.std.specs.Prelude.{◌≡◌, [], Ok, option_map, refl, true};
+ghost use Rattle.std.specs.Prelude.{◌≡◌, [], Ok, option_map, refl};
 ghost use Rattle.lsp_replay.specs.Session.{session_outcome};
 ghost use Rattle.lsp_replay.specs.Session as spec;
 ghost use Rattle.lsp_replay.specs.Commands.{serving, serve_output};
 ghost use Rattle.lsp_replay.specs.inside.Commands.{run_output_in};
 ghost use Rattle.lsp_replay.specs.inside.Verdicts.{verdict_view};
 
-use crate::handler::{Given, Output};
+use crate::handler::{Finished, Given, Output, Printed};
 use crate::outcome::Outcome;
 use crate::printer::Printer;
 use crate::session::witness::Nothing;
 use crate::session::{RecordBody, Session, Verdict};
-use lsp_log::Head;
+use lsp_log::Record;
 use lsp_server::Answer;
-use lsp_stream::EngineFault;
 
 /// Writes each reply as it comes, up to `exit`.
 #[derive(Drop)]
@@ -67,28 +66,15 @@ impl Printer for Serve {
 
     ghost reached = { λ serve. serve.session };
 
-    ghost FLUSHES = { true };
-
-    const FLUSHES: bool = true;
-
     ghost parts = { λ serve. 0 };
 
-    ghost silent = { λ _. refl };
-
-    ghost unstopped = { λ _. refl };
+    ghost quiet = { λ _. record { silent = refl; unstopped = refl } };
 
     fn session(&self) -> &Session {
         &self.session
     }
 
-    fn print(
-        &mut self,
-        _head: Head,
-        _raw: &[u8],
-        _body: &[u8],
-        read: RecordBody<'_>,
-        buffer: &mut Vec<u8>,
-    ) -> Result<Given, EngineFault> {
+    fn print(&mut self, _item: &Record<'_>, read: RecordBody<'_>, buffer: &mut Vec<u8>) -> Printed {
         let mut witness = Nothing;
         let taken = self.session.take(read, &mut witness)?;
         let end = self.end(&taken.verdict);
@@ -99,11 +85,7 @@ impl Printer for Serve {
         })
     }
 
-    fn finish(
-        &mut self,
-        _line_due: bool,
-        _buffer: &mut Vec<u8>,
-    ) -> Result<Option<Outcome>, EngineFault> {
+    fn finish(&mut self, _line_due: bool, _buffer: &mut Vec<u8>) -> Finished {
         Ok(Some(self.without_exit()))
     }
 }

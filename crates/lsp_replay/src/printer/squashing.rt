@@ -1,20 +1,20 @@
 //! `normalise` with squash: writes accepted changes of one document, one after another, as one
 //! message.
 
-ghost use Rattle.std.specs.Prelude.{◌≡◌, ◌++◌, ◌⊎◌, [], refl, IfErr, OnOk, None, Some, false};
+ghost use Rattle.lsp_log.specs.Splitting.{record_of};
+ghost use Rattle.std.specs.Prelude.{◌≡◌, ◌++◌, ◌⊎◌, [], refl, IfErr, OnOk, None, Some};
 ghost use Rattle.lsp_replay.specs.Commands.{front_of};
 ghost use Rattle.lsp_replay.specs.inside.Reads.{IsReadOf};
 ghost use Rattle.lsp_replay.specs.inside.RunOutput.{IsRecordFault};
 ghost use Rattle.lsp_replay.specs.inside.Squashed.{IsSquashStep, end_bytes, faulty, series_of, squashed_in, step_at};
 
-use crate::handler::{Given, Output};
-use crate::outcome::Outcome;
+use crate::handler::{Finished, Given, Output, Printed};
 use crate::printer::Printer;
 use crate::printer::front::{push_front, push_line};
-use crate::session::changes::unless_refused;
+use crate::session::canonical::unless_refused;
 use crate::session::joining::{Joiner, Writing};
 use crate::session::{RecordBody, Session, in_log};
-use lsp_log::Head;
+use lsp_log::{Head, Record};
 use lsp_store::Batches;
 use lsp_stream::EngineFault;
 use std::alloc::{AllocError, Global};
@@ -130,30 +130,27 @@ impl Squashing {
     /// an accepted change. A bad record, and a canonical body over the limit, end the run.
     fn write_read(
         &mut self,
-        head: Head,
-        raw: &[u8],
-        _body: &[u8],
+        item: &Record<'_>,
         read: RecordBody<'_>,
         buffer: &mut Vec<u8>,
     ) -> Result<(), EngineFault>
-        requires is_read { IsReadOf head _body.now read }
+        requires is_read { IsReadOf item.now.head item.now.body.now read }
         requires empty { buffer.old.items ≡ [] }
         ensures ok { OnOk result
-            (IsSquashStep self.old (record { head = head; raw = raw.now; body = _body.now })
-            buffer.new.items self.new) }
+            (IsSquashStep self.old (record_of item.now) buffer.new.items self.new) }
         ensures error { IfErr result
             (λ fault. (fault ≡ EngineFault.NoMemory) ⊎ (IsRecordFault fault
-            × (step_at self.old (record { head = head; raw = raw.now; body = _body.now })
-            ≡ faulty fault))) }
+            × (step_at self.old (record_of item.now) ≡ faulty fault))) }
     {
         let mut joiner = Joiner::new(self.batches.take());
         let taken = self.session.take(read, &mut joiner)?;
+        let head = item.head;
         in_log(&taken.verdict, head.place)?;
         let Joiner { batches, writing } = joiner;
         let Some(writing) = writing else {
             self.texts.push_end(buffer, &batches)?;
             push_front(buffer, head)?;
-            buffer.extend_from_slice(raw)?;
+            buffer.extend_from_slice(item.raw)?;
             return Ok(());
         };
         match writing {
@@ -178,38 +175,21 @@ impl Printer for Squashing {
 
     ghost reached = { λ squashing. squashing.session };
 
-    ghost FLUSHES = { false };
-
-    const FLUSHES: bool = false;
-
     ghost parts = { λ squashing. 0 };
 
-    ghost silent = { λ _. refl };
-
-    ghost unstopped = { λ _. refl };
+    ghost quiet = { λ _. record { silent = refl; unstopped = refl } };
 
     fn session(&self) -> &Session {
         &self.session
     }
 
     #[tactic(auto, using(crate::proofs::Squash::SquashingLemmas::step_ends, crate::proofs::Squash::SquashingLemmas::step_writes))]
-    fn print(
-        &mut self,
-        head: Head,
-        raw: &[u8],
-        body: &[u8],
-        read: RecordBody<'_>,
-        buffer: &mut Vec<u8>,
-    ) -> Result<Given, EngineFault> {
-        self.write_read(head, raw, body, read, buffer)?;
+    fn print(&mut self, item: &Record<'_>, read: RecordBody<'_>, buffer: &mut Vec<u8>) -> Printed {
+        self.write_read(item, read, buffer)?;
         Ok(Given::more(Output::Bytes))
     }
 
-    fn finish(
-        &mut self,
-        line_due: bool,
-        buffer: &mut Vec<u8>,
-    ) -> Result<Option<Outcome>, EngineFault> {
+    fn finish(&mut self, line_due: bool, buffer: &mut Vec<u8>) -> Finished {
         self.push_open(buffer)?;
         push_line(buffer, line_due)?;
         Ok(Some(self.session.outcome()))

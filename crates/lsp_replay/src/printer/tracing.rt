@@ -2,7 +2,7 @@
 //!
 //! `first` writes the members that say what a record is, `values` the others.
 
-ghost use Rattle.std.specs.Prelude.{◌≡◌, ◌++◌, ◌&&◌, IfOk, refl, OnOk, codes, decimal, false, option_map};
+ghost use Rattle.std.specs.Prelude.{◌≡◌, ◌++◌, ◌&&◌, IfOk, refl, OnOk, codes, decimal, option_map};
 ghost use Rattle.lsp_message.specs.Message.{reading};
 ghost use Rattle.lsp_message.specs.Seen.{change_view};
 ghost use Rattle.lsp_server.specs.Incoming.{incoming_of};
@@ -19,10 +19,9 @@ mod values;
 
 use crate::commands::Details;
 use crate::facts::{Facts, Known};
-use crate::handler::{Given, Output};
+use crate::handler::{Finished, Given, Output, Printed};
 use crate::members::{push_number, push_words};
 use crate::notes::Note;
-use crate::outcome::Outcome;
 use crate::printer::Printer;
 use crate::printer::noted::push_notes;
 use crate::printer::reasons::{push_reason, push_renamed};
@@ -34,9 +33,8 @@ use crate::session::canonical::Canonical;
 use crate::session::counting::{has_changed, is_refused, one_more};
 use crate::session::{RecordBody, Session, Verdict};
 use lsp_frame::Limits;
-use lsp_log::Head;
+use lsp_log::{Head, Record};
 use lsp_store::{Document, Store};
-use lsp_stream::EngineFault;
 use std::alloc::{AllocError, Global};
 
 /// Writes a line for each record.
@@ -129,42 +127,25 @@ impl Printer for Trace {
 
     ghost reached = { λ trace. trace.session };
 
-    ghost FLUSHES = { false };
-
-    const FLUSHES: bool = false;
-
     ghost parts = { λ trace. 0 };
 
-    ghost silent = { λ _. refl };
-
-    ghost unstopped = { λ _. refl };
+    ghost quiet = { λ _. record { silent = refl; unstopped = refl } };
 
     fn session(&self) -> &Session {
         &self.session
     }
 
-    fn print(
-        &mut self,
-        head: Head,
-        _raw: &[u8],
-        body: &[u8],
-        read: RecordBody<'_>,
-        buffer: &mut Vec<u8>,
-    ) -> Result<Given, EngineFault> {
-        let is_json = self.push_asked(buffer, head, body, &read)?;
+    fn print(&mut self, item: &Record<'_>, read: RecordBody<'_>, buffer: &mut Vec<u8>) -> Printed {
+        let is_json = self.push_asked(buffer, item.head, item.body, &read)?;
         self.canonical.clear(0)?;
         let facts = self
             .known
-            .take(&mut self.session, head, body, read, &mut self.canonical)?;
-        self.push_facts(buffer, body, is_json, &facts)?;
+            .take(&mut self.session, item, read, &mut self.canonical)?;
+        self.push_facts(buffer, item.body, is_json, &facts)?;
         Ok(Given::more(Output::Bytes))
     }
 
-    fn finish(
-        &mut self,
-        _line_due: bool,
-        _buffer: &mut Vec<u8>,
-    ) -> Result<Option<Outcome>, EngineFault> {
+    fn finish(&mut self, _line_due: bool, _buffer: &mut Vec<u8>) -> Finished {
         Ok(Some(self.session.outcome()))
     }
 }

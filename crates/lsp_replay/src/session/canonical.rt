@@ -1,20 +1,34 @@
 //! The canonical bodies of accepted changes.
 
-ghost use Rattle.std.specs.Prelude.{ℕ, ℤ, ⊤, ◌≡◌, [], List, IfOk, OnOk, None, Some, length};
+ghost use Rattle.std.specs.Prelude.{ℕ, ℤ, ⊤, ◌≡◌, ◌≢◌, [], List, Err, IfErr, IfOk, OnErr, OnOk, None, Ok, Some, length};
 ghost use Rattle.lsp_text.specs.Units.{units_in};
 ghost use Rattle.lsp_text.specs.declared.encoding.Encoding.{Encoding};
 ghost use Rattle.lsp_edit.specs.Batch.{ContentChange};
+ghost use Rattle.lsp_store.specs.declared.fault.StoreFault.TheVariants.{NoMemory};
 ghost use Rattle.lsp_store.specs.Message.{canonical_body};
 ghost use Rattle.lsp_store.specs.Plan.{IsPlanOf, IsPlanOn};
 ghost use Rattle.lsp_replay.specs.Commands.{canonical_change_body};
 ghost use Rattle.lsp_replay.specs.inside.Verdicts.{IsAppended};
 
 use crate::session::Session;
-use crate::session::changes::unless_refused;
 use crate::session::witness::Witness;
 use lsp_message::ChangeParams;
-use lsp_store::{Plan, Store};
+use lsp_store::{Plan, Store, StoreFault};
 use std::alloc::{AllocError, Global};
+
+/// Returns the message, or `None` if it has too many changes or is too long. Fails only where
+/// memory ran out in making it.
+pub(crate) fn unless_refused<T>(message: Result<T, StoreFault>) -> Result<Option<T>, AllocError>
+    ensures ok { IfOk message (λ m. result ≡ Ok (Some m)) }
+    ensures refused { IfErr message (λ fault. IfOk result (λ m. (fault ≢ NoMemory) × (m ≡ None))) }
+    ensures memory { OnErr result (message ≡ Err NoMemory) }
+{
+    match message {
+        Ok(message) => Ok(Some(message)),
+        Err(StoreFault::NoMemory) => Err(AllocError),
+        Err(_) => Ok(None),
+    }
+}
 
 /// What was appended for an accepted change.
 #[derive(Clone, Copy, Debug, PartialEq, Eq)]

@@ -6,7 +6,7 @@ ghost use Rattle.lsp_server.specs.Planned.{IsPlanOfChange};
 ghost use Rattle.lsp_replay.specs.inside.Joining.{MayBeOpenIn, IsOpenIn, IsChangeWriting, IsBegun, IsJoined, server_after};
 
 use crate::session::Session;
-use crate::session::changes::unless_refused;
+use crate::session::canonical::unless_refused;
 use crate::session::witness::Witness;
 use lsp_message::ChangeParams;
 use lsp_server::Server;

@@ -1,4 +1,4 @@
-use Rattle.lsp_replay.proofs.Prelude.{rules, refl, arith, ◌≡◌, ◌-◌, ◌&&◌, not, ℕ, List, sym, ap, ◌∙◌, subst, length, take, drop, length-take, Consumes, err_from_is_err_and, state_of}
+use Rattle.lsp_replay.proofs.Prelude.{rules, refl, arith, ◌≡◌, ◌-◌, ◌&&◌, not, ℕ, List, sym, ap, ◌∙◌, subst, length, take, drop, length-take, Consumes, err_from_is_err_and, state_of, reading_by}
 use Rattle.lsp_replay.proofs.Runs.RunLemmas.{called_fault, piece_not_read, told_result, both_at_start, both_writes, both_reads, rose_more, told_fault, read_not_write, read_not_ended, n_is_zero, zero_is, passed_fault, passed_result, in_time}
 use Rattle.lsp_replay.proofs.Runs.FewLemmas.{few_fault, few_ok, few_result, more_reads, more_writes}
 use Rattle.lsp_replay.proofs.Runs.PieceLemmas.{runs_at_start, runs_on, runs_more, ran_stopped, ran_into_fault, ran_finished, ran_unread, ran_unopened, ran_refused, piece_whole, end_whole, not_at_end}
@@ -8,16 +8,10 @@ pub returns-in_err-opening-clause-run : goal.returns-in_err-opening-clause-run
 returns-in_err-opening-clause-run g c =
     let p = err_from_is_err_and c.from_residual.result c.from_residual.ensures.1 in
     record {
-      ran = rw (p.1, p.2) (ran_unopened (record {
-        max_body = c.args.rules.limits.max_body;
-        versions = c.args.rules.versions;
-        refuses_two = c.args.rules.refuses_two;
-      }) (g.H.Handler.run_output c.args.handler.now) (g.R.Source.seen c.args.ends.now.reader.now).left
+      ran = rw (p.1, p.2) (ran_unopened (reading_by c.args.rules) (g.H.Handler.run_output c.args.handler.now)
+          (g.R.Source.seen c.args.ends.now.reader.now).left
           (g.W.Sink.seen c.args.ends.now.writer.now).written
-          (g.R.Source.seen c.read_opening.new.reader).left _ _ (record {
-            silent = g.met.H.Handler.silent c.args.handler.now;
-            unstopped = g.met.H.Handler.unstopped c.args.handler.now;
-          })
+          (g.R.Source.seen c.read_opening.new.reader).left _ _ (g.met.H.Handler.quiet c.args.handler.now)
           (rw c.reader.ensures.value at c.in_err-opening.ensures.below) c.in_err-opening.ensures.calls.fault
           (λ is. ((rw c.reader.ensures.value at c.in_err-opening.ensures.calls.failed) is).1)
           (rw c.reader.ensures.value at c.in_err-opening.ensures.calls.not_ended));
@@ -32,11 +26,8 @@ pub returns-in_err-accept-clause-run : goal.returns-in_err-accept-clause-run
 returns-in_err-accept-clause-run g c =
     let p = err_from_is_err_and c.from_residual-in_err-accept.result c.from_residual-in_err-accept.ensures.1 in
     record {
-      ran = rw (p.1, p.2) (ran_refused (record {
-        max_body = c.args.rules.limits.max_body;
-        versions = c.args.rules.versions;
-        refuses_two = c.args.rules.refuses_two;
-      }) (g.H.Handler.run_output c.args.handler.now) (g.R.Source.seen c.args.ends.now.reader.now).left
+      ran = rw (p.1, p.2) (ran_refused (reading_by c.args.rules) (g.H.Handler.run_output c.args.handler.now)
+          (g.R.Source.seen c.args.ends.now.reader.now).left
           (g.W.Sink.seen c.args.ends.now.writer.now).written
           (g.R.Source.seen c.read_opening.new.reader).left _ _ _ c.in_ok-opening.opening.version
           c.in_err-accept.ensures.error (rw c.reader.ensures.value at c.in_ok-opening.ensures.read)
@@ -53,22 +44,15 @@ pieces-init g c = record {
   from = omega (arith, ap length c.line-from.ensures, c.in_ok-opening.ensures.line);
   to = c.in_ok-opening.ensures.bound;
   ready = c.new-splitter.ensures.ready;
-  runs = runs_at_start (record {
-    max_body = c.args.rules.limits.max_body;
-    versions = c.args.rules.versions;
-    refuses_two = c.args.rules.refuses_two;
-  }) (g.H.Handler.run_output c.args.handler.now) (g.R.Source.seen c.args.ends.now.reader.now).left
+  runs = runs_at_start (reading_by c.args.rules) (g.H.Handler.run_output c.args.handler.now)
+      (g.R.Source.seen c.args.ends.now.reader.now).left
       (g.W.Sink.seen c.args.ends.now.writer.now).written
       (g.R.Source.seen c.read_opening.new.reader).left c.in_ok-opening.opening.ended c.in_ok-opening.opening.len _ _ _
       c.new-splitter.result c.in_ok-opening.opening.version c.in_ok-opening.ensures.bound c.in_ok-opening.ensures.fits
       (ap length c.line-from.ensures) refl c.new-splitter.ensures.version
       (rw c.reader.ensures.value at c.in_ok-opening.ensures.read) c.in_ok-opening.ensures.known
       c.in_ok-opening.ensures.line c.in_ok-opening.ensures.front c.in_ok-accept.ensures.ok
-      (λ input more at_start. c.new-splitter.ensures.is_after (record {
-        max_body = c.args.rules.limits.max_body;
-        versions = c.args.rules.versions;
-        refuses_two = c.args.rules.refuses_two;
-      }) input more refl at_start);
+      (λ input more at_start. c.new-splitter.ensures.is_after (reading_by c.args.rules) input more refl at_start);
   ended = c.in_ok-opening.ensures.ended;
   at_end = c.in_ok-opening.ensures.at_end;
   rose = (rw c.reader.ensures.value at c.in_ok-opening.ensures.calls.rose);
@@ -88,29 +72,20 @@ pub returns-in_err-end-clause-run : goal.returns-in_err-end-clause-run
 returns-in_err-end-clause-run g c =
     let p = err_from_is_err_and c.from_residual-in_err-end.result c.from_residual-in_err-end.ensures.1 in
     record {
-      ran = rw (p.1, p.2) (ran_into_fault (record {
-        max_body = c.args.rules.limits.max_body;
-        versions = c.args.rules.versions;
-        refuses_two = c.args.rules.refuses_two;
-      }) (g.H.Handler.run_output c.args.handler.now) (g.R.Source.seen c.args.ends.now.reader.now).left
+      ran = rw (p.1, p.2) (ran_into_fault (reading_by c.args.rules) (g.H.Handler.run_output c.args.handler.now)
+          (g.R.Source.seen c.args.ends.now.reader.now).left
           (g.W.Sink.seen c.args.ends.now.writer.now).written
           (g.R.Source.seen c.pieces.ends.reader.now).left c.pieces.ended
           (state_of (g.R.Source.seen c.args.ends.now.reader.now).ended (g.R.Source.seen c.pieces.ends.reader.now).ended
-          (g.H.Handler.FLUSHES && not (g.W.Sink.seen c.take_piece.new.writer).flushed)) c.pieces.place _
+          (c.args.flushes && not (g.W.Sink.seen c.take_piece.new.writer).flushed)) c.pieces.place _
           c.pieces.splitter (g.H.Handler.run_output c.pieces.handler) (g.W.Sink.seen c.pieces.ends.writer.now).written
           (g.W.Sink.seen c.take_piece.new.writer).written _
-          (λ input w. (rw c.writer.ensures.value at c.in_err-end.ensures.error) (record {
-            max_body = c.args.rules.limits.max_body;
-            versions = c.args.rules.versions;
-            refuses_two = c.args.rules.refuses_two;
-          }) (g.H.Handler.run_output c.args.handler.now) (g.W.Sink.seen c.args.ends.now.writer.now).written input w)
+          (λ input w. (rw c.writer.ensures.value at c.in_err-end.ensures.error) (reading_by c.args.rules)
+          (g.H.Handler.run_output c.args.handler.now) (g.W.Sink.seen c.args.ends.now.writer.now).written input w)
           c.pieces.invariant.runs);
       called = let runs = c.pieces.invariant.runs in
-          let why = (rw c.writer.ensures.value at c.in_err-end.ensures.error) (record {
-            max_body = c.args.rules.limits.max_body;
-            versions = c.args.rules.versions;
-            refuses_two = c.args.rules.refuses_two;
-          }) (g.H.Handler.run_output c.args.handler.now) (g.W.Sink.seen c.args.ends.now.writer.now).written runs.input
+          let why = (rw c.writer.ensures.value at c.in_err-end.ensures.error) (reading_by c.args.rules)
+          (g.H.Handler.run_output c.args.handler.now) (g.W.Sink.seen c.args.ends.now.writer.now).written runs.input
           runs.progress in
           rw (p.1, p.2) (called_fault _ _ _ _ _ c.take_piece.new.turns.left _ _ _ _ _
           (both_writes _ _ _ _ _ _ _ _ c.pieces.invariant.spent
@@ -136,23 +111,17 @@ returns-in_err-end-clause-run g c =
 pub returns-in-Some-clause-run : goal.returns-in-Some-clause-run
 returns-in-Some-clause-run g c =
     record {
-      ran = ran_stopped (record {
-        max_body = c.args.rules.limits.max_body;
-        versions = c.args.rules.versions;
-        refuses_two = c.args.rules.refuses_two;
-      }) (g.H.Handler.run_output c.args.handler.now) (g.R.Source.seen c.args.ends.now.reader.now).left
+      ran = ran_stopped (reading_by c.args.rules) (g.H.Handler.run_output c.args.handler.now)
+          (g.R.Source.seen c.args.ends.now.reader.now).left
           (g.W.Sink.seen c.args.ends.now.writer.now).written
           (g.R.Source.seen c.pieces.ends.reader.now).left c.pieces.ended
           (state_of (g.R.Source.seen c.args.ends.now.reader.now).ended (g.R.Source.seen c.pieces.ends.reader.now).ended
-          (g.H.Handler.FLUSHES && not (g.W.Sink.seen c.take_piece.new.writer).flushed)) c.pieces.place _
+          (c.args.flushes && not (g.W.Sink.seen c.take_piece.new.writer).flushed)) c.pieces.place _
           c.pieces.splitter (g.H.Handler.run_output c.pieces.handler) (g.W.Sink.seen c.pieces.ends.writer.now).written
           (g.W.Sink.seen c.take_piece.new.writer).written c.in-Some.outcome
           (λ input w. rw c.in-Some.is at ((rw c.writer.ensures.value at c.in_ok-end.ensures.progress)
-          (record {
-            max_body = c.args.rules.limits.max_body;
-            versions = c.args.rules.versions;
-            refuses_two = c.args.rules.refuses_two;
-          }) (g.H.Handler.run_output c.args.handler.now) (g.W.Sink.seen c.args.ends.now.writer.now).written input w))
+          (reading_by c.args.rules) (g.H.Handler.run_output c.args.handler.now)
+          (g.W.Sink.seen c.args.ends.now.writer.now).written input w))
           c.pieces.invariant.runs;
       called = search rules;
       few = few_ok _ _ _ c.pieces.invariant.few_reads (more_writes (g.W.Sink.seen c.args.ends.now.writer.now)
@@ -166,36 +135,27 @@ returns-in-Some-clause-run g c =
 pub returns-then-ended-clause-run : goal.returns-then-ended-clause-run
 returns-then-ended-clause-run g c =
     record {
-      ran = ran_finished (record {
-        max_body = c.args.rules.limits.max_body;
-        versions = c.args.rules.versions;
-        refuses_two = c.args.rules.refuses_two;
-      }) (g.H.Handler.run_output c.args.handler.now) (g.R.Source.seen c.args.ends.now.reader.now).left
+      ran = ran_finished (reading_by c.args.rules) (g.H.Handler.run_output c.args.handler.now)
+          (g.R.Source.seen c.args.ends.now.reader.now).left
           (g.W.Sink.seen c.args.ends.now.writer.now).written
           (g.R.Source.seen c.pieces.ends.reader.now).left c.pieces.ended
           (state_of (g.R.Source.seen c.args.ends.now.reader.now).ended (g.R.Source.seen c.pieces.ends.reader.now).ended
-          (g.H.Handler.FLUSHES && not (g.W.Sink.seen c.finish_run.new.writer).flushed)) c.pieces.place
+          (c.args.flushes && not (g.W.Sink.seen c.finish_run.new.writer).flushed)) c.pieces.place
           c.take_piece.new.splitter (g.H.Handler.run_output c.take_piece.new.handler)
           (g.W.Sink.seen c.take_piece.new.writer).written (g.W.Sink.seen c.finish_run.new.writer).written
           c.finish_run.result (c.pieces.invariant.ended.1 c.if-ended.true)
           (rw c.writer-then-ended.ensures.value at c.finish_run.ensures.at_end)
           (rw c.writer-then-ended.ensures.value at c.finish_run.ensures.error)
-          (runs_on (record {
-            max_body = c.args.rules.limits.max_body;
-            versions = c.args.rules.versions;
-            refuses_two = c.args.rules.refuses_two;
-          }) (g.H.Handler.run_output c.args.handler.now) (g.R.Source.seen c.args.ends.now.reader.now).left
+          (runs_on (reading_by c.args.rules) (g.H.Handler.run_output c.args.handler.now)
+          (g.R.Source.seen c.args.ends.now.reader.now).left
           (g.W.Sink.seen c.args.ends.now.writer.now).written (g.R.Source.seen c.pieces.ends.reader.now).left
           c.pieces.ended c.pieces.place _ c.pieces.splitter c.take_piece.new.splitter
           (g.H.Handler.run_output c.pieces.handler) (g.H.Handler.run_output c.take_piece.new.handler)
           (g.W.Sink.seen c.pieces.ends.writer.now).written (g.W.Sink.seen c.take_piece.new.writer).written
           c.in_ok-end.ensures.version
           (λ input w. rw c.in_default.is at ((rw c.writer.ensures.value at c.in_ok-end.ensures.progress)
-          (record {
-            max_body = c.args.rules.limits.max_body;
-            versions = c.args.rules.versions;
-            refuses_two = c.args.rules.refuses_two;
-          }) (g.H.Handler.run_output c.args.handler.now) (g.W.Sink.seen c.args.ends.now.writer.now).written input w))
+          (reading_by c.args.rules) (g.H.Handler.run_output c.args.handler.now)
+          (g.W.Sink.seen c.args.ends.now.writer.now).written input w))
           c.pieces.invariant.runs);
       called = search rules;
       few = few_result _ _ (g.W.Sink.seen c.take_piece.new.writer) c.finish_run.result c.pieces.invariant.few_reads
@@ -222,39 +182,28 @@ pub returns-in_err-to-clause-run : goal.returns-in_err-to-clause-run
 returns-in_err-to-clause-run g c =
     let p = err_from_is_err_and c.from_residual-in_err-to.result c.from_residual-in_err-to.ensures.1 in
     record {
-      ran = rw (p.1, p.2) (ran_unread (record {
-        max_body = c.args.rules.limits.max_body;
-        versions = c.args.rules.versions;
-        refuses_two = c.args.rules.refuses_two;
-      }) (g.H.Handler.run_output c.args.handler.now) (g.R.Source.seen c.args.ends.now.reader.now).left
+      ran = rw (p.1, p.2) (ran_unread (reading_by c.args.rules) (g.H.Handler.run_output c.args.handler.now)
+          (g.R.Source.seen c.args.ends.now.reader.now).left
           (g.W.Sink.seen c.args.ends.now.writer.now).written
           (g.R.Source.seen c.pieces.ends.reader.now).left (g.R.Source.seen c.read_piece.new.reader).left c.pieces.ended
           _ c.pieces.place c.take_piece.new.splitter (g.H.Handler.run_output c.take_piece.new.handler)
           (g.W.Sink.seen c.take_piece.new.writer).written _
-          c.reading_laws.ensures.rest c.in_ok-end.ensures.ready (record {
-            silent = g.met.H.Handler.silent c.take_piece.new.handler;
-            unstopped = g.met.H.Handler.unstopped c.take_piece.new.handler;
-          }) (rw c.reader-in-pieces.ensures.value at c.in_err-to.ensures.kept) c.in_err-to.ensures.calls.fault
+          c.reading_laws.ensures.rest c.in_ok-end.ensures.ready (g.met.H.Handler.quiet c.take_piece.new.handler)
+          (rw c.reader-in-pieces.ensures.value at c.in_err-to.ensures.kept) c.in_err-to.ensures.calls.fault
           (λ is. ((rw c.reader-in-pieces.ensures.value at c.in_err-to.ensures.calls.failed) is).1)
           (λ is _. (rw c.reader-in-pieces.ensures.value at c.in_err-to.ensures.calls.not_ended) is
           (not_at_end (g.R.Source.seen c.pieces.ends.reader.now).ended c.pieces.ended c.pieces.invariant.ended.0
           c.if-ended.false))
-          (runs_on (record {
-            max_body = c.args.rules.limits.max_body;
-            versions = c.args.rules.versions;
-            refuses_two = c.args.rules.refuses_two;
-          }) (g.H.Handler.run_output c.args.handler.now) (g.R.Source.seen c.args.ends.now.reader.now).left
+          (runs_on (reading_by c.args.rules) (g.H.Handler.run_output c.args.handler.now)
+          (g.R.Source.seen c.args.ends.now.reader.now).left
           (g.W.Sink.seen c.args.ends.now.writer.now).written (g.R.Source.seen c.pieces.ends.reader.now).left
           c.pieces.ended c.pieces.place _ c.pieces.splitter c.take_piece.new.splitter
           (g.H.Handler.run_output c.pieces.handler) (g.H.Handler.run_output c.take_piece.new.handler)
           (g.W.Sink.seen c.pieces.ends.writer.now).written (g.W.Sink.seen c.take_piece.new.writer).written
           c.in_ok-end.ensures.version
           (λ input w. rw c.in_default.is at ((rw c.writer.ensures.value at c.in_ok-end.ensures.progress)
-          (record {
-            max_body = c.args.rules.limits.max_body;
-            versions = c.args.rules.versions;
-            refuses_two = c.args.rules.refuses_two;
-          }) (g.H.Handler.run_output c.args.handler.now) (g.W.Sink.seen c.args.ends.now.writer.now).written input w))
+          (reading_by c.args.rules) (g.H.Handler.run_output c.args.handler.now)
+          (g.W.Sink.seen c.args.ends.now.writer.now).written input w))
           c.pieces.invariant.runs));
       called = rw (p.1, p.2) (called_fault _ _ _ _ _ c.read_piece.new.turns.left _ _ _ _ _
           (both_reads _ _ _ _ _ _ _ _ (both_writes _ _ _ _ _ _ _ _ c.pieces.invariant.spent
@@ -291,11 +240,8 @@ pieces-preserved g c =
       from = omega arith;
       to = c.in_ok-to.ensures.bound;
       ready = c.in_ok-end.ensures.ready;
-      runs = runs_more (record {
-        max_body = c.args.rules.limits.max_body;
-        versions = c.args.rules.versions;
-        refuses_two = c.args.rules.refuses_two;
-      }) (g.H.Handler.run_output c.args.handler.now) (g.R.Source.seen c.args.ends.now.reader.now).left
+      runs = runs_more (reading_by c.args.rules) (g.H.Handler.run_output c.args.handler.now)
+          (g.R.Source.seen c.args.ends.now.reader.now).left
           (g.W.Sink.seen c.args.ends.now.writer.now).written
           (g.R.Source.seen c.pieces.ends.reader.now).left (g.R.Source.seen c.read_piece.new.reader).left c.pieces.ended
           _ c.pieces.place c.saturating_add-place.result c.in_ok-to.to _ c.take_piece.new.splitter
@@ -306,22 +252,16 @@ pieces-preserved g c =
           (subst (λ (z : List ℕ). Consumes (g.R.Source.seen c.pieces.ends.reader.now).left
           (g.R.Source.seen c.read_piece.new.reader).left z) (sym piece)
           (rw c.reader-in-pieces.ensures.value at c.in_ok-to.ensures.read))
-          (runs_on (record {
-            max_body = c.args.rules.limits.max_body;
-            versions = c.args.rules.versions;
-            refuses_two = c.args.rules.refuses_two;
-          }) (g.H.Handler.run_output c.args.handler.now) (g.R.Source.seen c.args.ends.now.reader.now).left
+          (runs_on (reading_by c.args.rules) (g.H.Handler.run_output c.args.handler.now)
+          (g.R.Source.seen c.args.ends.now.reader.now).left
           (g.W.Sink.seen c.args.ends.now.writer.now).written (g.R.Source.seen c.pieces.ends.reader.now).left
           c.pieces.ended c.pieces.place _ c.pieces.splitter c.take_piece.new.splitter
           (g.H.Handler.run_output c.pieces.handler) (g.H.Handler.run_output c.take_piece.new.handler)
           (g.W.Sink.seen c.pieces.ends.writer.now).written (g.W.Sink.seen c.take_piece.new.writer).written
           c.in_ok-end.ensures.version
           (λ input w. rw c.in_default.is at ((rw c.writer.ensures.value at c.in_ok-end.ensures.progress)
-          (record {
-            max_body = c.args.rules.limits.max_body;
-            versions = c.args.rules.versions;
-            refuses_two = c.args.rules.refuses_two;
-          }) (g.H.Handler.run_output c.args.handler.now) (g.W.Sink.seen c.args.ends.now.writer.now).written input w))
+          (reading_by c.args.rules) (g.H.Handler.run_output c.args.handler.now)
+          (g.W.Sink.seen c.args.ends.now.writer.now).written input w))
           c.pieces.invariant.runs);
       ended = (
         λ error. n_is_zero c.in_ok-to.to (c.in_ok-to.ensures.ended.0 error),
@@ -354,49 +294,34 @@ pieces-preserved g c =
 pub returns-in_err-end-clause-whole : goal.returns-in_err-end-clause-whole
 returns-in_err-end-clause-whole g c =
     let p = err_from_is_err_and c.from_residual-in_err-end.result c.from_residual-in_err-end.ensures.1 in
-    rw (p.1, p.2) (λ _ is. piece_whole (record {
-      max_body = c.args.rules.limits.max_body;
-      versions = c.args.rules.versions;
-      refuses_two = c.args.rules.refuses_two;
-    }) (g.H.Handler.run_output c.args.handler.now) (g.R.Source.seen c.args.ends.now.reader.now).left
+    rw (p.1, p.2) (λ _ is. piece_whole (reading_by c.args.rules) (g.H.Handler.run_output c.args.handler.now)
+    (g.R.Source.seen c.args.ends.now.reader.now).left
     (g.W.Sink.seen c.args.ends.now.writer.now).written
     (g.R.Source.seen c.pieces.ends.reader.now).left c.pieces.ended c.pieces.place _ c.pieces.splitter
     (g.H.Handler.run_output c.pieces.handler) (g.W.Sink.seen c.pieces.ends.writer.now).written
     (g.W.Sink.seen c.take_piece.new.writer).written _ _
-    (λ input w. (rw c.writer.ensures.value at c.in_err-end.ensures.error) (record {
-      max_body = c.args.rules.limits.max_body;
-      versions = c.args.rules.versions;
-      refuses_two = c.args.rules.refuses_two;
-    }) (g.H.Handler.run_output c.args.handler.now) (g.W.Sink.seen c.args.ends.now.writer.now).written input w)
+    (λ input w. (rw c.writer.ensures.value at c.in_err-end.ensures.error) (reading_by c.args.rules)
+    (g.H.Handler.run_output c.args.handler.now) (g.W.Sink.seen c.args.ends.now.writer.now).written input w)
     c.pieces.invariant.runs is)
 
 pub returns-then-ended-clause-whole : goal.returns-then-ended-clause-whole
 returns-then-ended-clause-whole g c = λ one is.
-    end_whole (record {
-      max_body = c.args.rules.limits.max_body;
-      versions = c.args.rules.versions;
-      refuses_two = c.args.rules.refuses_two;
-    }) (g.H.Handler.run_output c.args.handler.now) (g.R.Source.seen c.args.ends.now.reader.now).left
+    end_whole (reading_by c.args.rules) (g.H.Handler.run_output c.args.handler.now)
+    (g.R.Source.seen c.args.ends.now.reader.now).left
     (g.W.Sink.seen c.args.ends.now.writer.now).written
     (g.R.Source.seen c.pieces.ends.reader.now).left c.pieces.ended c.pieces.place c.take_piece.new.splitter
     (g.H.Handler.run_output c.take_piece.new.handler) (g.W.Sink.seen c.take_piece.new.writer).written
     (g.W.Sink.seen c.finish_run.new.writer).written
     _ c.finish_run.result (rw c.writer-then-ended.ensures.value at c.finish_run.ensures.whole)
     (one c.take_piece.new.handler)
-    (runs_on (record {
-      max_body = c.args.rules.limits.max_body;
-      versions = c.args.rules.versions;
-      refuses_two = c.args.rules.refuses_two;
-    }) (g.H.Handler.run_output c.args.handler.now) (g.R.Source.seen c.args.ends.now.reader.now).left
+    (runs_on (reading_by c.args.rules) (g.H.Handler.run_output c.args.handler.now)
+    (g.R.Source.seen c.args.ends.now.reader.now).left
     (g.W.Sink.seen c.args.ends.now.writer.now).written (g.R.Source.seen c.pieces.ends.reader.now).left c.pieces.ended
     c.pieces.place _ c.pieces.splitter c.take_piece.new.splitter
     (g.H.Handler.run_output c.pieces.handler) (g.H.Handler.run_output c.take_piece.new.handler)
     (g.W.Sink.seen c.pieces.ends.writer.now).written (g.W.Sink.seen c.take_piece.new.writer).written
     c.in_ok-end.ensures.version
     (λ input w. rw c.in_default.is at ((rw c.writer.ensures.value at c.in_ok-end.ensures.progress)
-    (record {
-      max_body = c.args.rules.limits.max_body;
-      versions = c.args.rules.versions;
-      refuses_two = c.args.rules.refuses_two;
-    }) (g.H.Handler.run_output c.args.handler.now) (g.W.Sink.seen c.args.ends.now.writer.now).written input w))
+    (reading_by c.args.rules) (g.H.Handler.run_output c.args.handler.now)
+    (g.W.Sink.seen c.args.ends.now.writer.now).written input w))
     c.pieces.invariant.runs) is

@@ -1,4 +1,4 @@
-use Rattle.lsp_replay.proofs.Prelude.{◌≡◌, ◌≤◌, ◌↔◌, ◌-◌, true, length, take, drop, IsAtEnd, FewReads, FewWrites, Rose, IsReady, StaysWell, StaysFlushed, Runs, BothSpend}
+use Rattle.lsp_replay.proofs.Prelude.{◌≡◌, ◌≤◌, ◌↔◌, ◌-◌, true, length, take, drop, IsAtEnd, FewReads, FewWrites, Rose, IsReady, StaysWell, StaysFlushed, Runs, BothSpend, reading_by}
 use Rattle.lsp_replay.proofs.engine.run_on.Given as goal
 
 abbrev pub invariant-pieces : goal.invariant-pieces
@@ -6,11 +6,7 @@ invariant-pieces g l = record {
   from : l.from ≤ l.to;
   to : l.to ≤ length l.buf;
   ready : IsReady l.splitter;
-  runs : Runs (record {
-    max_body = l.fn.rules.limits.max_body;
-    versions = l.fn.rules.versions;
-    refuses_two = l.fn.rules.refuses_two;
-  }) (g.H.Handler.run_output l.fn.handler) (g.R.Source.seen l.fn.ends.reader.now).left
+  runs : Runs (reading_by l.fn.rules) (g.H.Handler.run_output l.fn.handler) (g.R.Source.seen l.fn.ends.reader.now).left
       (g.W.Sink.seen l.fn.ends.writer.now).written
       (g.R.Source.seen l.ends.reader.now).left l.ended l.place (take (l.to - l.from) (drop l.from l.buf)) l.splitter
       (g.H.Handler.run_output l.handler) (g.W.Sink.seen l.ends.writer.now).written;
@@ -19,9 +15,9 @@ invariant-pieces g l = record {
   rose : Rose (g.R.Source.seen l.fn.ends.reader.now).calls (g.R.Source.seen l.ends.reader.now).calls;
   reads_well : StaysWell (g.R.Source.seen l.fn.ends.reader.now).failed (g.R.Source.seen l.ends.reader.now).failed;
   writes_well : StaysWell (g.W.Sink.seen l.fn.ends.writer.now).failed (g.W.Sink.seen l.ends.writer.now).failed;
-  flushed : g.H.Handler.FLUSHES ≡ true → StaysFlushed (g.W.Sink.seen l.fn.ends.writer.now).flushed
+  flushed : l.flushes ≡ true → StaysFlushed (g.W.Sink.seen l.fn.ends.writer.now).flushed
       (g.W.Sink.seen l.ends.writer.now).flushed;
-  in_time : g.H.Handler.FLUSHES ≡ true → (g.W.Sink.seen l.fn.ends.writer.now).flushed ≡ true → l.ends.read_early
+  in_time : l.flushes ≡ true → (g.W.Sink.seen l.fn.ends.writer.now).flushed ≡ true → l.ends.read_early
       ≡ l.fn.ends.read_early;
   same_reader : l.ends.reader.ghost_name ≡ l.fn.ends.reader.ghost_name;
   same_writer : l.ends.writer.ghost_name ≡ l.fn.ends.writer.ghost_name;

@@ -1,4 +1,4 @@
-use Rattle.lsp_replay.proofs.Prelude.{Bool, ◌&&◌, not, List, ℕ, [], ◌++◌, sym, ◌∙◌, ap, subst, append_assoc, arith, err_from_is_err_and, Appends, Appends-trans, AppendsFront, AppendsShort, common_steps}
+use Rattle.lsp_replay.proofs.Prelude.{◌&&◌, not, List, ℕ, [], ◌++◌, sym, ◌∙◌, ap, subst, append_assoc, arith, err_from_is_err_and, Appends, Appends-trans, AppendsFront, AppendsShort, common_steps}
 use Rattle.lsp_replay.proofs.Runs.EngineLemmas.{part_cut, part_short, part_is}
 use Rattle.lsp_replay.proofs.engine.write_last.Goals as goal
 
@@ -26,11 +26,9 @@ returns-in_err-write_given-clause-short g c =
       p.2,
     ) (λ is. part_short _ _ _ _ _ before.0 c.finish.new.buffer.items part.0 (before.1 ∙ ap (λ z. before.0 ++ z) part.1)
     before.2
-    (subst (λ (z : List ℕ). AppendsShort (g.H.Handler.FLUSHES && not (g.W.Sink.seen c.write_given.new.writer).flushed)
+    (subst (λ (z : List ℕ). AppendsShort (c.args.flushes && not (g.W.Sink.seen c.write_given.new.writer).flushed)
     (g.W.Sink.seen c.parts.writer).written (g.W.Sink.seen c.write_given.new.writer).written z) c.deref.ensures.value
-    (subst (λ (asked : Bool). AppendsShort (asked && not (g.W.Sink.seen c.write_given.new.writer).flushed)
-    (g.W.Sink.seen c.parts.writer).written (g.W.Sink.seen c.write_given.new.writer).written c.deref.result.now)
-    c.FLUSHES.ensures (c.in_err-write_given.ensures.short is))))
+    (c.in_err-write_given.ensures.short is)))
 
 pub parts-preserved : goal.parts-preserved
 parts-preserved g c =
@@ -50,7 +48,7 @@ parts-preserved g c =
       first = λ one. absurd (omega (arith, part.2, (c.parts.invariant.first one).0));
       outcome = part.1 ∙ c.parts.invariant.outcome;
       well = λ before. c.in_ok-write_given.ensures.calls.well (c.parts.invariant.well before);
-      flushed = λ holds _. c.in_ok-write_given.ensures.flushed (c.FLUSHES.ensures ∙ holds);
+      flushed = λ holds _. c.in_ok-write_given.ensures.flushed holds;
       few = omega (arith, c.parts.invariant.few, c.in_ok-write_given.ensures.few.ok);
       spent = record {
         within = omega (arith, c.parts.invariant.spent.within, c.in_ok-write_given.ensures.calls.spent.within);

@@ -10,7 +10,7 @@ invariant-parts g l = record {
       × Appends (g.W.Sink.seen l.fn.writer).written (g.W.Sink.seen l.writer).written [];
   outcome : (g.H.Handler.run_output l.handler []).outcome ≡ (g.H.Handler.run_output l.fn.handler []).outcome;
   well : StaysWell (g.W.Sink.seen l.fn.writer).failed (g.W.Sink.seen l.writer).failed;
-  flushed : g.H.Handler.FLUSHES ≡ true → StaysFlushed (g.W.Sink.seen l.fn.writer).flushed
+  flushed : l.flushes ≡ true → StaysFlushed (g.W.Sink.seen l.fn.writer).flushed
       (g.W.Sink.seen l.writer).flushed;
   few : FewWrites (g.W.Sink.seen l.fn.writer) (g.W.Sink.seen l.writer);
   spent : Spends (g.W.Sink.seen l.fn.writer).calls (g.W.Sink.seen l.writer).calls l.fn.turns.left l.turns.left;

@@ -6,22 +6,22 @@ use Rattle.lsp_replay.proofs.pipeline.PipelineHandler.handle.Goals as goal
 
 pub returns-clause-ok : goal.returns-clause-ok
 returns-clause-ok g c =
-    let admitted = rw c.in-Some.is at (c.in_ok-head.ensures.admitted c.args.body.now c.in_ok-read.ensures) in
+    let admitted = rw c.in-Some.is at (c.in_ok-head.ensures.admitted c.args.item.now.body.now c.in_ok-read.ensures) in
     when_ok c.print.result
     (λ session given step.
-    printed (g.P.Printer.reached c.args.self.now.printer) c.args.head c.args.raw.now c.args.body.now
-    c.args.self.now.selection c.admit.new.self.selection c.in-Some.head admitted
+    printed (g.P.Printer.reached c.args.self.now.printer) c.args.item.now.head c.args.item.now.raw.now
+    c.args.item.now.body.now c.args.self.now.selection c.admit.new.self.selection c.in-Some.head admitted
     (g.P.Printer.reached c.print.new.self) session
     (g.P.Printer.run_output c.args.self.now.printer) (g.P.Printer.run_output c.print.new.self)
-    (output_of given.output c.args.raw.now c.print.new.buffer.items) given.end step)
+    (output_of given.output c.args.item.now.raw.now c.print.new.buffer.items) given.end step)
     (rw c.admit.ensures.printer at c.print.ensures.session) (rw c.admit.ensures.printer at c.print.ensures.ok)
 
 pub returns-clause-error : goal.returns-clause-error
 returns-clause-error g c =
-    let admitted = rw c.in-Some.is at (c.in_ok-head.ensures.admitted c.args.body.now c.in_ok-read.ensures) in
+    let admitted = rw c.in-Some.is at (c.in_ok-head.ensures.admitted c.args.item.now.body.now c.in_ok-read.ensures) in
     when_err c.print.result
     (λ fault is.
-    failed (g.P.Printer.reached c.args.self.now.printer) c.args.head c.args.raw.now c.args.body.now
-    c.args.self.now.selection c.admit.new.self.selection c.in-Some.head admitted
+    failed (g.P.Printer.reached c.args.self.now.printer) c.args.item.now.head c.args.item.now.raw.now
+    c.args.item.now.body.now c.args.self.now.selection c.admit.new.self.selection c.in-Some.head admitted
     (g.P.Printer.run_output c.args.self.now.printer) fault is)
     (rw c.admit.ensures.printer at c.print.ensures.error)

@@ -1,11 +1,11 @@
-use Rattle.lsp_replay.proofs.Prelude.{ap, ◌∙◌, Record, explaining, Session}
+use Rattle.lsp_replay.proofs.Prelude.{ap, ◌∙◌, explaining, Session, record_of}
 use Rattle.lsp_replay.proofs.Reports.ExplainLemmas.{line_is}
 use Rattle.lsp_replay.proofs.KnownLemmas.{line_first}
 use Rattle.lsp_replay.proofs.printer.explaining.ExplainPrinter.print.Goals as goal
 
 pub returns-clause-ok : goal.returns-clause-ok
 returns-clause-ok c = λ more.
-    let r : Record = record { head = c.args.head; raw = c.args._raw.now; body = c.args.body.now } in
+    let r = record_of c.args.item.now in
     let listing = c.args.self.now.listing in
     let known = c.args.self.now.known in
     let s = c.args.self.now.session in

@@ -5,13 +5,13 @@ use Rattle.lsp_replay.proofs.printer.normalising.NormalisePrinter.print.Goals as
 pub push_record-requires : goal.push_record-requires
 push_record-requires c =
     room_left c.in_ok-clear.ensures.nothing c.in_ok-clear.ensures.room
-    (c.in_ok-taken.ensures c.args.head c.args._body.now c.requires.is_read)
+    (c.in_ok-taken.ensures c.args.item.now.head c.args.item.now.body.now c.requires.is_read)
 
 pub returns-clause-ok : goal.returns-clause-ok
 returns-clause-ok c = λ more.
     rw c.more.ensures
     (printed c.in_ok-clear.ensures.nothing c.in_ok-clear.ensures.room
-    (c.in_ok-taken.ensures c.args.head c.args._body.now c.requires.is_read) c.args.raw.now
+    (c.in_ok-taken.ensures c.args.item.now.head c.args.item.now.body.now c.requires.is_read) c.args.item.now.raw.now
     c.in_ok-in_log.ensures.in_log _ c.in_ok-output.ensures.ok more)
 
 pub returns-in_err-output-clause-error : goal.returns-in_err-output-clause-error
@@ -19,5 +19,5 @@ returns-in_err-output-clause-error c =
     let p = err_from_is_err_and c.from_residual-in_err-output.result c.from_residual-in_err-output.ensures.1 in
     rw (p.1, p.2)
     (not_printed c.in_ok-clear.ensures.nothing c.in_ok-clear.ensures.room
-    (c.in_ok-taken.ensures c.args.head c.args._body.now c.requires.is_read) c.args.raw.now
+    (c.in_ok-taken.ensures c.args.item.now.head c.args.item.now.body.now c.requires.is_read) c.args.item.now.raw.now
     c.in_ok-in_log.ensures.in_log c.in_err-output.field-0.0 c.in_err-output.ensures.error)

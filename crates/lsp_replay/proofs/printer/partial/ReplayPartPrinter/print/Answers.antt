@@ -1,15 +1,15 @@
-use Rattle.lsp_replay.proofs.Prelude.{sym, ◌∙◌, option_map, string_bytes, Record, part_data, refreshed, body_view, found_now, verdict_view}
+use Rattle.lsp_replay.proofs.Prelude.{sym, ◌∙◌, option_map, string_bytes, part_data, refreshed, body_view, found_now, verdict_view, record_of}
 use Rattle.lsp_replay.proofs.Reports.PartLemmas.{found_next, part_continues, part_ends}
 use Rattle.lsp_replay.proofs.printer.partial.ReplayPartPrinter.print.Goals as goal
 
 pub returns-then-not-is_last-clause-ok : goal.returns-then-not-is_last-clause-ok
 returns-then-not-is_last-clause-ok c = λ more.
-    let r : Record = record { head = c.args.head; raw = c.args._raw.now; body = c.args._body.now } in
+    let r = record_of c.args.item.now in
     let part = part_data c.args.self.now.part in
     let s = c.args.self.now.session in
     let verdict = verdict_view c.in_ok-verdict.verdict in
-    let judged = c.in_ok-verdict.ensures.taken c.args._body.now c.requires.is_read in
-    let session = c.in_ok-verdict.ensures.session c.args._body.now c.requires.is_read in
+    let judged = c.in_ok-verdict.ensures.taken c.args.item.now.body.now c.requires.is_read in
+    let session = c.in_ok-verdict.ensures.session c.args.item.now.body.now c.requires.is_read in
     let next = found_next part s c.accept.new.self r verdict judged session (body_view c.args.read) c.requires.is_read
     c.args.self.now.chosen c.keep.new.self c.take.new.self (option_map string_bytes c.in_ok-closed.closed)
     (option_map string_bytes c.in_ok-uri.uri) (option_map string_bytes c.opened_if-opened.result)
@@ -22,12 +22,12 @@ returns-then-not-is_last-clause-ok c = λ more.
 
 pub returns-clause-ok : goal.returns-clause-ok
 returns-clause-ok c = λ more.
-    let r : Record = record { head = c.args.head; raw = c.args._raw.now; body = c.args._body.now } in
+    let r = record_of c.args.item.now in
     let part = part_data c.args.self.now.part in
     let s = c.args.self.now.session in
     let verdict = verdict_view c.in_ok-verdict.verdict in
-    let judged = c.in_ok-verdict.ensures.taken c.args._body.now c.requires.is_read in
-    let session = c.in_ok-verdict.ensures.session c.args._body.now c.requires.is_read in
+    let judged = c.in_ok-verdict.ensures.taken c.args.item.now.body.now c.requires.is_read in
+    let session = c.in_ok-verdict.ensures.session c.args.item.now.body.now c.requires.is_read in
     let next = found_next part s c.accept.new.self r verdict judged session (body_view c.args.read) c.requires.is_read
     c.args.self.now.chosen c.keep.new.self c.take.new.self (option_map string_bytes c.in_ok-closed.closed)
     (option_map string_bytes c.in_ok-uri.uri) (option_map string_bytes c.opened_if-opened.result)

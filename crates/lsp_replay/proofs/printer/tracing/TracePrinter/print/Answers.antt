@@ -1,4 +1,4 @@
-use Rattle.lsp_replay.proofs.Prelude.{◌≡◌, ◌++◌, ◌∷◌, sym, subst, ◌∙◌, nil_from_length, Record, reading, incoming_of, one_more, written_first, first_members, tracing, lines_in}
+use Rattle.lsp_replay.proofs.Prelude.{◌≡◌, ◌++◌, ◌∷◌, sym, subst, ◌∙◌, nil_from_length, reading, incoming_of, one_more, written_first, first_members, tracing, lines_in, record_of}
 use Rattle.lsp_replay.specs.declared.printer.tracing.Trace.{Trace}
 use Rattle.lsp_replay.proofs.KnownLemmas.{line_first}
 use Rattle.lsp_replay.proofs.Records.TakenLemmas.{seen_written}
@@ -7,7 +7,7 @@ use Rattle.lsp_replay.proofs.printer.tracing.TracePrinter.print.Goals as goal
 
 pub returns-clause-ok : goal.returns-clause-ok
 returns-clause-ok c = λ more.
-    let r : Record = record { head = c.args.head; raw = c.args._raw.now; body = c.args.body.now } in
+    let r = record_of c.args.item.now in
     let old = c.push_asked.new.self in
     let same = c.push_asked.ensures.unchanged in
     let t = c.take.new.session in
@@ -15,10 +15,10 @@ returns-clause-ok c = λ more.
     let facts = c.in_ok-facts.ensures.facts in
     let session = c.in_ok-facts.ensures.session in
     let before = c.clear.new.self in
-    let written = seen_written old.session t c.args.head c.args.body.now before c.take.new.witness
+    let written = seen_written old.session t c.args.item.now.head c.args.item.now.body.now before c.take.new.witness
     c.in_ok-clear.ensures.nothing c.in_ok-facts.ensures.shown in
     let members = subst (λ (trace : Trace). c.push_asked.new.buffer.items ≡ c.args.buffer.now.items
-    ++ first_members (one_more trace.session.records) c.args.head (incoming_of (reading c.args.body.now)))
+    ++ first_members (one_more trace.session.records) r.head (incoming_of (reading r.body)))
     (sym same) c.in_ok-is_json.ensures.members in
     rw c.more.ensures
     (subst (λ (trace : Trace). lines_in (tracing trace.details) trace.known trace.session (r ∷ more)

@@ -1,5 +1,5 @@
 use Rattle.lsp_replay.proofs.Prelude.{ℕ, ◌≡◌, ◌≤◌, ◌-◌, true, List, Option, length, drop, FewWrites, Spends, StaysWell, StaysFlushed, LogRules, Record, IsReady, RunOutput, IsProgress}
-use Rattle.lsp_replay.proofs.engine.records.take_piece.Given as goal
+use Rattle.lsp_replay.proofs.engine.take_piece.Given as goal
 
 abbrev pub invariant-bytes : goal.invariant-bytes
 invariant-bytes g l = record {
@@ -12,7 +12,7 @@ invariant-bytes g l = record {
       IsProgress log_rules run_output received input (drop l.at l.piece) l.splitter (g.H.Handler.run_output l.handler)
       (g.W.Sink.seen l.writer).written;
   well : StaysWell (g.W.Sink.seen l.fn.writer).failed (g.W.Sink.seen l.writer).failed;
-  flushed : g.H.Handler.FLUSHES ≡ true → StaysFlushed (g.W.Sink.seen l.fn.writer).flushed
+  flushed : l.flushes ≡ true → StaysFlushed (g.W.Sink.seen l.fn.writer).flushed
       (g.W.Sink.seen l.writer).flushed;
   few : FewWrites (g.W.Sink.seen l.fn.writer) (g.W.Sink.seen l.writer);
   spent : Spends (g.W.Sink.seen l.fn.writer).calls (g.W.Sink.seen l.writer).calls l.fn.turns.left l.turns.left;

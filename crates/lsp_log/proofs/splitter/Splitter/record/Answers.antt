@@ -1,4 +1,4 @@
-use Rattle.lsp_log.proofs.splitter.Splitter.frame.Goals as goal
+use Rattle.lsp_log.proofs.splitter.Splitter.record.Goals as goal
 
 pub returns-in_err-body : goal.returns-in_err-body
 returns-in_err-body c =

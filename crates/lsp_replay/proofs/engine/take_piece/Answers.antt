@@ -1,6 +1,6 @@
 use Rattle.lsp_replay.proofs.Prelude.{ℕ, ◌+◌, drop, refl, ◌∙◌, arith, err_from_is_err_and, length-take, length-drop, Appends-nil, common_steps}
 use Rattle.lsp_replay.proofs.Runs.WroteRecordLemmas.{went_fed, fed_fault}
-use Rattle.lsp_replay.proofs.engine.records.take_piece.Goals as goal
+use Rattle.lsp_replay.proofs.engine.take_piece.Goals as goal
 
 pub returns-in_err-at-clause-error : goal.returns-in_err-at-clause-error
 returns-in_err-at-clause-error g c =
@@ -10,7 +10,7 @@ returns-in_err-at-clause-error g c =
     (g.H.Handler.run_output c.bytes.handler) (g.W.Sink.seen c.bytes.writer).written
     (g.W.Sink.seen c.bytes.writer).written _
     c.bytes.invariant.within refl (λ records at. c.in_err-at.ensures.error log_rules input records at)
-    (record { silent = g.met.H.Handler.silent c.bytes.handler; unstopped = g.met.H.Handler.unstopped c.bytes.handler })
+    (g.met.H.Handler.quiet c.bytes.handler)
     (Appends-nil (g.W.Sink.seen c.bytes.writer).written)
     (c.bytes.invariant.progress log_rules run_output received input w))
 
