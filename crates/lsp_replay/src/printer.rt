@@ -34,6 +34,7 @@ pub(crate) mod tracing;
 use crate::handler::{Finished, Printed};
 use crate::session::{RecordBody, Session};
 use lsp_log::Record;
+use lsp_stream::EngineFault;
 
 /// What a command writes of each record of a log, and of its end.
 pub trait Printer {
