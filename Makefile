@@ -183,7 +183,7 @@ ready:
 	@tools/ready $(CRATE)
 
 gate:
-	@.ci/run
+	@.ci/run --all
 
 minutes:
 	@tools/minutes
