@@ -1,6 +1,6 @@
 use Rattle.lspsync.proofs.Prelude.{◌≡◌, ℕ, List, [], arith, length, rules, subst, nat_lt, into_iter_items, nil_from_length, Streams, streams, AreDone, nothing_yet, Task, Ending}
 use Rattle.lspsync.proofs.DoneLemmas.{none_left, one_more, stopped}
-use Rattle.lspsync.proofs.run.run.Goals as goal
+use Rattle.lspsync.proofs.run.do_all.Goals as goal
 
 pub loop-task-init : goal.loop-task-init
 loop-task-init g c =
@@ -9,20 +9,14 @@ loop-task-init g c =
     let start : Streams = streams (g.R.Source.seen c.args.input.now) (g.W.Sink.seen c.args.output.now)
     (g.E.Sink.seen c.args.errors.now) in
     let items = into_iter_items c.into_iter-task-iterator.result in
-    let are : items ≡ c.in-Ok-Some.tasks.items = search rules in
-    let count : c.len-is_headed.result ≡ length c.in-Ok-Some.tasks.items = search rules in
+    let are : items ≡ c.args.tasks.items = search rules in
     record {
       going = tt;
       finite = tt;
-      rest = λ after ending more. record {
-        read = c.parse.result;
-        words_are = c.parse.ensures;
-        done = rw c.in-Ok-Some.is
-            (subst (λ (n : ℕ). AreDone known (nat_lt 1 n) nothing_yet c.in-Ok-Some.tasks.items start after ending) count
-            (subst (λ (tasks : List Task). AreDone known is_headed nothing_yet tasks start after ending) are
-            (subst (λ (so_far : Ending). AreDone known is_headed so_far items start after ending) c.new-ending.ensures
-            more)));
-      };
+      rest = λ after ending more.
+          subst (λ (tasks : List Task). AreDone known is_headed nothing_yet tasks start after ending) are
+          (subst (λ (so_far : Ending). AreDone known is_headed so_far items start after ending) c.new-ending.ensures
+          more);
     }
 
 pub loop-task-preserved : goal.loop-task-preserved
@@ -39,20 +33,29 @@ loop-task-preserved g c = record {
 
 pub returns-then-output_failed : goal.returns-then-output_failed
 returns-then-output_failed g c =
+    let known = g.F.Folder.bytes c.args.folder.now in
+    let start : Streams = streams (g.R.Source.seen c.args.input.now) (g.W.Sink.seen c.args.output.now)
+    (g.E.Sink.seen c.args.errors.now) in
     let end : Streams = streams (g.R.Source.seen c.do_task-done.new.input) (g.W.Sink.seen c.do_task-done.new.output)
     (g.E.Sink.seen c.do_task-done.new.errors) in
-    c.loop-task.invariant.rest end c.both-ending.result
-    (stopped (g.F.Folder.bytes c.args.folder.now) (nat_lt 1 c.len-is_headed.result) c.loop-task.ending
-    c.do_task-done.result c.both-ending.result (into_iter_items c.loop-task.task-iterator)
-    (into_iter_items c.next.new.self) c.in-Some.task _ end c.in-Some.ensures.steps.0 c.do_task-done.ensures
-    c.if-output_failed.true c.both-ending.ensures)
+    let count : c.len-is_headed.result ≡ length c.args.tasks.items = search rules in
+    subst (λ (n : ℕ). AreDone known (nat_lt 1 n) nothing_yet c.args.tasks.items start end c.both-ending.result) count
+    (c.loop-task.invariant.rest end c.both-ending.result
+    (stopped known (nat_lt 1 c.len-is_headed.result) c.loop-task.ending c.do_task-done.result c.both-ending.result
+    (into_iter_items c.loop-task.task-iterator) (into_iter_items c.next.new.self) c.in-Some.task _ end
+    c.in-Some.ensures.steps.0 c.do_task-done.ensures c.if-output_failed.true c.both-ending.ensures))
 
 pub returns : goal.returns
 returns g c =
+    let known = g.F.Folder.bytes c.args.folder.now in
+    let start : Streams = streams (g.R.Source.seen c.args.input.now) (g.W.Sink.seen c.args.output.now)
+    (g.E.Sink.seen c.args.errors.now) in
     let end : Streams = streams (g.R.Source.seen c.loop-task.input) (g.W.Sink.seen c.loop-task.output)
     (g.E.Sink.seen c.loop-task.errors) in
+    let count : c.len-is_headed.result ≡ length c.args.tasks.items = search rules in
     let none : into_iter_items c.loop-task.task-iterator ≡ [] =
     nil_from_length _ (omega (arith, c.loop-task.task-iterator.rest.ok.0, c.in-None.ensures.steps.0)) in
-    c.loop-task.invariant.rest end c.loop-task.ending
-    (none_left (g.F.Folder.bytes c.args.folder.now) (nat_lt 1 c.len-is_headed.result) c.loop-task.ending
-    (into_iter_items c.loop-task.task-iterator) end none)
+    subst (λ (n : ℕ). AreDone known (nat_lt 1 n) nothing_yet c.args.tasks.items start end c.loop-task.ending) count
+    (c.loop-task.invariant.rest end c.loop-task.ending
+    (none_left known (nat_lt 1 c.len-is_headed.result) c.loop-task.ending
+    (into_iter_items c.loop-task.task-iterator) end none))

@@ -1,8 +1,7 @@
-use Rattle.lspsync.proofs.Prelude.{map, into_iter_items, Streams, streams, AreDone, Ending}
-use Rattle.lspsync.specs.Run.{IsProgramRun}
-use Rattle.lspsync.proofs.run.run.Given as goal
+use Rattle.lspsync.proofs.Prelude.{into_iter_items, Streams, streams, AreDone, nothing_yet, Ending}
+use Rattle.lspsync.proofs.run.do_all.Given as goal
 
--- Who does the tasks that are left has run the program.
+-- Who does the tasks that are left has done all.
 abbrev pub invariant-loop-task : goal.invariant-loop-task
 invariant-loop-task g l = record {
   going : (goal.iterator-loop-task g).can_next l.task-iterator;
@@ -10,6 +9,6 @@ invariant-loop-task g l = record {
   rest : (after : Streams) (ending : Ending)
       → AreDone (g.F.Folder.bytes l.folder) l.is_headed l.ending (into_iter_items l.task-iterator)
       (streams (g.R.Source.seen l.input) (g.W.Sink.seen l.output) (g.E.Sink.seen l.errors)) after ending
-      → IsProgramRun (g.F.Folder.bytes l.folder) (map (λ word. word.now) l.fn.words)
+      → AreDone (g.F.Folder.bytes l.folder) l.is_headed nothing_yet l.fn.tasks.items
       (streams (g.R.Source.seen l.fn.input) (g.W.Sink.seen l.fn.output) (g.E.Sink.seen l.fn.errors)) after ending;
 }
