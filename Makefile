@@ -183,7 +183,7 @@ ready:
 	@tools/ready $(CRATE)
 
 gate:
-	@.ci/run --all
+	@.ci/run
 
 minutes:
 	@tools/minutes

@@ -10,7 +10,7 @@ import urllib.request
 
 from peers.wire import Wire
 
-TITLE = "gopls " + subprocess.run(["dpkg-query", "-W", "-f", "${Version}", "gopls"], stdout=subprocess.PIPE, text=True, check=True).stdout.split(":")[-1].split("+")[0]
+TITLE = "gopls of x/tools " + subprocess.run(["dpkg-query", "-W", "-f", "${Version}", "gopls"], stdout=subprocess.PIPE, text=True, check=True).stdout.split(":")[-1].split("+")[0]
 FILES = ["vectors.jsonl"]
 
 

@@ -4,8 +4,7 @@ use Rattle.lsp_message.specs.Message.{reading}
 use Rattle.laspidru.specs.declared.answers.Answer.{Answer}
 use Rattle.laspidru.specs.declared.party.Party.{Party}
 use Rattle.laspidru.specs.Codes.{IsAnswerOrNoMemory, IsRefusedOr, OnRefused, unless}
-use Rattle.laspidru.specs.Ends.{Handling, IsHandled, IsHandledBy, as_end, closed, handling_by, handling_of, heard_out, listening}
-use Rattle.laspidru.specs.Taking.{IsTaken, as_handled}
+use Rattle.laspidru.specs.Ends.{Handling, IsHandled, IsHandledBy, IsTaken, as_end, closed, handling_by, handling_of, heard_out, listening}
 use Rattle.lsp_client.specs.declared.fault.ClientFault.TheVariants as client
 
 -- ---- a client's delivery
@@ -84,33 +83,23 @@ pub untaken : (old new : EndData) (piece : List ℕ) (code : ℕ) (taken : Taken
     → IsFedTo old.stream piece code new.stream taken → code ≢ OK
     → new ≡ record old { stream = new.stream } → after ≡ before → IsTaken old piece code new taken before after
 untaken old new piece code taken before after fed bad rest same =
-    inl (rest, record { took = inl (record { fed = fed; none = λ is. absurd (bad is) }); answer = same })
+    inl (rest, same, inl (record { fed = fed; none = λ is. absurd (bad is) }))
 
 -- No message is whole.
 pub none_taken : (old new : EndData) (piece : List ℕ) (code : ℕ) (taken : Taken) (before after : Answer)
     → IsFedTo old.stream piece code new.stream taken → code ≡ OK → HasNoBody new.stream.framing
     → new ≡ record old { stream = new.stream } → after ≡ before → IsTaken old piece OK new taken before after
 none_taken old new piece code taken before after fed is no_body rest same =
-    inl (
-      rest,
-      record {
-        took = inl (record { fed = fed_well old.stream new.stream piece code taken is fed; none = λ _. no_body });
-        answer = same;
-      },
-    )
+    let well = fed_well old.stream new.stream piece code taken is fed in
+    inl (rest, same, inl (record { fed = well; none = λ _. no_body }))
 
 -- A message is whole, and out of memory.
 pub waits : (old new : EndData) (piece body : List ℕ) (code : ℕ) (taken : Taken) (before after : Answer)
     → IsFedTo old.stream piece code new.stream taken → code ≡ OK → IsBodyOf new.stream.framing body
     → new ≡ record old { stream = new.stream } → after ≡ before → IsTaken old piece OUT_OF_MEMORY new taken before after
 waits old new piece body code taken before after fed is whole rest same =
-    inl (
-      rest,
-      record {
-        took = inr (refl, (body, record { fed = fed_well old.stream new.stream piece code taken is fed; is = whole }));
-        answer = same;
-      },
-    )
+    let well = fed_well old.stream new.stream piece code taken is fed in
+    inl (rest, same, inr (refl, (body, record { fed = well; is = whole })))
 
 apart : OK ≡ OUT_OF_MEMORY → ⊥
 apart same = omega arith
@@ -128,7 +117,7 @@ pub one_taken : (old new : EndData) (stream : StreamData) (piece body frame : Li
     → IsFedTo old.stream piece code stream taken → code ≡ OK → IsBodyOf stream.framing body
     → closed old.party ≡ None → did ≡ OK
     → IsAnswerOrNoMemory (handling_of old.party body) did (IsHandledBy party frame did after)
-    → new ≡ record { party = party; frame = frame; stream = as_handled stream }
+    → new ≡ record { party = party; frame = frame; stream = record stream { is_handled = true } }
     → IsTaken old piece OK new taken before after
 one_taken old new stream piece body frame party code did taken before after fed is whole listens done handled left =
     let it : Handling = handling_by old.party body in
@@ -143,7 +132,7 @@ one_taken old new stream piece body frame party code did taken before after fed 
       end_after = left ∙ (λ i. record {
         party = by.party_after i;
         frame = by.frame_after i;
-        stream = as_handled stream;
+        stream = record stream { is_handled = true };
       });
       answer = by.answer;
     })

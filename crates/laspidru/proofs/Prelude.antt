@@ -9,10 +9,10 @@ pub use Rattle.std.specs.declared.alloc.Global.{Global}
 pub use Rattle.core.proofs.alloc.Calls.{Al, Goes-blank, handle_tells}
 pub use Rattle.core.proofs.atomic.Steps.{fm}
 pub use Rattle.core.proofs.cell.Inside.{Good}
-pub use Rattle.laspidru.specs.Batches.{Asked, IsBatchOf, edits_of, len_of, refused_edit}
+pub use Rattle.laspidru.specs.Edits.{edits_of, len_of, refused_edit}
 pub use Rattle.laspidru.specs.Clients.{IsCalled, IsRefusedCall, IsStoreReport, IsWritten, delivered_out, sent_frame}
 pub use Rattle.laspidru.specs.Framers.{HasNoBody, IsBodyAnswer, IsBodyOf, IsFedTo, IsNext, IsPieceFed, IsReleased, nothing_taken}
-pub use Rattle.laspidru.specs.HeldEnds.{EndData}
+pub use Rattle.laspidru.specs.Streams.{EndData}
 pub use Rattle.laspidru.specs.Streams.{StreamData}
 pub use Rattle.laspidru.specs.declared.codes.TheConstants.{BAD_FRAME, OK, OUT_OF_MEMORY, WRONG_PHASE}
 pub use Rattle.laspidru.specs.declared.object.Object.{Object}

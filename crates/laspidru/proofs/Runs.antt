@@ -8,12 +8,12 @@ use Rattle.lsp_replay.specs.declared.outcome.Outcome.{Outcome}
 use Rattle.laspidru.specs.declared.command.Command.{Command}
 use Rattle.laspidru.specs.declared.endings.Ending.{Ending}
 use Rattle.laspidru.specs.declared.endings.LogSettings.{LogSettings}
-use Rattle.laspidru.specs.Logs.{IsCommand, IsCommandRun, IsEnded, IsKeptRun, RanOn, RunAsked, command_engine, command_turns, log_ports}
+use Rattle.laspidru.specs.Logs.{IsCommand, IsCommandRun, IsKept, IsKeptRun, RanOn, RunAsked, command_engine, command_turns, ending_out, log_ports}
 
 -- It ran, and its output was kept, or out of memory.
 pub ran_and_kept : (it : Command) (settings : Settings) (log output : List ℕ) (answer : Result Outcome EngineFault)
     (code : ℕ) (stored : Option Object) (out : Ending) → RanOn it settings log output answer
-    → (code ≡ OUT_OF_MEMORY) ⊎ IsEnded output answer code stored out
+    → (code ≡ OUT_OF_MEMORY) ⊎ IsKept (ending_out (length output) answer) output code stored out
     → (code ≡ OUT_OF_MEMORY) ⊎ IsKeptRun it settings log code stored out
 ran_and_kept it settings log output answer code stored out ran (inl none) = inl none
 ran_and_kept it settings log output answer code stored out ran (inr ended) =

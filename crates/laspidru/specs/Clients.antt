@@ -1,58 +1,38 @@
 -- A client that C asks for, the calls on it, and what C gets of them.
-use Rattle.std.specs.Prelude.{ℕ, ℤ, ◌≡◌, ◌⊎◌, false, List, [], length, Option, Some, Result, Ok, Err}
-use Rattle.lsp_frame.specs.Frame.{frame}
+use Rattle.laspidru.specs.Prelude.{ℕ, ℤ, ◌≡◌, ◌⊎◌, false, List, [], length, Option, Some, Result, Ok, Err, frame, body_of, StoreFault, ClientFault, Call, ClientData, call_result, opens, edits, Order, Sending, DeliveredData, sends, noted, bad_server, new_client, Answer, BAD_ENCODING, BAD_SERVER, ERROR_ANSWER, IGNORED, NO_SYNC, NOT_AN_ANSWER, NOTED, OK, OTHER_KIND, OUT_OF_MEMORY, REPLIED, WRONG_PHASE, Object, End, Party, Server, Client, FaultAt, IsRefusedOr, and_then, EndData, StreamData, stream_of}
 use Rattle.lsp_edit.specs.declared.fault.EditFault.TheVariants as edit
-use Rattle.lsp_message.specs.Outgoing.{body_of}
-use Rattle.lsp_store.specs.declared.fault.StoreFault.{StoreFault}
 use Rattle.lsp_store.specs.declared.fault.StoreFault.TheVariants as faults
-use Rattle.lsp_client.specs.declared.fault.ClientFault.{ClientFault}
 use Rattle.lsp_client.specs.declared.fault.ClientFault.TheVariants as client
 use Rattle.lsp_client.specs.declared.phase.Phase.{Phase}
 use Rattle.lsp_client.specs.declared.phase.Phase.TheVariants.{New, Asked, Ready, Closing, Closed, Done, Failed}
 use Rattle.lsp_client.specs.declared.phase.Reason.{Reason}
 use Rattle.lsp_client.specs.declared.phase.Reason.TheVariants.{NotAnAnswer, ErrorAnswer, NoSync, BadEncoding}
-use Rattle.lsp_client.specs.Step.{Call, ClientData, call_result, opens, edits, Order, Sending, DeliveredData, sends, noted, ignored, bad_server, new_client}
-use Rattle.laspidru.specs.declared.answers.Answer.{Answer}
+use Rattle.lsp_client.specs.Step.{ignored}
 use Rattle.laspidru.specs.declared.reports.ClientSettings.{ClientSettings}
-use Rattle.laspidru.specs.declared.codes.TheConstants.{BAD_ENCODING, BAD_SERVER, ERROR_ANSWER, IGNORED, NO_SYNC, NOT_AN_ANSWER, NOTED, OK, OTHER_KIND, OUT_OF_MEMORY, REPLIED, WRONG_PHASE}
-use Rattle.laspidru.specs.declared.object.Object.{Object}
-use Rattle.laspidru.specs.declared.object.Object.TheVariants.{End}
-use Rattle.laspidru.specs.declared.party.Party.{Party}
-use Rattle.laspidru.specs.declared.party.Party.TheVariants.{Server, Client}
 use Rattle.laspidru.specs.declared.structs.Edit.{Edit}
-use Rattle.laspidru.specs.declared.structs.FaultAt.{FaultAt}
-use Rattle.laspidru.specs.Codes.{IsRefusedOr, and_then}
-use Rattle.laspidru.specs.Batches.{edits_of, is_end}
-use Rattle.laspidru.specs.HeldEnds.{EndData}
 use Rattle.laspidru.specs.Objects.{uri_asked}
-use Rattle.laspidru.specs.Servers.{bounds, limits_asked, plain_out, store_code}
-use Rattle.laspidru.specs.Streams.{StreamData, stream_of}
+use Rattle.laspidru.specs.Servers.{limits_asked, plain_out, store_code}
+use Rattle.laspidru.specs.Edits.{edits_of, is_end}
 
 -- ---- how a client is set up
 
 -- A client at the start of a session, if each limit is in its range. It has sent nothing.
 abbrev pub client_asked : ClientSettings → Result EndData ℕ
 client_asked settings =
-    let given = bounds settings.max_body settings.max_text settings.max_docs settings.max_changes
-    settings.lenient in
-    and_then (limits_asked given) (λ limits. Ok (record {
+    and_then (limits_asked settings.max_body settings.max_text settings.max_docs
+    settings.max_changes settings.lenient) (λ limits. Ok (record {
       party = Client (new_client limits (record { utf8 = settings.utf8; utf32 = settings.utf32 }));
       frame = [];
       stream = stream_of limits;
     }))
 
--- A client, and the stream of its end.
-pub record ClientEnd : Type 0 where
-  pub client : ClientData
-  pub stream : StreamData
-
--- The client of an end.
-abbrev pub client_in : Party → StreamData → Result ClientEnd ℕ
-client_in (Client client) stream = Ok (record { client = client; stream = stream })
+-- The client of an end, and the end's stream.
+abbrev pub client_in : Party → StreamData → Result (ClientData × StreamData) ℕ
+client_in (Client client) stream = Ok (client, stream)
 client_in (Server server) stream = Err OTHER_KIND
 
--- The client of an object.
-abbrev pub as_client : Object → Result ClientEnd ℕ
+-- The client of an object, and its stream.
+abbrev pub as_client : Object → Result (ClientData × StreamData) ℕ
 as_client (End held) = client_in held.party held.stream
 as_client other = Err OTHER_KIND
 
@@ -99,9 +79,9 @@ IsCalled stream (Ok sending) code stored len =
 IsCalled stream (Err refusal) code stored len = IsRefusedCall refusal code
 
 -- A call of this client, which may be the code of its refusal.
-abbrev pub IsCallOn : Result ClientEnd ℕ → Call → ℕ → Option Object → ℕ → Type 0
+abbrev pub IsCallOn : Result (ClientData × StreamData) ℕ → Call → ℕ → Option Object → ℕ → Type 0
 IsCallOn client call code stored len = IsRefusedOr client code (λ it.
-    IsCalled it.stream (call_result it.client call) code stored len)
+    IsCalled it.1 (call_result it.0 call) code stored len)
 
 -- What a refusal writes of a faulty change.
 abbrev pub IsWritten : Result Sending ClientFault → ℕ → FaultAt → Type 0
@@ -109,18 +89,11 @@ IsWritten (Err (client.Store fault)) code out =
     (code ≡ OUT_OF_MEMORY) ⊎ IsStoreReport fault out
 IsWritten result code out = Unit {0}
 
--- Three texts that are UTF-8.
-pub record Opening : Type 0 where
-  pub uri : List ℕ
-  pub language : List ℕ
-  pub text : List ℕ
-
--- The texts of a document to be opened, if each is UTF-8.
-abbrev pub opening_asked : List ℕ → List ℕ → List ℕ → Result Opening ℕ
-opening_asked uri language text =
+-- The order that opens a document, if each text is UTF-8.
+abbrev pub opening_asked : List ℕ → List ℕ → ℤ → List ℕ → Result Order ℕ
+opening_asked uri language version text =
     and_then (uri_asked uri) (λ uri. and_then (uri_asked language) (λ language.
-    and_then (uri_asked text) (λ text.
-    Ok (record { uri = uri; language = language; text = text }))))
+    and_then (uri_asked text) (λ text. Ok (open_asked uri language version text))))
 
 -- ---- deliveries
 
@@ -146,17 +119,12 @@ sent_frame other = []
 
 -- ---- its phase
 
--- The number of a phase.
-abbrev pub phase_number : Phase → ℕ
-phase_number New = 0
-phase_number Asked = 1
-phase_number Ready = 2
-phase_number Closing = 3
-phase_number Closed = 4
-phase_number Done = 5
-phase_number (Failed reason) = 6
-
--- Why a session failed; 0 if it didn't.
-abbrev pub phase_reason : Phase → ℕ
-phase_reason (Failed reason) = reason_number reason
-phase_reason other = 0
+-- The number of a phase, and why the session failed; 0 if it didn't.
+abbrev pub phase_numbers : Phase → ℕ × ℕ
+phase_numbers New = (0, 0)
+phase_numbers Asked = (1, 0)
+phase_numbers Ready = (2, 0)
+phase_numbers Closing = (3, 0)
+phase_numbers Closed = (4, 0)
+phase_numbers Done = (5, 0)
+phase_numbers (Failed reason) = (6, reason_number reason)

@@ -1,6 +1,8 @@
 -- What a call was asked for, or the code of its refusal; and the code that it returns.
-use Rattle.std.specs.Prelude.{ℕ, ◌≡◌, ◌⊎◌, Option, Some, None, Result, Ok, Err}
-use Rattle.laspidru.specs.declared.codes.TheConstants.{OK, OUT_OF_MEMORY}
+use Rattle.std.specs.Option.{ok_or}
+use Rattle.std.specs.Prelude.{ℕ, ◌≡◌, ◌⊎◌, Option, Some, None, Result, Ok, Err, List, map, slice_get}
+use Rattle.laspidru.specs.declared.codes.TheConstants.{OK, OUT_OF_MEMORY, OUT_OF_RANGE}
+use Rattle.laspidru.specs.declared.texts.TheConstants.{TEXTS}
 
 -- The next thing asked for, unless this was refused.
 abbrev pub and_then : {X Y : Type 0} → Result X ℕ → (X → Result Y ℕ) → Result Y ℕ
@@ -36,3 +38,11 @@ IsAnswerOrNoMemory asked code fact =
 abbrev pub OnRefused : {X : Type 0} → Result X ℕ → Type 0 → Type 0
 OnRefused (Err refusal) fact = fact
 OnRefused (Ok taken) fact = Unit {0}
+
+-- The name of each code and what it means, by its number: the table of src/texts.rt.
+abbrev pub code_texts : List (List ℕ)
+code_texts = map (λ text. text.now) TEXTS
+
+-- The text of a code, or the code of its refusal.
+abbrev pub text_asked_of : ℕ → Result (List ℕ) ℕ
+text_asked_of code = ok_or (slice_get code_texts code) OUT_OF_RANGE

@@ -1,33 +1,16 @@
 -- What either end of a session does with a body, and what is asked of it and of its documents.
-use Rattle.std.specs.Prelude.{ℕ, ◌≡◌, if◌then◌else◌, List, length, option_map, Option, Some, None, Result, Ok, Err}
-use Rattle.std.specs.Option.{ok_or}
-use Rattle.lsp_frame.specs.Stream.{FramerData}
-use Rattle.lsp_text.specs.declared.encoding.Encoding.{Encoding}
-use Rattle.lsp_text.specs.declared.encoding.Encoding.TheVariants.{Utf8, Utf16, Utf32}
+use Rattle.laspidru.specs.Prelude.{ℕ, ◌≡◌, if◌then◌else◌, List, length, option_map, Option, Some, None, Result, Ok, Err, ok_or, FramerData, Encoding, Utf8, Utf16, Utf32, StoreData, entry_at, as_sent, Step, step, Delivery, delivery_of, is_listening, Answer, ENDED, NOT_OPEN, OK, OTHER_KIND, WRONG_PHASE, Object, End, Framer, Party, Server, Client, ◌⊎◌, true, OUT_OF_MEMORY, Taken, and_then, unless, EndData, StreamData}
 use Rattle.lsp_message.specs.Message.{reading}
 use Rattle.lsp_message.specs.Params.{DocumentItem}
-use Rattle.lsp_store.specs.Opened.{StoreData}
-use Rattle.lsp_store.specs.Table.{entry_at}
 use Rattle.lsp_server.specs.declared.phase.Phase.{Phase}
 use Rattle.lsp_server.specs.declared.phase.Phase.TheVariants.{New, Running, Down, Ended}
-use Rattle.lsp_server.specs.Answer.{as_sent}
-use Rattle.lsp_server.specs.Step.{Step, step}
 use Rattle.lsp_client.specs.declared.phase.Phase as client_phase
 use Rattle.lsp_client.specs.Seen.{as_frame}
-use Rattle.lsp_client.specs.Step.{Delivery, delivery_of, is_listening}
-use Rattle.laspidru.specs.declared.answers.Answer.{Answer}
-use Rattle.laspidru.specs.declared.answers.Opened.{Opened}
 use Rattle.laspidru.specs.declared.answers.State.{State}
-use Rattle.laspidru.specs.declared.codes.TheConstants.{ENDED, NOT_OPEN, OK, OTHER_KIND, WRONG_PHASE}
-use Rattle.laspidru.specs.declared.object.Object.{Object}
-use Rattle.laspidru.specs.declared.object.Object.TheVariants.{End, Framer}
-use Rattle.laspidru.specs.declared.party.Party.{Party}
-use Rattle.laspidru.specs.declared.party.Party.TheVariants.{Server, Client}
-use Rattle.laspidru.specs.Clients.{delivered_out, phase_number, phase_reason, sent_frame}
-use Rattle.laspidru.specs.Codes.{and_then, unless}
-use Rattle.laspidru.specs.HeldEnds.{EndData}
+use Rattle.laspidru.specs.Clients.{delivered_out, phase_numbers, sent_frame}
 use Rattle.laspidru.specs.Objects.{uri_asked}
 use Rattle.laspidru.specs.Servers.{answer_out, reply_out}
+use Rattle.laspidru.specs.Framers.{HasNoBody, IsBodyOf, IsFedTo}
 
 -- The end in an object.
 abbrev pub as_end : Object → Result EndData ℕ
@@ -101,6 +84,48 @@ pub record IsHandled (held : EndData) (code : ℕ) (stored : Option Object) (out
 abbrev pub listening : Result EndData ℕ → Result EndData ℕ
 listening held = and_then held (λ it. unless (closed it.party) (Ok it))
 
+-- ---- what it takes of its stream
+
+-- A piece was fed, and no message is whole; or there is a fault.
+pub record HasNoMessage (old : StreamData) (piece : List ℕ) (code : ℕ) (new : StreamData)
+    (taken : Taken) : Type 0 where
+  pub fed : IsFedTo old piece code new taken
+  pub none : code ≡ OK → HasNoBody new.framing
+
+-- A piece was fed up to the end of a message with this body.
+pub record HasMessage (old : StreamData) (piece : List ℕ) (new : StreamData) (taken : Taken)
+    (body : List ℕ) : Type 0 where
+  pub fed : IsFedTo old piece OK new taken
+  pub is : IsBodyOf new.framing body
+
+-- A message is whole, and out of memory. The next call handles it.
+abbrev pub IsWaiting : StreamData → List ℕ → ℕ → StreamData → Taken → Type 0
+IsWaiting old piece code new taken =
+    (code ≡ OUT_OF_MEMORY) × ((body : List ℕ) × HasMessage old piece new taken body)
+
+-- A message is whole, and was handled.
+pub record IsOneTaken (old : EndData) (piece : List ℕ) (code : ℕ) (new : EndData)
+    (taken : Taken) (after : Answer) : Type 0 where
+  pub stream : StreamData
+  pub body : List ℕ
+  pub message : HasMessage old.stream piece stream taken body
+  pub done : code ≡ OK
+  pub end_after : new ≡ record {
+    party = (handling_by old.party body).party;
+    frame = (handling_by old.party body).frame;
+    stream = record stream { is_handled = true };
+  }
+  pub answer : after ≡ (handling_by old.party body).answer
+
+-- An end took a piece. Of the end only the stream changed, and no answer is written; or a message
+-- was handled.
+abbrev pub IsTaken : EndData → List ℕ → ℕ → EndData → Taken → Answer → Answer → Type 0
+IsTaken old piece code new taken before after =
+    ((new ≡ record old { stream = new.stream }) × (after ≡ before)
+    × (HasNoMessage old.stream piece code new.stream taken
+    ⊎ IsWaiting old.stream piece code new.stream taken))
+    ⊎ IsOneTaken old piece code new taken after
+
 -- ---- what is asked of it
 
 -- The framer of an object, or that of its end's stream.
@@ -108,10 +133,6 @@ abbrev pub as_framing : Object → Result FramerData ℕ
 as_framing (Framer framing) = Ok framing
 as_framing (End held) = Ok held.stream.framing
 as_framing other = Err OTHER_KIND
-
--- The frame that an end sends last.
-abbrev pub frame_asked : Result EndData ℕ → Result (List ℕ) ℕ
-frame_asked held = and_then held (λ it. Ok it.frame)
 
 -- The open documents of an end, and its limits.
 abbrev pub store_in : Party → StoreData
@@ -137,20 +158,14 @@ server_phase Running = 2
 server_phase Down = 4
 server_phase Ended = 5
 
--- The number of an end's phase.
-abbrev pub party_phase : Party → ℕ
-party_phase (Server server) = server_phase server.phase
-party_phase (Client client) = phase_number client.phase
-
--- Why an end's session failed; 0 if it didn't.
-abbrev pub party_reason : Party → ℕ
-party_reason (Server server) = 0
-party_reason (Client client) = phase_reason client.phase
+-- The number of an end's phase, and why its session failed; 0 if it didn't.
+abbrev pub party_phase : Party → ℕ × ℕ
+party_phase (Server server) = (server_phase server.phase, 0)
+party_phase (Client client) = phase_numbers client.phase
 
 -- The state of an end.
 pub record IsState (out : State) (party : Party) : Type 0 where
-  pub phase : out.phase ≡ party_phase party
-  pub reason : out.reason ≡ party_reason party
+  pub phase : (out.phase, out.reason) ≡ party_phase party
   pub encoding : out.encoding ≡ encoding_number (agreed_encoding party)
   pub documents : out.documents ≡ length (store_in party).table
 
@@ -167,8 +182,3 @@ entry_asked uri held = and_then (uri_asked uri) (λ named. and_then held (entry_
 -- The text of a document.
 abbrev pub entry_text : Result DocumentItem ℕ → Result (List ℕ) ℕ
 entry_text document = and_then document (λ entry. Ok entry.text)
-
--- The version of a document, and how many bytes its text has.
-pub record IsOpened (out : Opened) (entry : DocumentItem) : Type 0 where
-  pub version : out.version ≡ entry.version
-  pub bytes : out.bytes ≡ length entry.text

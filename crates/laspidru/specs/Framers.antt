@@ -1,24 +1,15 @@
 -- A framer that C asks for, and what it takes of a stream (LSP 3.17, Base Protocol).
-use Rattle.std.specs.Prelude.{ℕ, ◌≡◌, ◌≢◌, ◌≤◌, ◌<◌, ◌++◌, ◌⊎◌, Bool, true, false, List, length, take, Result, Ok, Err}
-use Rattle.lsp_frame.specs.Limits.{LimitsData, default_limits}
-use Rattle.lsp_frame.specs.Frame.{IsFrameOf}
-use Rattle.lsp_frame.specs.Stream.{FramerData, IsFrame, HoldsOne, IsFeedFault, released}
-use Rattle.lsp_frame.specs.declared.fault.FrameFault.{FrameFault}
+use Rattle.laspidru.specs.Prelude.{ℕ, ◌≡◌, ◌≢◌, ◌≤◌, ◌<◌, ◌++◌, ◌⊎◌, Bool, true, false, List, length, take, Result, Ok, Err, LimitsData, default_limits, IsFrameOf, FramerData, IsFrame, HoldsOne, IsFeedFault, released, FrameFault, BAD_FRAME, FAILED, NO_MESSAGE, OK, OTHER_KIND, OUT_OF_MEMORY, Object, Framer, Taken, IsAnswer, StreamData}
 use Rattle.lsp_frame.specs.declared.fault.FrameFault.TheVariants as frame
-use Rattle.laspidru.specs.declared.codes.TheConstants.{BAD_FRAME, FAILED, NO_MESSAGE, OK, OTHER_KIND, OUT_OF_MEMORY}
-use Rattle.laspidru.specs.declared.object.Object.{Object}
-use Rattle.laspidru.specs.declared.object.Object.TheVariants.{Framer}
-use Rattle.laspidru.specs.declared.taken.Taken.{Taken}
-use Rattle.laspidru.specs.Codes.{IsAnswer}
 use Rattle.laspidru.specs.Objects.{IsCopy, rest_asked}
 use Rattle.laspidru.specs.Servers.{limits_asked}
-use Rattle.laspidru.specs.Streams.{StreamData}
 
 -- ---- the framer of a handle
 
 -- The limits of a framer, if the greatest length of a body is in its range. The others are ignored.
 abbrev pub framer_limits : ℕ → Result LimitsData ℕ
-framer_limits max_body = limits_asked (record default_limits { max_body = max_body })
+framer_limits max_body = limits_asked max_body default_limits.max_text default_limits.max_docs
+    default_limits.max_changes false
 
 -- The framer of an object.
 abbrev pub as_framer : Object → Result FramerData ℕ
@@ -27,13 +18,20 @@ as_framer other = Err OTHER_KIND
 
 -- ---- what it takes
 
+-- The body of the message that is buffered.
+abbrev pub IsBodyOf : FramerData → List ℕ → Type 0
+IsBodyOf framing body = (framing.failed ≡ false)
+    × IsFrameOf framing.limits.max_body framing.buffered body
+
+-- No whole message is buffered.
+abbrev pub HasNoBody : FramerData → Type 0
+HasNoBody framing = framing.failed ≡ false → (body : List ℕ) →
+    IsFrameOf framing.limits.max_body framing.buffered body → ⊥
+
 -- A whole message is buffered, whose body has so many bytes; or none is.
 abbrev pub HasBody : FramerData → Bool → ℕ → Type 0
-HasBody framing true len = (framing.failed ≡ false)
-    × (body : List ℕ) × IsFrameOf framing.limits.max_body framing.buffered body
-    × (len ≡ length body)
-HasBody framing false len = (len ≡ 0) × (framing.failed ≡ false → (body : List ℕ) →
-    IsFrameOf framing.limits.max_body framing.buffered body → ⊥)
+HasBody framing true len = (body : List ℕ) × IsBodyOf framing body × (len ≡ length body)
+HasBody framing false len = (len ≡ 0) × HasNoBody framing
 
 -- Bytes of a piece were taken: all of them, or those up to the end of one message.
 pub record HasTaken (old new : FramerData) (piece : List ℕ) (out : Taken) : Type 0 where
@@ -55,20 +53,22 @@ frame_code fault = BAD_FRAME
 abbrev pub nothing_taken : Taken
 nothing_taken = record { bytes = 0; body_len = 0; offset = 0; frame = 0; is_whole = false }
 
--- What is written of a fault: its number and its byte offset in the stream.
-abbrev pub taken_fault : ℕ → ℕ → Taken
-taken_fault number offset = record nothing_taken { offset = offset; frame = number }
+-- The number of a fault, 1 to 9 for F1 to F9, and its byte offset in the stream: 0 of F8 and F9.
+abbrev pub number_and_offset : FrameFault → ℕ × ℕ
+number_and_offset (frame.BadHeader place) = (1, place)
+number_and_offset (frame.HeaderTooLong place) = (2, place)
+number_and_offset (frame.MissingLength place) = (3, place)
+number_and_offset (frame.RepeatedHeader place) = (4, place)
+number_and_offset (frame.BadLength place) = (5, place)
+number_and_offset (frame.BodyTooLong place) = (6, place)
+number_and_offset (frame.BadCharset place) = (7, place)
+number_and_offset frame.Failed = (8, 0)
+number_and_offset frame.NoMemory = (9, 0)
 
--- A fault is written, if it is one of F1 to F7.
+-- A fault is written, if it is one of F1 to F7: its number and its byte offset.
 abbrev pub IsFrameReport : FrameFault → Taken → Type 0
-IsFrameReport (frame.BadHeader place) out = out ≡ taken_fault 1 place
-IsFrameReport (frame.HeaderTooLong place) out = out ≡ taken_fault 2 place
-IsFrameReport (frame.MissingLength place) out = out ≡ taken_fault 3 place
-IsFrameReport (frame.RepeatedHeader place) out = out ≡ taken_fault 4 place
-IsFrameReport (frame.BadLength place) out = out ≡ taken_fault 5 place
-IsFrameReport (frame.BodyTooLong place) out = out ≡ taken_fault 6 place
-IsFrameReport (frame.BadCharset place) out = out ≡ taken_fault 7 place
-IsFrameReport other out = Unit {0}
+IsFrameReport fault out = frame_code fault ≡ BAD_FRAME
+    → out ≡ record nothing_taken { offset = (number_and_offset fault).1; frame = (number_and_offset fault).0 }
 
 -- A piece was not taken, by this fault of the framer.
 pub record IsNotTaken (old new : FramerData) (piece : List ℕ) (code : ℕ) (out : Taken) : Type
@@ -85,17 +85,11 @@ IsPieceFed old piece code new out =
 
 -- ---- the message that is buffered
 
--- No whole message is buffered.
-abbrev pub HasNoBody : FramerData → Type 0
-HasNoBody framing = framing.failed ≡ false → (body : List ℕ) →
-    IsFrameOf framing.limits.max_body framing.buffered body → ⊥
-
 -- The bytes of the body are copied from `start` on.
 pub record IsBodyCopy (framing : FramerData) (start code : ℕ) (old new : List ℕ)
     (copied : ℕ) : Type 0 where
-  pub sound : framing.failed ≡ false
   pub body : List ℕ
-  pub is : IsFrameOf framing.limits.max_body framing.buffered body
+  pub is : IsBodyOf framing body
   pub answer : IsAnswer (rest_asked start (Ok body)) code (IsCopy old new copied)
 
 -- They are, or there is no whole message.
@@ -124,8 +118,3 @@ pub record IsFedTo (old : StreamData) (piece : List ℕ) (code : ℕ) (new : Str
   pub fed : IsPieceFed at piece code new.framing out
   pub unhandled : new.is_handled ≡ false
   pub none : code ≢ OK → code ≢ BAD_FRAME → out ≡ nothing_taken
-
--- The body of the message that is buffered.
-abbrev pub IsBodyOf : FramerData → List ℕ → Type 0
-IsBodyOf framing body = (framing.failed ≡ false)
-    × IsFrameOf framing.limits.max_body framing.buffered body

@@ -1,8 +1,6 @@
 -- A command on a log that C asks for, and the result that C gets.
-use Rattle.std.specs.Option.{ok_or}
-use Rattle.std.specs.Prelude.{ℕ, ◌+◌, ◌-◌, ◌*◌, ◌^◌, ◌≡◌, ◌≢◌, ◌||◌, not, nat_eq, if◌then◌else◌, Bool, true, false, List, [], length, option_map, string_bytes, Option, Some, None, Result, Ok, Err}
-use Rattle.lsp_frame.specs.declared.fault.FrameFault.{FrameFault}
-use Rattle.lsp_frame.specs.declared.fault.FrameFault.TheVariants as frame
+use Rattle.laspidru.specs.Prelude.{ok_or, ℕ, ◌+◌, ◌-◌, ◌*◌, ◌^◌, ◌≡◌, ◌≢◌, ◌||◌, not, nat_eq, if◌then◌else◌, Bool, true, false, List, [], length, option_map, string_bytes, Option, Some, None, Result, Ok, Err, FrameFault, BAD_FRAME, BAD_LOG, BODY_TOO_LONG, CUT, NOT_OPEN, OK, OTHER_KIND, OUT_OF_MEMORY, OUT_OF_RANGE, Object, Output, and_then}
+use Rattle.line_diff.specs.Compared.{new_comparison}
 use Rattle.lsp_stream.specs.declared.fault.EngineFault.{EngineFault}
 use Rattle.lsp_stream.specs.declared.fault.EngineFault.TheVariants.{Frame, Truncated, BodyTooLong, TooManyTurns, BadLog}
 use Rattle.lsp_stream.specs.Ports.{Ports}
@@ -18,27 +16,23 @@ use Rattle.lsp_replay.specs.Parts.{part_engine}
 use Rattle.lsp_replay.specs.Run.{Engine, IsEngineRun, WritesLog, check_engine, convert_engine, normalise_engine, replay_engine}
 use Rattle.lsp_replay.specs.Trace.{trace_engine}
 use Rattle.lsp_replay.specs.laws.Written.{IsConverted, IsCanonicalLog, IsSquashed}
-use Rattle.laspidru.specs.declared.codes.TheConstants.{BAD_FRAME, BAD_LOG, BODY_TOO_LONG, CUT, NOT_OPEN, OK, OTHER_KIND, OUT_OF_MEMORY, OUT_OF_RANGE}
 use Rattle.laspidru.specs.declared.command.Command.{Command}
 use Rattle.laspidru.specs.declared.command.Command.TheVariants as command
 use Rattle.laspidru.specs.declared.command.CommandName.{CommandName}
 use Rattle.laspidru.specs.declared.command.CommandName.TheVariants.{Check, Explain, Trace, Replay, Normalise, Convert}
 use Rattle.laspidru.specs.declared.endings.Ending.{Ending}
 use Rattle.laspidru.specs.declared.endings.LogSettings.{LogSettings}
-use Rattle.laspidru.specs.declared.object.Object.{Object}
-use Rattle.laspidru.specs.declared.object.Object.TheVariants.{Output}
-use Rattle.laspidru.specs.Codes.{and_then}
+use Rattle.laspidru.specs.Framers.{number_and_offset}
 use Rattle.laspidru.specs.Objects.{encoding_at, in_handle, uri_asked}
-use Rattle.laspidru.specs.Servers.{bounds, limits_asked}
+use Rattle.laspidru.specs.Servers.{limits_asked}
 
 -- ---- how a log is read
 
 -- The settings of a log, if the encoding is known and each limit is in its range.
 abbrev pub log_asked : LogSettings → Result Settings ℕ
 log_asked settings = and_then (encoding_at settings.encoding) (λ encoding.
-    let given = bounds settings.max_body settings.max_text settings.max_docs settings.max_changes
-    settings.lenient in
-    and_then (limits_asked given) (λ limits. Ok (record {
+    and_then (limits_asked settings.max_body settings.max_text settings.max_docs
+    settings.max_changes settings.lenient) (λ limits. Ok (record {
       limits = limits;
       encoding = encoding;
       squash = settings.squash;
@@ -70,19 +64,18 @@ run_asked number settings uri =
     (λ named. and_then (log_asked settings) (λ taken.
     Ok (record { name = name; uri = named; settings = taken }))))
 
--- The number of the last record that is read; none for all.
-abbrev pub asked_record : ℕ → Option ℕ
-asked_record at = if nat_eq at 0 then None else Some at
+-- A comparison as C passes it: how the document's URI ends, the saved text, and how the log is read.
+abbrev pub comparison_asked : LogSettings → List ℕ → List ℕ → Result (Command × Settings) ℕ
+comparison_asked settings uri saved =
+    and_then (uri_asked uri) (λ ending. and_then (uri_asked saved) (λ text.
+    and_then (log_asked settings) (λ taken.
+    Ok (command.Compare (new_comparison ending text), taken))))
 
--- The URI of the one document that is written, if there is one.
-abbrev pub uri_if : Bool → List ℕ → Option (List ℕ)
-uri_if true uri = Some uri
-uri_if false uri = None
-
--- The part of a log that is replayed.
+-- The part of a log that is replayed: the number of the last record that is read, none for all; and
+-- the URI of the one document that is written, if any.
 pub record IsAskedPart (settings : LogSettings) (uri : List ℕ) (part : Part) : Type 0 where
-  pub at : part.at ≡ asked_record settings.at
-  pub uri_of : option_map string_bytes part.uri ≡ uri_if settings.has_uri uri
+  pub at : part.at ≡ (if nat_eq settings.at 0 then None else Some settings.at)
+  pub uri_of : option_map string_bytes part.uri ≡ (if settings.has_uri then Some uri else None)
 
 -- `replay` is of the whole log, or of a part of it.
 abbrev pub IsReplay : LogSettings → List ℕ → Command → Type 0
@@ -91,12 +84,8 @@ IsReplay settings uri (command.ReplayPart part) =
     ((not (nat_eq settings.at 0) || settings.has_uri) ≡ true) × IsAskedPart settings uri part
 IsReplay settings uri other = ⊥
 
--- `normalise` is of all records, or of those about the session and the documents' texts.
-abbrev pub normalise_if : Bool → Command
-normalise_if true = command.NormaliseDocuments
-normalise_if false = command.Normalise
-
--- The command of a name, with what the settings have of it.
+-- The command of a name, with what the settings have of it. `normalise` is of all records, or of
+-- those about the session and the documents' texts.
 abbrev pub IsCommand : CommandName → LogSettings → List ℕ → Command → Type 0
 IsCommand Check settings uri it = it ≡ command.Check
 IsCommand Explain settings uri it =
@@ -104,7 +93,8 @@ IsCommand Explain settings uri it =
 IsCommand Trace settings uri it =
     it ≡ command.Trace (record { texts = settings.texts; bodies = settings.bodies })
 IsCommand Replay settings uri it = IsReplay settings uri it
-IsCommand Normalise settings uri it = it ≡ normalise_if settings.documents
+IsCommand Normalise settings uri it =
+    it ≡ (if settings.documents then command.NormaliseDocuments else command.Normalise)
 IsCommand Convert settings uri it = it ≡ command.Convert
 
 -- ---- what a command does
@@ -136,13 +126,10 @@ IsLawful other settings before after answer = Unit {0}
 abbrev pub command_turns : ℕ
 command_turns = 18446744073709551615
 
--- How many bytes an output has at most.
-abbrev pub max_output : ℕ
-max_output = 2 ^ 61
-
--- How many more writes and flushes an output of so many bytes can take, flushed or not.
+-- How many more writes and flushes an output of so many bytes can take, flushed or not. It has at
+-- most 2^61 bytes.
 abbrev pub writes_left : ℕ → Bool → ℕ
-writes_left len flushed = 2 * (max_output - len) + (if flushed then 0 else 1)
+writes_left len flushed = 2 * (2 ^ 61 - len) + (if flushed then 0 else 1)
 
 -- A log in memory, of which no read fails, and its output in memory.
 abbrev pub log_ports : (left : List ℕ) (reads : ℕ) (ended : Bool) (written : List ℕ)
@@ -214,15 +201,8 @@ outcome_out len outcome = record (fault_out len 0) {
 -- The ending of a command at a faulty frame. F1 to F7 have a byte offset; F8 and F9 aren't faults
 -- of a log.
 abbrev pub frame_fault_out : ℕ → FrameFault → Ending
-frame_fault_out len (frame.BadHeader place) = record (fault_out len place) { frame = 1 }
-frame_fault_out len (frame.HeaderTooLong place) = record (fault_out len place) { frame = 2 }
-frame_fault_out len (frame.MissingLength place) = record (fault_out len place) { frame = 3 }
-frame_fault_out len (frame.RepeatedHeader place) = record (fault_out len place) { frame = 4 }
-frame_fault_out len (frame.BadLength place) = record (fault_out len place) { frame = 5 }
-frame_fault_out len (frame.BodyTooLong place) = record (fault_out len place) { frame = 6 }
-frame_fault_out len (frame.BadCharset place) = record (fault_out len place) { frame = 7 }
-frame_fault_out len frame.Failed = record (fault_out len 0) { frame = 8 }
-frame_fault_out len frame.NoMemory = record (fault_out len 0) { frame = 9 }
+frame_fault_out len fault =
+    record (fault_out len (number_and_offset fault).1) { frame = (number_and_offset fault).0 }
 
 -- The code of a result, and the ending. After a fault that isn't the log's there is only a code.
 abbrev pub ending_out : ℕ → Result Outcome EngineFault → Result (ℕ × Ending) ℕ
@@ -249,18 +229,13 @@ IsKept (Ok ended) output code stored out = (code ≡ ended.0)
     × (in_handle as_output stored ≡ Ok output) × (out ≡ ended.1)
 IsKept (Err fault) output code stored out = code ≡ fault
 
--- The same by the result of the command.
-abbrev pub IsEnded : List ℕ → Result Outcome EngineFault → ℕ → Option Object → Ending → Type 0
-IsEnded output answer code stored out
-    = IsKept (ending_out (length output) answer) output code stored out
-
 -- A command ran over a log: C gets its result, and the handle has its output.
 pub record IsKeptRun (it : Command) (settings : Settings) (log : List ℕ) (code : ℕ)
     (stored : Option Object) (out : Ending) : Type 0 where
   pub output : List ℕ
   pub answer : Result Outcome EngineFault
   pub ran : RanOn it settings log output answer
-  pub ended : IsEnded output answer code stored out
+  pub ended : IsKept (ending_out (length output) answer) output code stored out
 
 -- The same of the command of a name.
 pub record IsCommandRun (asked : RunAsked) (settings : LogSettings) (log : List ℕ) (code : ℕ)

@@ -1,28 +1,21 @@
 -- What edits mean on an end's open documents: text edits, and the canonical message of a batch.
-use Rattle.std.specs.Prelude.{ℕ, ℤ, ◌≡◌, List, length, Option, Some, None, Result, Ok, Err}
-use Rattle.lsp_text.specs.declared.encoding.Encoding.{Encoding}
-use Rattle.lsp_text.specs.Units.{units_in}
+use Rattle.laspidru.specs.Prelude.{ℕ, ℤ, ◌≡◌, List, length, Option, Some, None, Result, Ok, Err, Encoding, units_in, StoreData, OK, Object, FaultAt, ok_or, NO_DOCUMENT, and_then, EndData}
 use Rattle.lsp_edit.specs.Batch as batch
 use Rattle.lsp_store.specs.Faults as documents
-use Rattle.lsp_store.specs.Opened.{StoreData}
 use Rattle.lsp_store.specs.Message.{canonical_frame, message_refusal}
 use Rattle.lsp_store.specs.Table.{Refusal}
-use Rattle.laspidru.specs.declared.codes.TheConstants.{OK}
-use Rattle.laspidru.specs.declared.object.Object.{Object}
 use Rattle.laspidru.specs.declared.structs.Edit.{Edit}
-use Rattle.laspidru.specs.declared.structs.FaultAt.{FaultAt}
-use Rattle.laspidru.specs.Batches.{edits_encoding, edits_of}
 use Rattle.laspidru.specs.Clients.{IsStoreReport}
-use Rattle.laspidru.specs.Codes.{and_then}
-use Rattle.laspidru.specs.Edits.{EditsAsked, edits_asked}
+use Rattle.laspidru.specs.Edits.{Replacement, edits_asked, Asked, edits_encoding, edits_of}
 use Rattle.laspidru.specs.Ends.{entry_in, entry_text, store_in}
-use Rattle.laspidru.specs.HeldEnds.{EndData}
 use Rattle.laspidru.specs.Logs.{as_output}
 use Rattle.laspidru.specs.Objects.{in_handle, uri_asked}
 use Rattle.laspidru.specs.Servers.{store_code}
+use Rattle.lsp_message.specs.Incoming.{IncomingData, did_open, did_change, did_close}
 
 -- Text edits as C passes them, on the open document of a URI.
-abbrev pub edits_named : List ℕ → ℕ → List Edit → List ℕ → Result EndData ℕ → Result EditsAsked ℕ
+abbrev pub edits_named : List ℕ → ℕ → List Edit → List ℕ → Result EndData ℕ
+    → Result (Asked Replacement) ℕ
 edits_named uri number edits texts held = and_then (uri_asked uri) (λ named.
     edits_asked number edits texts (entry_text (and_then held (entry_in named))))
 
@@ -66,3 +59,14 @@ IsMessageLeft (Ok frame) code stored len out =
 IsMessageLeft (Err refusal) code stored len out =
     (code ≡ store_code (documents.refusal_fault refusal))
     × IsStoreReport (documents.refusal_fault refusal) out
+
+-- The URI of the document that a message opens, changes or closes: the one in valid params.
+abbrev pub document_of : IncomingData → Option (List ℕ)
+document_of (did_open (Some params)) = Some params.uri
+document_of (did_change (Some params)) = Some params.uri
+document_of (did_close (Some params)) = Some params.uri
+document_of other = None
+
+-- The same, or the code of its refusal.
+abbrev pub named_document : IncomingData → Result (List ℕ) ℕ
+named_document message = ok_or (document_of message) NO_DOCUMENT

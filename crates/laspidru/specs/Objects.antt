@@ -1,26 +1,13 @@
 -- The objects in handles, and what C asks of a text in one of the three encodings. `as_document` and
 -- the like are what an object is, or the code of a refusal if it is of another kind;
 -- `in_handle as_document` and the like are the same of what a handle has in it.
-use Rattle.std.specs.Prelude.{ℕ, ◌≡◌, ◌≤◌, ◌+◌, ◌++◌, ◌⊎◌, List, length, min, take, drop, Option, Some, None, Result, Ok, Err, if◌then◌else◌, nat_eq, nat_lt, option_map}
-use Rattle.std.specs.Option.{ok_or}
-use Rattle.std.specs.Str.{chars, is_utf8}
-use Rattle.lsp_text.specs.declared.encoding.Encoding.{Encoding}
-use Rattle.lsp_text.specs.declared.encoding.Encoding.TheVariants.{Utf8, Utf16, Utf32}
+use Rattle.laspidru.specs.Prelude.{ℕ, ◌≡◌, ◌≤◌, ◌+◌, ◌++◌, ◌⊎◌, List, length, min, take, drop, Option, Some, None, Result, Ok, Err, if◌then◌else◌, nat_eq, nat_lt, option_map, ok_or, chars, is_utf8, Encoding, Utf8, Utf16, Utf32, units_in, Change, MAX_OLD_TEXT, BAD_ENCODING, EMPTY, IN_USE, INSIDE_CHARACTER, NOT_UTF8, OK, OTHER_KIND, OUT_OF_RANGE, TOO_LONG, CPosition, Object, Document, Batch, and_then}
 use Rattle.lsp_text.specs.declared.position.Position.{Position}
 use Rattle.lsp_text.specs.LineStarts.{IsPlace}
 use Rattle.lsp_text.specs.Positions.{denoted, exact_position}
 use Rattle.lsp_text.specs.TextLines.{line_ends, line_start, line_stop}
 use Rattle.lsp_text.specs.Text.{place_of}
-use Rattle.lsp_text.specs.Units.{units_in}
-use Rattle.lsp_edit.specs.declared.change.Change.{Change}
-use Rattle.lsp_edit.specs.declared.composed.TheConstants.{MAX_OLD_TEXT}
-use Rattle.laspidru.specs.declared.codes.TheConstants.{BAD_ENCODING, EMPTY, IN_USE, INSIDE_CHARACTER, NOT_UTF8, OK, OTHER_KIND, OUT_OF_RANGE, TOO_LONG}
 use Rattle.laspidru.specs.declared.structs.Line.{Line}
-use Rattle.laspidru.specs.declared.structs.CPosition.{CPosition}
-use Rattle.laspidru.specs.declared.structs.Size.{Size}
-use Rattle.laspidru.specs.declared.object.Object.{Object}
-use Rattle.laspidru.specs.declared.object.Object.TheVariants.{Document, Batch}
-use Rattle.laspidru.specs.Codes.{and_then}
 
 -- A handle that is to be filled is refused if it has an object.
 abbrev pub in_use : Option Object → Option ℕ
@@ -32,16 +19,14 @@ abbrev pub in_handle : {X : Type 0} → (Object → Result X ℕ) → Option Obj
 in_handle read (Some object) = read object
 in_handle read None = Err EMPTY
 
--- A text to be opened, if it isn't too long and is UTF-8.
-abbrev pub text_asked : List ℕ → Result (List ℕ) ℕ
-text_asked text =
-    if nat_lt MAX_OLD_TEXT (length text) then Err TOO_LONG
-    else if is_utf8 text then Ok text
-    else Err NOT_UTF8
-
 -- A URI or another text, if it is UTF-8.
 abbrev pub uri_asked : List ℕ → Result (List ℕ) ℕ
 uri_asked uri = if is_utf8 uri then Ok uri else Err NOT_UTF8
+
+-- A text to be opened, if it isn't too long and is UTF-8.
+abbrev pub text_asked : List ℕ → Result (List ℕ) ℕ
+text_asked text =
+    if nat_lt MAX_OLD_TEXT (length text) then Err TOO_LONG else uri_asked text
 
 -- The text of a document.
 abbrev pub as_document : Object → Result (List ℕ) ℕ
@@ -54,20 +39,12 @@ as_batch (Batch changes) = Ok changes.items
 as_batch other = Err OTHER_KIND
 
 -- The encoding of a number of C.
-abbrev pub encoding_numbered : ℕ → Option Encoding
-encoding_numbered number =
-    if nat_eq number 8 then Some Utf8
-    else if nat_eq number 16 then Some Utf16
-    else if nat_eq number 32 then Some Utf32
-    else None
-
--- The same, or the code of its refusal.
 abbrev pub encoding_at : ℕ → Result Encoding ℕ
-encoding_at number = ok_or (encoding_numbered number) BAD_ENCODING
-
--- How many bytes and lines a text has.
-abbrev pub IsSize : Size → List ℕ → Type 0
-IsSize size text = (size.bytes ≡ length text) × (size.lines ≡ line_ends (chars text) + 1)
+encoding_at number =
+    if nat_eq number 8 then Ok Utf8
+    else if nat_eq number 16 then Ok Utf16
+    else if nat_eq number 32 then Ok Utf32
+    else Err BAD_ENCODING
 
 -- A text with a line of this number.
 abbrev pub line_asked : ℕ → Result (List ℕ) ℕ → Result (List ℕ) ℕ

@@ -1,5 +1,4 @@
 -- Definitions that only private contracts speak of.
-pub mod Calls
 pub mod Clients
 pub mod Stored
 pub mod Subjects

@@ -2,7 +2,7 @@
 
 ghost use Rattle.std.specs.Prelude.{◌≡◌, Err, IfErr, IfOk, Ok};
 ghost use Rattle.lsp_server.specs.Seen.{answer_view};
-ghost use Rattle.laspidru.specs.Servers.{answer_out, bounds, config_asked, error_number};
+ghost use Rattle.laspidru.specs.Servers.{answer_out, config_asked, error_number};
 ghost use Rattle.laspidru.specs.Servers.{limit_code, limits_asked, plain_out, refusal_code};
 ghost use Rattle.laspidru.specs.Servers.{reply_out, store_code};
 
@@ -94,7 +94,7 @@ pub(crate) fn limits_of(
     max_changes: usize,
     lenient: bool,
 ) -> Result<Limits, u32>
-    ensures { result ≡ limits_asked (bounds max_body max_text max_docs max_changes lenient) }
+    ensures { result ≡ limits_asked max_body max_text max_docs max_changes lenient }
 {
     match Limits::new(max_body, max_text, max_docs, max_changes) {
         Ok(limits) if lenient => Ok(limits.lenient()),

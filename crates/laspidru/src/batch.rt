@@ -1,10 +1,10 @@
 //! The functions on canonical batches.
 
-ghost use Rattle.std.specs.Prelude.{◌≡◌, ◌≢◌, None, Ok, length};
-ghost use Rattle.laspidru.specs.Batches.{IsCanonicalIf, IsEdit, IsEditOf, batch_asked};
-ghost use Rattle.laspidru.specs.Batches.{change_asked, fitting, refused_edit, text_left_by};
+ghost use Rattle.std.specs.Prelude.{◌≡◌, ◌≢◌, None, Ok, length, string_bytes};
+ghost use Rattle.laspidru.specs.Edits.{LeavesCanonical, IsEdit, batch_asked, change_asked, edits_of};
+ghost use Rattle.laspidru.specs.Edits.{fitting, refused_edit};
 ghost use Rattle.laspidru.specs.Codes.{IsAnswer, IsAnswerOrNoMemory, unless};
-ghost use Rattle.laspidru.specs.Objects.{as_batch, as_document, in_handle, in_use};
+ghost use Rattle.laspidru.specs.Objects.{IsCopy, as_batch, as_document, in_handle, in_use};
 
 use crate::bytes::copy_bytes;
 use crate::changes::{changes_of, edits_encoding_of, fits, report};
@@ -32,8 +32,8 @@ fn put_canonical(
     requires checked { refused_edit edits.now texts.now ≡ None }
     requires empty { batch.old.value ≡ None }
     ensures answer { IsAnswerOrNoMemory
-        (fitting encoding edits.now texts.now (Ok document.now)) result
-        (λ asked. IsCanonicalIf (text_left_by asked) asked result batch.new.value fault.new) }
+        (fitting encoding edits.now (edits_of edits.now texts.now) (Ok document.now)) result
+        (λ asked. LeavesCanonical asked result batch.new.value fault.new) }
     ensures unchanged { result ≢ OK → batch.new.value ≡ None }
     ensures fault { result ≢ INSIDE_CHARACTER → result ≢ REVERSED_RANGE → fault.new ≡ fault.old }
 {
@@ -65,7 +65,7 @@ pub extern "C" fn laspidru_document_canonical(
     ensures answer { let text =
         unless (in_use batch.old.value) (in_handle as_document handle.old.value) in
         IsAnswerOrNoMemory (batch_asked encoding edits.now texts.now text) result
-        (λ asked. IsCanonicalIf (text_left_by asked) asked result batch.new.value fault.new) }
+        (λ asked. LeavesCanonical asked result batch.new.value fault.new) }
     ensures handle { handle.new.value ≡ handle.old.value }
     ensures unchanged { result ≢ OK → batch.new.value ≡ batch.old.value }
     ensures fault { result ≢ INSIDE_CHARACTER → result ≢ REVERSED_RANGE → fault.new ≡ fault.old }
@@ -126,7 +126,8 @@ pub extern "C" fn laspidru_batch_edit(
     copied: &mut usize,
 ) -> u32
     ensures answer { IsAnswer (change_asked index (in_handle as_batch batch.old.value)) result
-        (IsEditOf out_edit.new out.old out.new copied.new) }
+        (λ change. IsEdit out_edit.new change
+        × IsCopy out.old out.new copied.new (string_bytes change.text)) }
     ensures handle { batch.new.value ≡ batch.old.value }
     ensures unchanged { result ≢ OK
         → (out_edit.new ≡ out_edit.old) × (out.new ≡ out.old) × (copied.new ≡ copied.old) }

@@ -9,6 +9,7 @@ use crate::codes::{NOT_UTF8, OK, OUT_OF_RANGE};
 use lsp_buffer::TextBuffer;
 
 /// Returns the text of bytes that are UTF-8.
+#[tactic(auto, using(crate::proofs::Utf8::utf8_yes, crate::proofs::Utf8::utf8_no))]
 pub(crate) fn utf8_text(bytes: &[u8]) -> Option<&str>
     ensures text { IfSome result (λ text. (text.now ≡ bytes.now) × (is_utf8 bytes.now ≡ true)) }
     ensures none { IfNone result (is_utf8 bytes.now ≡ false) }

@@ -1,13 +1,13 @@
 //! A batch as C passes it, and the report of its fault.
 
-ghost use Rattle.std.specs.Prelude.{◌≡◌, ◌≢◌, ◌≤◌, ◌↔◌, None, Err, IfErr, IfOk, IsTrue};
-ghost use Rattle.std.specs.Prelude.{Ok, OnOk, length, map, string_len, sum_by, true};
+ghost use Rattle.std.specs.Prelude.{◌≡◌, ◌≢◌, ◌≤◌, ◌↔◌, Err, IfErr, IfOk, IsTrue, None, Ok, OnOk};
+ghost use Rattle.std.specs.Prelude.{length, map, string_len, sum_by, true};
 ghost use Rattle.std.specs.Str.{is_utf8};
 ghost use Rattle.lsp_edit.specs.declared.indexed.fault.BatchFault.TheVariants.{Edit as EditOf};
 ghost use Rattle.lsp_edit.specs.Edited.{content_change};
 ghost use Rattle.laspidru.specs.Objects.{encoding_at, position_at};
-ghost use Rattle.laspidru.specs.Batches.{IsReport, edit_with, edits_encoding, edits_of, is_end};
-ghost use Rattle.laspidru.specs.Batches.{len_of, refused_edit};
+ghost use Rattle.laspidru.specs.Edits.{IsReport, edit_with, edits_encoding, edits_of, is_end};
+ghost use Rattle.laspidru.specs.Edits.{len_of, refused_edit};
 
 use crate::bytes::utf8_text;
 use crate::codes::{
@@ -90,6 +90,7 @@ pub(crate) fn fits(edits: &[Edit]) -> bool
 }
 
 /// Returns an edit with its text.
+#[tactic(auto, using(crate::proofs::Utf8::utf8_is))]
 fn change_of(alloc: Global, edit: Edit, own: &[u8]) -> Result<Change, AllocError>
     requires { is_utf8 own.now ≡ true }
     ensures ok { IfOk result (λ change. content_change change ≡ edit_with edit own.now) }

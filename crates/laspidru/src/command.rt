@@ -3,8 +3,7 @@
 ghost use Rattle.std.specs.Prelude.{◌≡◌, IfOk};
 ghost use Rattle.lsp_replay.specs.Run.{IsEngineRun};
 ghost use Rattle.laspidru.specs.Logs.{IsAskedPart, IsCommand, IsLawful, IsReplay, RanOn};
-ghost use Rattle.laspidru.specs.Logs.{asked_record, command_engine, command_turns, log_ports};
-ghost use Rattle.laspidru.specs.Logs.{name_numbered};
+ghost use Rattle.laspidru.specs.Logs.{command_engine, command_turns, log_ports, name_numbered};
 
 use crate::endings::LogSettings;
 use crate::log_reader::LogReader;
@@ -64,13 +63,6 @@ pub(crate) fn command_named(number: u32) -> Option<CommandName>
     }
 }
 
-/// Returns the number of the last record that is to be read; none for all.
-fn last_record(at: u64) -> Option<u64>
-    ensures { result ≡ asked_record at }
-{
-    if at == 0 { None } else { Some(at) }
-}
-
 /// Returns the part of a log that is asked for.
 fn part_of(alloc: Global, settings: &LogSettings, uri: &str) -> Result<Part, AllocError>
     ensures { IfOk result (IsAskedPart settings.now uri.now) }
@@ -80,7 +72,11 @@ fn part_of(alloc: Global, settings: &LogSettings, uri: &str) -> Result<Part, All
     } else {
         None
     };
-    let at = last_record(settings.at);
+    let at = if settings.at == 0 {
+        None
+    } else {
+        Some(settings.at)
+    };
     Ok(Part { at, uri })
 }
 

@@ -1,11 +1,12 @@
 //! The functions on documents. `positions` has those on positions and lines.
 
-ghost use Rattle.std.specs.Prelude.{◌≡◌, ◌≢◌, ◌≤◌, None, Ok, Some, IfErr, IfOk, length};
+ghost use Rattle.std.specs.Prelude.{◌≡◌, ◌≢◌, ◌≤◌, ◌+◌, IfErr, IfOk, None, Ok, Some, length};
+ghost use Rattle.std.specs.Str.{chars};
+ghost use Rattle.lsp_text.specs.TextLines.{line_ends};
 ghost use Rattle.laspidru.specs.declared.object.Object.TheVariants.{Document};
-ghost use Rattle.laspidru.specs.Batches.{IsTextLeft, batch_asked, fitting, refused_edit};
-ghost use Rattle.laspidru.specs.Batches.{text_left_by};
+ghost use Rattle.laspidru.specs.Edits.{IsChanged, batch_asked, edits_of, fitting, refused_edit};
 ghost use Rattle.laspidru.specs.Codes.{IsAnswer, IsAnswerOrNoMemory, unless};
-ghost use Rattle.laspidru.specs.Objects.{IsCopy, IsSize, as_document, in_handle, in_use};
+ghost use Rattle.laspidru.specs.Objects.{IsCopy, as_document, in_handle, in_use};
 ghost use Rattle.laspidru.specs.Objects.{rest_asked, text_asked};
 
 mod positions;
@@ -79,8 +80,8 @@ fn change_object(
 ) -> u32
     requires { refused_edit edits.now texts.now ≡ None }
     ensures answer { IsAnswerOrNoMemory
-        (fitting encoding edits.now texts.now (as_document object.old)) result
-        (λ asked. IsTextLeft (text_left_by asked) result (Some object.new) fault.new) }
+        (fitting encoding edits.now (edits_of edits.now texts.now) (as_document object.old))
+        result (λ asked. IsChanged asked result (Some object.new) fault.new) }
     ensures unchanged { result ≢ OK → object.new ≡ object.old }
     ensures fault { result ≢ INSIDE_CHARACTER → result ≢ REVERSED_RANGE → fault.new ≡ fault.old }
 {
@@ -119,7 +120,7 @@ pub extern "C" fn laspidru_document_change(
 ) -> u32
     ensures answer { IsAnswerOrNoMemory
         (batch_asked encoding edits.now texts.now (in_handle as_document handle.old.value)) result
-        (λ asked. IsTextLeft (text_left_by asked) result handle.new.value fault.new) }
+        (λ asked. IsChanged asked result handle.new.value fault.new) }
     ensures unchanged { result ≢ OK → handle.new.value ≡ handle.old.value }
     ensures fault { result ≢ INSIDE_CHARACTER → result ≢ REVERSED_RANGE → fault.new ≡ fault.old }
 {
@@ -134,7 +135,8 @@ pub extern "C" fn laspidru_document_change(
 #[tactic(auto, using(lsp_text::proofs::TextLines::IndexesLemmas::indexes_count))]
 #[unsafe(no_mangle)]
 pub extern "C" fn laspidru_document_size(alloc: Global, handle: &mut Handle, out: &mut Size) -> u32
-    ensures answer { IsAnswer (in_handle as_document handle.old.value) result (IsSize out.new) }
+    ensures answer { IsAnswer (in_handle as_document handle.old.value) result (λ text.
+        (out.new.bytes ≡ length text) × (out.new.lines ≡ line_ends (chars text) + 1)) }
     ensures handle { handle.new.value ≡ handle.old.value }
     ensures unchanged { result ≢ OK → out.new ≡ out.old }
 {

@@ -1,8 +1,8 @@
 //! The functions on the open documents of an end.
 
-ghost use Rattle.std.specs.Prelude.{◌≡◌, ◌≢◌};
+ghost use Rattle.std.specs.Prelude.{◌≡◌, ◌≢◌, length};
 ghost use Rattle.laspidru.specs.Codes.{IsAnswer};
-ghost use Rattle.laspidru.specs.Ends.{IsOpened, as_end, entry_asked, entry_text};
+ghost use Rattle.laspidru.specs.Ends.{as_end, entry_asked, entry_text};
 ghost use Rattle.laspidru.specs.Objects.{IsCopy, in_handle, rest_asked};
 
 mod edits;
@@ -27,7 +27,7 @@ pub extern "C" fn laspidru_open_state(
     out: &mut Opened,
 ) -> u32
     ensures answer { IsAnswer (entry_asked uri.now (in_handle as_end handle.old.value)) result
-        (IsOpened out.new) }
+        (λ entry. (out.new.version ≡ entry.version) × (out.new.bytes ≡ length entry.text)) }
     ensures handle { handle.new.value ≡ handle.old.value }
     ensures unchanged { result ≢ OK → out.new ≡ out.old }
 {

@@ -1,14 +1,14 @@
 //! The functions on text edits.
 
-ghost use Rattle.std.specs.Prelude.{◌≡◌, ◌≢◌, ◌≤◌, ◌⊎◌, None, IfErr, IfOk, Ok, OnErr, OnOk, Some};
+ghost use Rattle.std.specs.Prelude.{◌≡◌, ◌≢◌, ◌≤◌, ◌⊎◌, IfErr, IfOk, None, Ok, OnErr, OnOk, Some};
 ghost use Rattle.std.specs.Prelude.{length, map, true};
 ghost use Rattle.std.specs.Str.{is_utf8};
-ghost use Rattle.laspidru.specs.Batches.{refused_edit};
-ghost use Rattle.laspidru.specs.Codes.{IsAnswerOrNoMemory, unless};
+ghost use Rattle.lsp_edit.specs.Edited.{content_change};
 ghost use Rattle.laspidru.specs.Edits.{AreApplied, AreBatched, AreFaulty, IsBatchOfAsked};
 ghost use Rattle.laspidru.specs.Edits.{IsEditsReport, IsTooMuch, IsUnlessFaulty, edits_asked};
-ghost use Rattle.laspidru.specs.Edits.{edits_on, fitting_edits, range_or, replacement_of};
+ghost use Rattle.laspidru.specs.Edits.{edits_on, fitting, range_or, refused_edit, replacement_of};
 ghost use Rattle.laspidru.specs.Edits.{replacement_with, replacements_of, text_left};
+ghost use Rattle.laspidru.specs.Codes.{IsAnswerOrNoMemory, unless};
 ghost use Rattle.laspidru.specs.Objects.{as_document, in_handle, in_use};
 ghost use Rattle.laspidru.specs.inside.Subjects.{subject_text};
 
@@ -50,6 +50,7 @@ fn range_of(is_whole: bool, start: CPosition, end: CPosition) -> Range
 }
 
 /// Returns an edit with its text.
+#[tactic(auto, using(crate::proofs::Utf8::utf8_is))]
 fn text_edit_of(alloc: Global, edit: Edit, own: &[u8]) -> Result<TextEdit, AllocError>
     requires { is_utf8 own.now ≡ true }
     ensures { IfOk result (λ passed. replacement_of passed ≡ replacement_with edit own.now) }
@@ -126,12 +127,10 @@ fn batch_of(
     fault: &mut EditsFault,
 ) -> Result<Vec<Change>, u32>
     requires { refused_edit edits.now texts.now ≡ None }
-    ensures ok { IfOk result (λ changes.
-        IsBatchOfAsked (edits_on encoding edits.now texts.now (subject_text subject.now))
-        changes.items) }
-    ensures error { IfErr result (λ code. (code ≡ OUT_OF_MEMORY)
-        ⊎ AreFaulty (edits_on encoding edits.now texts.now (subject_text subject.now)) code
-        fault.new) }
+    ensures ok { let asked = edits_on encoding edits.now texts.now (subject_text subject.now) in
+        IfOk result (λ changes. IsBatchOfAsked asked changes.items) }
+    ensures error { let asked = edits_on encoding edits.now texts.now (subject_text subject.now) in
+        IfErr result (λ code. (code ≡ OUT_OF_MEMORY) ⊎ AreFaulty asked code fault.new) }
     ensures no_fault { IfOk result (λ changes. fault.new ≡ fault.old) }
     ensures unchanged { IfErr result (λ code. IsUnlessFaulty code (fault.new ≡ fault.old)) }
 {
@@ -160,8 +159,8 @@ pub(crate) fn put_batch_of_edits(
 ) -> u32
     requires checked { refused_edit edits.now texts.now ≡ None }
     requires empty { batch.old.value ≡ None }
-    ensures answer { let text = Ok (subject_text subject.now) in
-        IsAnswerOrNoMemory (fitting_edits encoding edits.now texts.now text) result
+    ensures answer { let passed = replacements_of edits.now texts.now in IsAnswerOrNoMemory
+        (fitting encoding edits.now passed (Ok (subject_text subject.now))) result
         (λ asked. AreBatched asked result batch.new.value fault.new) }
     ensures unchanged { result ≢ OK → batch.new.value ≡ None }
     ensures fault { IsUnlessFaulty result (fault.new ≡ fault.old) }
@@ -213,7 +212,8 @@ pub extern "C" fn laspidru_document_batch_of_edits(
 /// Makes a batch without a faulty change on a text, or answers why there is none.
 fn change_by(document: &mut IndexedText, encoding: Encoding, batch: &[Change]) -> Result<(), u32>
     requires { length document.old ≤ MAX_OLD_TEXT }
-    ensures ok { OnOk result (text_left encoding document.old batch.now ≡ Ok document.new) }
+    ensures ok { OnOk result
+        (text_left encoding document.old (map content_change batch.now) ≡ Ok document.new) }
     ensures error { IfErr result (λ code. (code ≡ OUT_OF_MEMORY)
         ⊎ ((code ≡ TOO_LONG) × IsTooMuch encoding document.old batch.now)) }
     ensures unchanged { OnErr result (document.new ≡ document.old) }
@@ -238,8 +238,8 @@ fn object_apply_edits(
     fault: &mut EditsFault,
 ) -> u32
     requires { refused_edit edits.now texts.now ≡ None }
-    ensures answer { IsAnswerOrNoMemory
-        (fitting_edits encoding edits.now texts.now (as_document object.old)) result
+    ensures answer { let passed = replacements_of edits.now texts.now in IsAnswerOrNoMemory
+        (fitting encoding edits.now passed (as_document object.old)) result
         (λ asked. AreApplied asked result (Some object.new) fault.new) }
     ensures unchanged { result ≢ OK → object.new ≡ object.old }
     ensures fault { IsUnlessFaulty result (fault.new ≡ fault.old) }

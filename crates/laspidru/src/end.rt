@@ -13,7 +13,7 @@ pub struct End {
 }
 
 impl Model for End {
-    ghost use Rattle.laspidru.specs.HeldEnds.{EndData};
+    ghost use Rattle.laspidru.specs.Streams.{EndData};
 
     ghost Value = { EndData };
 

@@ -9,6 +9,7 @@ use crate::changes::encoding_of;
 use crate::codes::{
     BAD_FRAME, BAD_LOG, BODY_TOO_LONG, CUT, NOT_OPEN, OK, OUT_OF_MEMORY, OUT_OF_RANGE,
 };
+use crate::taken::number_and_offset_of;
 use lsp_frame::FrameFault;
 use lsp_replay::{EngineFault, Missing, Outcome, Settings};
 
@@ -119,17 +120,7 @@ fn fault_ending(output_len: usize, offset: u64) -> Ending
 fn frame_ending(output_len: usize, fault: FrameFault) -> Ending
     ensures { result ≡ frame_fault_out output_len fault }
 {
-    let (frame, offset) = match fault {
-        FrameFault::BadHeader { place } => (1, place),
-        FrameFault::HeaderTooLong { place } => (2, place),
-        FrameFault::MissingLength { place } => (3, place),
-        FrameFault::RepeatedHeader { place } => (4, place),
-        FrameFault::BadLength { place } => (5, place),
-        FrameFault::BodyTooLong { place } => (6, place),
-        FrameFault::BadCharset { place } => (7, place),
-        FrameFault::Failed => (8, 0),
-        FrameFault::NoMemory => (9, 0),
-    };
+    let (frame, offset) = number_and_offset_of(fault);
     Ending {
         frame,
         ..fault_ending(output_len, offset)

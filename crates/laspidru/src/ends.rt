@@ -1,13 +1,13 @@
 //! The functions on either end of a session.
 
-ghost use Rattle.std.specs.Prelude.{◌≡◌, ◌≢◌, IsOkAnd, None, Some};
+ghost use Rattle.std.specs.Prelude.{◌≡◌, ◌≢◌, IsOkAnd, None, Ok, Some};
 ghost use Rattle.laspidru.specs.Codes.{IsAnswer, IsAnswerOrNoMemory, IsRefusedOr, OnRefused};
-ghost use Rattle.laspidru.specs.Ends.{IsHandled, IsHandledBy, IsState, agreed_encoding, as_end};
-ghost use Rattle.laspidru.specs.Ends.{as_framing, closed, deaf, frame_asked, handling_of};
-ghost use Rattle.laspidru.specs.Ends.{listening, party_phase, party_reason, session_over, store_in};
+ghost use Rattle.laspidru.specs.Codes.{and_then};
+ghost use Rattle.laspidru.specs.Ends.{IsHandled, IsHandledBy, IsState, IsTaken, agreed_encoding};
+ghost use Rattle.laspidru.specs.Ends.{as_end, as_framing, closed, deaf, handling_of, listening};
+ghost use Rattle.laspidru.specs.Ends.{party_phase, session_over, store_in};
 ghost use Rattle.laspidru.specs.Framers.{IsBodyAnswer};
 ghost use Rattle.laspidru.specs.Objects.{IsCopy, in_handle, rest_asked};
-ghost use Rattle.laspidru.specs.Taking.{IsTaken};
 
 use crate::answers::{Answer, State, answer_of, reply_of};
 use crate::bytes::copy_from;
@@ -64,8 +64,7 @@ fn encoding_of_session(party: &Party) -> Option<Encoding>
 
 /// Returns the number of an end's phase, and the code for why its session failed.
 fn phase_of_party(party: &Party) -> (u32, u32)
-    ensures phase { result.0 ≡ party_phase party.now }
-    ensures reason { result.1 ≡ party_reason party.now }
+    ensures { result ≡ party_phase party.now }
 {
     match party {
         Party::Server(server) => (server_phase_of(server.phase()), 0),
@@ -294,8 +293,9 @@ pub extern "C" fn laspidru_frame(
     out: &mut [u8],
     copied: &mut usize,
 ) -> u32
-    ensures answer { let frame = frame_asked (in_handle as_end handle.old.value) in
-        IsAnswer (rest_asked start frame) result (IsCopy out.old out.new copied.new) }
+    ensures answer { let held = in_handle as_end handle.old.value in
+        IsAnswer (rest_asked start (and_then held (λ it. Ok it.frame))) result
+        (IsCopy out.old out.new copied.new) }
     ensures handle { handle.new.value ≡ handle.old.value }
     ensures unchanged { result ≢ OK → (out.new ≡ out.old) × (copied.new ≡ copied.old) }
 {

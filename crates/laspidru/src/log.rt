@@ -1,9 +1,9 @@
 //! The functions on logs.
 
-ghost use Rattle.std.specs.Prelude.{◌≡◌, ◌≢◌, ◌⊎◌, None};
+ghost use Rattle.std.specs.Prelude.{◌≡◌, ◌≢◌, ◌⊎◌, None, length};
 ghost use Rattle.laspidru.specs.Codes.{IsAnswer, IsAnswerOrNoMemory, unless};
-ghost use Rattle.laspidru.specs.Logs.{IsCommandRun, IsEnded, IsKeptRun, IsUnlessEnded, RunAsked};
-ghost use Rattle.laspidru.specs.Logs.{as_output, run_asked};
+ghost use Rattle.laspidru.specs.Logs.{IsCommandRun, IsKept, IsKeptRun, IsUnlessEnded, RunAsked};
+ghost use Rattle.laspidru.specs.Logs.{as_output, ending_out, run_asked};
 ghost use Rattle.laspidru.specs.Objects.{IsCopy, in_handle, in_use, rest_asked};
 
 mod compared;
@@ -21,8 +21,9 @@ use std::alloc::Global;
 /// isn't kept.
 fn keep(alloc: Global, handle: &mut Handle, run: CommandRun, out: &mut Ending) -> u32
     requires { handle.old.value ≡ None }
-    ensures answer { (result ≡ OUT_OF_MEMORY)
-        ⊎ IsEnded run.output.items run.answer result handle.new.value out.new }
+    ensures answer { let ended = ending_out (length run.output.items) run.answer in
+        (result ≡ OUT_OF_MEMORY)
+        ⊎ IsKept ended run.output.items result handle.new.value out.new }
     ensures unchanged { IsUnlessEnded result
         ((handle.new.value ≡ handle.old.value) × (out.new ≡ out.old)) }
 {

@@ -1,9 +1,9 @@
 //! The settings that C passes to a client, and what it gets of one; numbers of phases.
 
-ghost use Rattle.std.specs.Prelude.{◌≡◌, ◌≢◌, Err, IfErr, IfOk, Ok, OnErr, length};
+ghost use Rattle.std.specs.Prelude.{◌≡◌, ◌≢◌};
 ghost use Rattle.lsp_client.specs.Seen.{delivered_view};
 ghost use Rattle.laspidru.specs.Servers.{store_code};
-ghost use Rattle.laspidru.specs.Clients.{IsStoreReport, delivered_out, phase_number, phase_reason};
+ghost use Rattle.laspidru.specs.Clients.{IsStoreReport, delivered_out, phase_numbers};
 ghost use Rattle.laspidru.specs.Clients.{reason_number, sent_frame};
 ghost use Rattle.laspidru.specs.Ends.{encoding_number, server_phase};
 ghost use Rattle.laspidru.specs.inside.Clients.{IsCallReport, call_code};
@@ -12,7 +12,7 @@ use crate::answers::{Answer, plain, store_code_of};
 use crate::changes::report_change;
 use crate::codes::{
     BAD_ENCODING, BAD_SERVER, ERROR_ANSWER, IGNORED, INSIDE_CHARACTER, NO_SYNC, NOT_AN_ANSWER,
-    NOTED, OK, OUT_OF_MEMORY, REPLIED, REVERSED_RANGE, WRONG_PHASE,
+    NOTED, OUT_OF_MEMORY, REPLIED, REVERSED_RANGE, WRONG_PHASE,
 };
 use crate::structs::FaultAt;
 use lsp_client::{ClientFault, Delivered, Phase, Reason};
@@ -71,27 +71,6 @@ pub(crate) fn report_call(fault: ClientFault, out: &mut FaultAt) -> u32
     }
 }
 
-/// Keeps the frame of an accepted call, or returns the code of a refused one.
-pub(crate) fn keep_frame(
-    kept: &mut Vec<u8>,
-    answer: Result<Vec<u8>, ClientFault>,
-    len: &mut usize,
-) -> u32
-    ensures ok { IfOk answer (λ frame. (result ≡ OK) × (kept.new.items ≡ frame.items)
-        × (len.new ≡ length frame.items)) }
-    ensures error { IfErr answer (λ fault. result ≡ call_code fault) }
-    ensures unchanged { OnErr answer ((kept.new ≡ kept.old) × (len.new ≡ len.old)) }
-{
-    match answer {
-        Ok(frame) => {
-            *len = frame.len();
-            *kept = frame;
-            OK
-        }
-        Err(fault) => call_code_of(fault),
-    }
-}
-
 /// Returns the reason why a session can't continue, as a code.
 fn reason_code(reason: Reason) -> u32
     ensures { result ≡ reason_number reason }
@@ -134,8 +113,7 @@ pub(crate) fn frame_of(alloc: Global, delivered: Delivered) -> Vec<u8>
 
 /// Returns the number of a phase, and the code for why the session failed.
 pub(crate) fn phase_of(phase: Phase) -> (u32, u32)
-    ensures phase { result.0 ≡ phase_number phase }
-    ensures reason { result.1 ≡ phase_reason phase }
+    ensures { result ≡ phase_numbers phase }
 {
     match phase {
         Phase::New => (0, 0),

@@ -2,7 +2,7 @@
 
 ghost use Rattle.std.specs.Prelude.{◌≡◌, ◌≢◌};
 ghost use Rattle.laspidru.specs.Framers.{HasBody, IsFrameReport, IsPieceFed, IsReleased};
-ghost use Rattle.laspidru.specs.Framers.{frame_code, nothing_taken};
+ghost use Rattle.laspidru.specs.Framers.{frame_code, nothing_taken, number_and_offset};
 
 use crate::codes::{BAD_FRAME, FAILED, OK, OUT_OF_MEMORY};
 use lsp_frame::{FrameFault, Framer};
@@ -48,13 +48,11 @@ fn body_at(framer: &Framer) -> (bool, usize)
     }
 }
 
-/// Returns the code of a fault. One of F1 to F7 is written to `out`; another leaves it as it is.
-fn report_frame(fault: FrameFault, out: &mut Taken) -> u32
-    ensures report { IsFrameReport fault out.new }
-    ensures code { result ≡ frame_code fault }
-    ensures unchanged { result ≢ BAD_FRAME → out.new ≡ out.old }
+/// Returns the number of a fault, 1 to 9 for F1 to F9, and its byte offset: 0 of F8 and F9.
+pub(crate) fn number_and_offset_of(fault: FrameFault) -> (u32, u64)
+    ensures { result ≡ number_and_offset fault }
 {
-    let (frame, offset) = match fault {
+    match fault {
         FrameFault::BadHeader { place } => (1, place),
         FrameFault::HeaderTooLong { place } => (2, place),
         FrameFault::MissingLength { place } => (3, place),
@@ -62,15 +60,38 @@ fn report_frame(fault: FrameFault, out: &mut Taken) -> u32
         FrameFault::BadLength { place } => (5, place),
         FrameFault::BodyTooLong { place } => (6, place),
         FrameFault::BadCharset { place } => (7, place),
-        FrameFault::Failed => return FAILED,
-        FrameFault::NoMemory => return OUT_OF_MEMORY,
-    };
-    *out = Taken {
-        offset,
-        frame,
-        ..nothing()
-    };
-    BAD_FRAME
+        FrameFault::Failed => (8, 0),
+        FrameFault::NoMemory => (9, 0),
+    }
+}
+
+/// Returns the code of a fault.
+fn frame_code_of(fault: FrameFault) -> u32
+    ensures { result ≡ frame_code fault }
+{
+    match fault {
+        FrameFault::Failed => FAILED,
+        FrameFault::NoMemory => OUT_OF_MEMORY,
+        _ => BAD_FRAME,
+    }
+}
+
+/// Returns the code of a fault. One of F1 to F7 is written to `out`; another leaves it as it is.
+fn report_frame(fault: FrameFault, out: &mut Taken) -> u32
+    ensures report { IsFrameReport fault out.new }
+    ensures code { result ≡ frame_code fault }
+    ensures unchanged { result ≢ BAD_FRAME → out.new ≡ out.old }
+{
+    let code = frame_code_of(fault);
+    if code == BAD_FRAME {
+        let (frame, offset) = number_and_offset_of(fault);
+        *out = Taken {
+            offset,
+            frame,
+            ..nothing()
+        };
+    }
+    code
 }
 
 /// Releases the message that a framer has buffered, if it is whole.

@@ -4,9 +4,9 @@ ghost use Rattle.std.specs.Prelude.{◌≡◌, ◌≢◌, ◌⊎◌, map, option
 ghost use Rattle.lsp_message.specs.Message.{reading};
 ghost use Rattle.lsp_message.specs.Incoming.{incoming_of};
 ghost use Rattle.lsp_message.specs.Seen.{incoming_view};
-ghost use Rattle.laspidru.specs.Codes.{IsAnswer};
+ghost use Rattle.laspidru.specs.Codes.{IsAnswer, code_texts, text_asked_of};
 ghost use Rattle.laspidru.specs.Objects.{IsCopy, rest_asked};
-ghost use Rattle.laspidru.specs.Texts.{code_texts, document_of, named_document, text_asked_of};
+ghost use Rattle.laspidru.specs.Messages.{document_of, named_document};
 
 use crate::bytes::copy_from;
 use crate::codes::{NO_DOCUMENT, OK, OUT_OF_MEMORY, OUT_OF_RANGE};

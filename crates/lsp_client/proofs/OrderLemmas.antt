@@ -1,5 +1,6 @@
 -- What is sent for a command, and why a command is refused.
 use Rattle.lsp_client.proofs.Prelude.{◌≡◌, ◌≢◌, ℕ, ℤ, List, Option, Some, None, refl, sym, ap, ◌∙◌, ⊎_elim, inl, inr, frame, Encoding, units_in, ContentChange, SyncKind, Off, Full, Incremental, StoreFault, IsRefusal, DocumentItem, already_open, too_many_documents, text_too_long, not_open, too_many_changes, stale_version, edit, body_too_long, changes, command_refusal, table_after, IsFaultOf, IsSent, client_fault}
+use Rattle.std.specs.Prelude.{◌⊎◌}
 use Rattle.lsp_store.specs.Message.{else_refused, body_refusal, change_body, canonical_body}
 use Rattle.lsp_client.specs.declared.fault.ClientFault.TheVariants.{Store, NoMemory}
 use Rattle.lsp_client.specs.Step.{ClientData, Sending, sent_body, sending_unless, command_result}
@@ -46,13 +47,7 @@ refused (Some refusal) sending fault why =
     (λ (e : Some (documents.refusal_fault refusal) ≡ Some fault). inr
     (ap client_fault (sym (some_same (documents.refusal_fault refusal) fault e)) ∙ fault_kept refusal)) why
 
--- What is refused first is refused.
-pub refused_first : (first later : Option documents_table.Refusal) (fault : StoreFault) → IsRefusal first fault
-    → IsRefusal (else_refused first later) fault
-refused_first (Some refusal) later fault why = why
-refused_first None later fault why =
-    ⊎_elim (λ (e : fault ≡ faults.NoMemory). inl e) (λ (e : None ≡ Some fault). absurd (cc)) why
-
+-- What is refused later is refused, if nothing is first.
 pub refused_later : (first later : Option documents_table.Refusal) (fault : StoreFault) → first ≡ None
     → IsRefusal later fault → IsRefusal (else_refused first later) fault
 refused_later first later fault none why = rw none why
@@ -76,3 +71,7 @@ unfolding change_body sent_body
 canonical_sent Full table uri version encoding batch not = absurd (not refl)
 canonical_sent Incremental table uri version encoding batch not = refl
 canonical_sent Off table uri version encoding batch not = refl
+
+pub not_full : (kind : SyncKind) → (kind ≡ Incremental) ⊎ (kind ≡ Off) → kind ≢ Full
+not_full kind (inl is) = λ full. let bad : Incremental ≡ Full = sym is ∙ full in cc
+not_full kind (inr is) = λ full. let bad : Off ≡ Full = sym is ∙ full in cc

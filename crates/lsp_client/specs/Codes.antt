@@ -1,8 +1,5 @@
 -- The codes of the client's faults, as docs/PROTOCOL.md lists them.
-use Rattle.std.specs.Prelude.{ℕ, List, codes}
-use Rattle.lsp_store.specs.Faults.{fault_code}
-use Rattle.lsp_client.specs.declared.fault.ClientFault.{ClientFault}
-use Rattle.lsp_client.specs.declared.fault.ClientFault.TheVariants.{NoMemory, Store, WrongPhase}
+use Rattle.lsp_client.specs.Prelude.{ℕ, List, codes, fault_code, ClientFault, NoMemory, Store, WrongPhase}
 
 -- The code of a fault. C2 has the code of the store's fault.
 abbrev pub client_fault_code : ClientFault → List ℕ

@@ -1,20 +1,14 @@
 -- The results of a client's calls, by the tables of its steps.
-use Rattle.std.specs.Prelude.{ℕ, ℤ, ◌≡◌, ◌⊎◌, List, map, String, string_bytes, true, None, Result, Ok, Err}
+use Rattle.lsp_client.specs.Prelude.{ℕ, ℤ, ◌≡◌, ◌⊎◌, List, map, String, string_bytes, true, None, Result, Ok, Err, IsUtf8, OutgoingData, body_of, ClientFault, Store, NoMemory, open_refusal, close_refusal, Ready}
 use Rattle.std.specs.declared.alloc.Global.{Global}
-use Rattle.std.specs.Str.{IsUtf8}
 use Rattle.lsp_frame.specs.Frame.{frame}
 use Rattle.lsp_edit.specs.declared.change.Change.{Change}
 use Rattle.lsp_edit.specs.Edited.{content_change}
-use Rattle.lsp_message.specs.Outgoing.{OutgoingData, body_of}
 use Rattle.lsp_store.specs.declared.fault.StoreFault as documents_fault
 use Rattle.lsp_store.specs.declared.fault.StoreFault.TheVariants as faults
-use Rattle.lsp_client.specs.declared.fault.ClientFault.{ClientFault}
-use Rattle.lsp_client.specs.declared.fault.ClientFault.TheVariants.{Store, NoMemory}
 use Rattle.lsp_client.specs.declared.delivered.Delivered.{Delivered}
 use Rattle.lsp_client.specs.declared.delivered.Delivered.TheVariants.{Send, Noted, Ignored, BadServer}
 use Rattle.lsp_store.specs.Opened.{ChangeMayAllocate}
-use Rattle.lsp_store.specs.Table.{open_refusal, close_refusal}
-use Rattle.lsp_client.specs.declared.phase.Phase.TheVariants.{Ready}
 use Rattle.lsp_client.specs.Step.{ClientData, Sending, Order, opens, edits, closes, Delivery, DeliveredData, is_listening, sends, noted, ignored, bad_server}
 
 -- ---- what a call asks

@@ -1,30 +1,19 @@
 -- One step of the client's end of a session (LSP 3.17, Lifecycle Messages, Text Document
 -- Synchronization). The tables say which calls it accepts, which message each sends, and what it
 -- does with what the server sends.
-use Rattle.std.specs.Prelude.{ℕ, ℤ, Bool, true, false, ◌==◌, if◌then◌else◌, List, [], Option, Some, None, unwrap_or, Result, Ok, Err, pos}
-use Rattle.lsp_frame.specs.Limits.{LimitsData}
+use Rattle.lsp_client.specs.Prelude.{ℕ, ℤ, Bool, true, false, ◌==◌, if◌then◌else◌, List, [], Option, Some, None, unwrap_or, Result, Ok, Err, pos, LimitsData, ContentChange, SyncKind, OutgoingData, initialize, initialized, did_open, did_close, shutdown, exit, error_reply, body_of, DocumentItem, refusal_fault, Command, command_refusal, table_after, canonical_batch, whole_batch, change_message, body_refusal, else_refused, ClientFault, WrongPhase, Store, New, Asked, Ready, Closing, Closed, Done, Failed}
 use Rattle.lsp_text.specs.declared.encoding.Encoding.{Encoding}
 use Rattle.lsp_text.specs.declared.encoding.Encoding.TheVariants.{Utf16}
 use Rattle.lsp_text.specs.Units.{units_in}
-use Rattle.lsp_edit.specs.Batch.{ContentChange}
 use Rattle.lsp_message.specs.declared.agreement.Announced.{Announced}
 use Rattle.lsp_message.specs.declared.agreement.Offers.{Offers}
-use Rattle.lsp_message.specs.declared.agreement.SyncKind.{SyncKind}
 use Rattle.lsp_message.specs.declared.agreement.SyncKind.TheVariants.{Off, Full, Incremental}
 use Rattle.lsp_message.specs.declared.outgoing.ErrorCode.TheVariants.{MethodNotFound}
 use Rattle.lsp_message.specs.Agreement.{is_offered, announced_of}
 use Rattle.lsp_message.specs.Message.{whole, given, failed, Reading, message, request, notification, response}
-use Rattle.lsp_message.specs.Outgoing.{OutgoingData, initialize, initialized, did_open, did_close, shutdown, exit, error_reply, body_of}
 use Rattle.lsp_store.specs.Table as documents
-use Rattle.lsp_message.specs.Params.{DocumentItem}
-use Rattle.lsp_store.specs.Faults.{refusal_fault}
-use Rattle.lsp_store.specs.Table.{Command, command_refusal, table_after}
-use Rattle.lsp_store.specs.Message.{canonical_batch, whole_batch, change_message, body_refusal, else_refused}
 use Rattle.lsp_client.specs.declared.agreed.Agreed.{Agreed}
-use Rattle.lsp_client.specs.declared.fault.ClientFault.{ClientFault}
-use Rattle.lsp_client.specs.declared.fault.ClientFault.TheVariants.{WrongPhase, Store}
 use Rattle.lsp_client.specs.declared.phase.Phase.{Phase}
-use Rattle.lsp_client.specs.declared.phase.Phase.TheVariants.{New, Asked, Ready, Closing, Closed, Done, Failed}
 use Rattle.lsp_client.specs.declared.phase.Reason.{Reason}
 use Rattle.lsp_client.specs.declared.phase.Reason.TheVariants.{NotAnAnswer, ErrorAnswer, NoSync, BadEncoding}
 

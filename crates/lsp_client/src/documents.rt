@@ -1,7 +1,6 @@
 //! The calls on the open documents.
 
-ghost use Rattle.std.specs.Prelude.{◌≡◌, ◌≢◌, IfErr, IfOk, OnErr, Some, Err};
-ghost use Rattle.lsp_message.specs.declared.agreement.SyncKind.TheVariants.{Full};
+ghost use Rattle.std.specs.Prelude.{◌≡◌, IfErr, IfOk, OnErr, Some, Err};
 ghost use Rattle.lsp_message.specs.declared.outgoing.Outgoing.TheVariants.{DidOpen};
 ghost use Rattle.lsp_message.specs.declared.params.OpenParams.{OpenParams};
 ghost use Rattle.lsp_store.specs.declared.fault.StoreFault.TheVariants as store_faults;
@@ -15,10 +14,9 @@ use crate::client::Client;
 use crate::fault::ClientFault;
 use crate::framed::message_frame_within;
 use crate::phase::Phase;
-use crate::whole::whole_text_frame;
 use lsp_edit::Change;
 use lsp_message::{CloseParams, OpenParams, Outgoing, SyncKind};
-use lsp_store::StoreFault;
+use lsp_store::{StoreFault, change_frame};
 use lsp_text::Encoding;
 
 impl Client {
@@ -131,58 +129,17 @@ impl Client {
         ensures memory { result ≡ Err store_faults.NoMemory
             → IsLeftToMessage self.old (edit_order uri.now version changes.now) }
     {
-        match self.agreement().kind {
-            SyncKind::Full => self.send_whole(uri, version, changes),
+        let agreed = self.agreement();
+        let plan = self.store.plan(uri, version, agreed.encoding, changes)?;
+        let frame = match agreed.kind {
+            SyncKind::Full => {
+                let text = self.store.planned_text(&plan)?;
+                let changes = vec![in self.alloc; Change { range: None, text }]?;
+                change_frame(self.alloc, &self.store.limits(), uri, version, changes)?
+            }
             // Off never comes here: a session with such a server has failed.
-            SyncKind::Incremental | SyncKind::Off => self.send_change(uri, version, changes),
-        }
-    }
-
-    /// Changes a document, and returns the frame of its canonical batch.
-    fn send_change(
-        &mut self,
-        uri: &str,
-        version: i32,
-        changes: &[Change],
-    ) -> Result<Vec<u8>, StoreFault>
-        requires { (agreement self.old).kind ≢ Full }
-        ensures ok { IfOk result (λ frame.
-            IsSent (order_result self.old (edit_order uri.now version changes.now))
-            frame.items self.new) }
-        ensures unchanged { OnErr result (self.new ≡ self.old) }
-        ensures error { IfErr result
-            (IsOrderFault self.old (edit_order uri.now version changes.now)) }
-        ensures memory { result ≡ Err store_faults.NoMemory
-            → IsLeftToMessage self.old (edit_order uri.now version changes.now) }
-    {
-        let encoding = self.agreement().encoding;
-        let plan = self.store.plan(uri, version, encoding, changes)?;
-        let frame = self.store.planned_message(&plan)?;
-        self.store.apply(plan)?;
-        Ok(frame)
-    }
-
-    /// Changes a document, and returns the frame of its new text.
-    fn send_whole(
-        &mut self,
-        uri: &str,
-        version: i32,
-        changes: &[Change],
-    ) -> Result<Vec<u8>, StoreFault>
-        requires { (agreement self.old).kind ≡ Full }
-        ensures ok { IfOk result (λ frame.
-            IsSent (order_result self.old (edit_order uri.now version changes.now))
-            frame.items self.new) }
-        ensures unchanged { OnErr result (self.new ≡ self.old) }
-        ensures error { IfErr result
-            (IsOrderFault self.old (edit_order uri.now version changes.now)) }
-        ensures memory { result ≡ Err store_faults.NoMemory
-            → IsLeftToMessage self.old (edit_order uri.now version changes.now) }
-    {
-        let encoding = self.agreement().encoding;
-        let plan = self.store.plan(uri, version, encoding, changes)?;
-        let text = self.store.planned_text(&plan)?;
-        let frame = whole_text_frame(self.alloc, &self.store.limits(), uri, version, text)?;
+            SyncKind::Incremental | SyncKind::Off => self.store.planned_message(&plan)?,
+        };
         self.store.apply(plan)?;
         Ok(frame)
     }

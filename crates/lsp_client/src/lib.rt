@@ -55,7 +55,6 @@
 //! - `phase`: the phases of a session.
 //! - `agreed`: the encoding and the kind of synchronisation of a session.
 //! - `framed`: the frames of messages under a limit.
-//! - `whole`: edits where the server asked for whole texts.
 #![tactic(auto)]
 
 mod agreed;
@@ -66,7 +65,6 @@ mod documents;
 mod fault;
 mod framed;
 mod phase;
-mod whole;
 
 pub use client::{Client, INITIALIZE_ID, SHUTDOWN_ID};
 pub use delivered::Delivered;

@@ -1,8 +1,6 @@
 -- What a batch of changes means (LSP 3.17, DidChangeTextDocumentParams): each change applies to the
 -- text that the one before it leaves.
-use Rattle.std.specs.Prelude.{ℕ, suc, if◌then◌else◌, nat_le, List, [], ◌∷◌, ◌++◌, map, take, drop, Option, Some, None, Result, Ok, Err}
-use Rattle.lsp_text.specs.declared.position.Range.{Range}
-use Rattle.lsp_text.specs.Positions.{denoted}
+use Rattle.lsp_edit.specs.Prelude.{ℕ, suc, if◌then◌else◌, nat_le, List, [], ◌∷◌, ◌++◌, map, take, drop, Option, Some, None, Result, Ok, Err, Range, denoted}
 use Rattle.lsp_edit.specs.Items.{Item, New, plain, text_of}
 
 -- One change (LSP 3.17, TextDocumentContentChangeEvent): a range, or none for the whole text, and

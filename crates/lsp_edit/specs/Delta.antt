@@ -1,11 +1,6 @@
 -- A batch of changes that was resolved once on a text, and what is read from it.
-use Rattle.std.specs.Prelude.{ℕ, ◌≡◌, ◌≤◌, List, [], ◌∷◌, ◌++◌, length, map, take, drop, string_len, sum_by, Some, Result, Ok}
-use Rattle.std.specs.List.{replace_range}
-use Rattle.std.specs.Str.{IsUtf8, chars}
+use Rattle.lsp_edit.specs.Prelude.{ℕ, ◌≡◌, ◌≤◌, List, [], ◌∷◌, ◌++◌, length, map, take, drop, string_len, sum_by, Some, Result, Ok, replace_range, IsUtf8, chars, Range, units_in, Change}
 use Rattle.lsp_text.specs.declared.encoding.Encoding.{Encoding}
-use Rattle.lsp_text.specs.declared.position.Range.{Range}
-use Rattle.lsp_text.specs.Units.{units_in}
-use Rattle.lsp_edit.specs.declared.change.Change.{Change}
 use Rattle.lsp_edit.specs.declared.delta.Delta.{Delta}
 use Rattle.lsp_edit.specs.declared.delta.Delta.TheVariants.{Put, Left}
 use Rattle.lsp_edit.specs.Items.{Item, New, plain, text_of}

@@ -1,7 +1,5 @@
 -- A text under changes, as callers see it.
-use Rattle.std.specs.Prelude.{ℕ, ◌≡◌, ◌+◌, ◌*◌, ◌≤◌, true, List, length, min, string_bytes, encode_utf8_all, Option, Result, Ok, MatchOption}
-use Rattle.std.specs.Str.{chars, is_utf8}
-use Rattle.lsp_edit.specs.declared.change.Change.{Change}
+use Rattle.lsp_edit.specs.Prelude.{ℕ, ◌≡◌, ◌+◌, ◌*◌, ◌≤◌, true, List, length, min, string_bytes, encode_utf8_all, Option, Result, Ok, MatchOption, chars, is_utf8, Change}
 use Rattle.lsp_edit.specs.Items.{Item, plain, text_of}
 use Rattle.lsp_edit.specs.Batch.{ContentChange, Fault, items_after}
 use Rattle.lsp_edit.specs.Keeps.{Keeps}

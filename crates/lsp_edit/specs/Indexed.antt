@@ -1,8 +1,5 @@
 -- A text with its lines, under batches of changes.
-use Rattle.std.specs.Prelude.{ℕ, ◌≡◌, ◌≤◌, ◌⊎◌, if◌then◌else◌, nat_lt, List, [], ◌∷◌, length, encode_utf8_all, IsOk, Option, Some, Result, Ok, Err}
-use Rattle.std.specs.Str.{IsUtf8, chars}
-use Rattle.lsp_text.specs.declared.position.Range.{Range}
-use Rattle.lsp_edit.specs.declared.fault.EditFault.{EditFault}
+use Rattle.lsp_edit.specs.Prelude.{ℕ, ◌≡◌, ◌≤◌, ◌⊎◌, if◌then◌else◌, nat_lt, List, [], ◌∷◌, length, encode_utf8_all, IsOk, Option, Some, Result, Ok, Err, IsUtf8, chars, Range, EditFault}
 use Rattle.lsp_edit.specs.declared.fault.EditFault.TheVariants as edit
 use Rattle.lsp_edit.specs.declared.indexed.fault.BatchFault.{BatchFault}
 use Rattle.lsp_edit.specs.declared.indexed.fault.BatchFault.TheVariants.{Edit as EditOf, TooLong, NoMemory}

@@ -1,6 +1,5 @@
 -- What a text becomes under a batch of changes, character by character.
-use Rattle.std.specs.Prelude.{ℕ, List, length, map, slice_index}
-use Rattle.lsp_text.specs.TextLines.{numbers_from}
+use Rattle.lsp_edit.specs.Prelude.{ℕ, List, length, map, slice_index, numbers_from}
 
 -- An item is an old character, given by its index in the old text, or a new character.
 pub data Item : Type 0 where

@@ -1,6 +1,5 @@
 -- Batches of changes on a text, one after another, as one.
-use Rattle.std.specs.Prelude.{ℕ, ◌≡◌, List, Ok}
-use Rattle.std.specs.Str.{IsUtf8, chars}
+use Rattle.lsp_edit.specs.Prelude.{ℕ, ◌≡◌, List, Ok, IsUtf8, chars}
 use Rattle.lsp_edit.specs.Items.{Item, text_of}
 use Rattle.lsp_edit.specs.Batch.{ContentChange, meaning}
 use Rattle.lsp_edit.specs.Compose.{then_items}

@@ -1,3 +1,4 @@
+pub mod Prelude
 pub mod Items
 pub mod Batch
 pub mod Canonical

@@ -1,10 +1,7 @@
 -- The parts of spans: parts of the old text, given by byte offsets, and parts of new texts.
-use Rattle.std.specs.Prelude.{ℕ, suc, ◌≡◌, ◌-◌, ◌<◌, ◌≤◌, Bool, true, false, if◌then◌else◌, ◌==◌, List, [], ◌∷◌, length, map, take, drop, flat_map, IsCharBoundary}
+use Rattle.lsp_edit.specs.Prelude.{ℕ, suc, ◌≡◌, ◌-◌, ◌<◌, ◌≤◌, Bool, true, false, if◌then◌else◌, ◌==◌, List, [], ◌∷◌, length, map, take, drop, flat_map, IsCharBoundary, chars, is_utf8, Span, numbers_from}
 use Rattle.std.specs.Char.{len_utf8}
-use Rattle.std.specs.Str.{chars, is_utf8}
-use Rattle.lsp_edit.specs.declared.pieces.span.Span.{Span}
 use Rattle.lsp_edit.specs.declared.pieces.span.Span.TheVariants.{Old as OldSpan, New as NewSpan}
-use Rattle.lsp_text.specs.TextLines.{numbers_from}
 use Rattle.lsp_edit.specs.Items.{Item, Old, New}
 
 -- A part: the bytes of the old text from one byte offset to another, or the bytes of a new text.

@@ -1,6 +1,5 @@
 -- The spans of a text, however they are stored.
-use Rattle.std.specs.Prelude.{List, [], ◌∷◌}
-use Rattle.lsp_edit.specs.declared.pieces.span.Span.{Span}
+use Rattle.lsp_edit.specs.Prelude.{List, [], ◌∷◌, Span}
 use Rattle.lsp_edit.specs.declared.pieces.spans.Spans.{Spans}
 use Rattle.lsp_edit.specs.declared.pieces.spans.Spans.TheVariants.{One, Many}
 

@@ -1,15 +1,9 @@
 -- What a list of text edits means (LSP 3.17, TextEdit[]): all ranges count in the old text and never
 -- overlap. Several edits may start at one index: any number of insertions, in the order of the list,
 -- and after them at most one that removes or replaces.
-use Rattle.std.specs.Prelude.{ℕ, suc, ◌≡◌, ◌⊎◌, ◌<◌, ◌≤◌, Bool, ◌&&◌, if◌then◌else◌, nat_le, nat_lt, ◌==◌, List, [], ◌∷◌, ◌++◌, length, map, filter, flat_map, Contains, string_bytes, Result, Ok, Err}
-use Rattle.std.specs.List.{list_any}
-use Rattle.std.specs.Str.{chars}
-use Rattle.lsp_text.specs.TextLines.{numbers_from}
-use Rattle.lsp_edit.specs.declared.fault.EditFault.{EditFault}
+use Rattle.lsp_edit.specs.Prelude.{ℕ, suc, ◌≡◌, ◌⊎◌, ◌<◌, ◌≤◌, Bool, ◌&&◌, if◌then◌else◌, nat_le, nat_lt, ◌==◌, List, [], ◌∷◌, ◌++◌, length, map, filter, flat_map, Contains, string_bytes, Result, Ok, Err, list_any, chars, numbers_from, EditFault, TextEdit, TextEditFault, Overlap}
 use Rattle.lsp_edit.specs.declared.fault.EditFault.TheVariants as edit
-use Rattle.lsp_edit.specs.declared.text_edits.TextEdit.{TextEdit}
-use Rattle.lsp_edit.specs.declared.text_edits.TextEditFault.{TextEditFault}
-use Rattle.lsp_edit.specs.declared.text_edits.TextEditFault.TheVariants.{InsideCharacter, ReversedRange, Overlap, NoMemory}
+use Rattle.lsp_edit.specs.declared.text_edits.TextEditFault.TheVariants.{InsideCharacter, ReversedRange, NoMemory}
 use Rattle.lsp_edit.specs.Items.{Item, Old, New}
 use Rattle.lsp_edit.specs.Batch.{ContentChange, Fault, meaning, ends_of}
 use Rattle.lsp_edit.specs.Canonical.{canonical}

@@ -1,17 +1,6 @@
 -- What a client offers and what a server announces (LSP 3.17, Initialize Request:
 -- ClientCapabilities, ServerCapabilities).
-use Rattle.std.specs.Prelude.{ℕ, Bool, true, false, List, [], Option, Some, None, option_map, option_and_then, codes, ◌==◌, if◌then◌else◌}
-use Rattle.std.specs.List.{list_any}
-use Rattle.std.specs.Str.{bytes_eq}
-use Rattle.serde_json.specs.Data.{Data, object, no_members}
-use Rattle.serde_json.specs.Find.{get, get_member}
-use Rattle.lsp_text.specs.declared.encoding.Encoding.{Encoding}
-use Rattle.lsp_text.specs.declared.encoding.Encoding.TheVariants.{Utf8, Utf16, Utf32}
-use Rattle.lsp_text.specs.Units.{name_of, encoding_named}
-use Rattle.lsp_message.specs.declared.agreement.Offers.{Offers}
-use Rattle.lsp_message.specs.declared.agreement.Announced.{Announced}
-use Rattle.lsp_message.specs.declared.agreement.SyncKind.{SyncKind}
-use Rattle.lsp_message.specs.declared.agreement.SyncKind.TheVariants.{Off, Full, Incremental}
+use Rattle.lsp_message.specs.Prelude.{ℕ, Bool, true, false, List, [], Option, Some, None, option_map, option_and_then, codes, ◌==◌, if◌then◌else◌, list_any, bytes_eq, Data, object, no_members, get, get_member, Encoding, Utf8, Utf16, Utf32, name_of, encoding_named, Offers, Announced, SyncKind, Off, Full, Incremental}
 use Rattle.lsp_message.specs.Values.{◌>>=◌, text_in, members_in, texts_in, bool_in, natural_in, optional}
 
 -- Whether a client offers an encoding; UTF-16 always is offered.

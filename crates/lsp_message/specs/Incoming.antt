@@ -1,9 +1,6 @@
 -- What a body asks of a server (LSP 3.17, Lifecycle Messages, Text Document Synchronization). Of
 -- other requests and notifications the method is kept, and of a response its id.
-use Rattle.std.specs.Prelude.{ℕ, List, Option, codes, if◌then◌else◌}
-use Rattle.std.specs.Str.{bytes_eq}
-use Rattle.serde_json.specs.Data.{Data}
-use Rattle.lsp_message.specs.declared.agreement.Offers.{Offers}
+use Rattle.lsp_message.specs.Prelude.{ℕ, List, Option, codes, if◌then◌else◌, bytes_eq, Data, Offers}
 use Rattle.lsp_message.specs.Agreement.{offers_of}
 use Rattle.lsp_message.specs.Message.{IdData, MessageData, Reading}
 use Rattle.lsp_message.specs.Message as read

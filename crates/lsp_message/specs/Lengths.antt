@@ -1,6 +1,6 @@
--- The `rangeLength` of the changes of a body (LSP 3.17, TextDocumentContentChangeEvent).
-use Rattle.std.specs.Prelude.{ℕ, List, [], ◌∷◌, Option, Some, None, codes}
-use Rattle.serde_json.specs.Data.{Items, no_items, item}
+-- What notes of a body go by: the `rangeLength` of its changes (LSP 3.17,
+-- TextDocumentContentChangeEvent), or its params.
+use Rattle.lsp_message.specs.Prelude.{ℕ, List, [], ◌∷◌, Option, Some, None, codes, Data, Items, no_items, item}
 use Rattle.lsp_message.specs.Message.{Reading, message, notification}
 use Rattle.lsp_message.specs.Values.{array_in, member_at, natural_in}
 
@@ -14,8 +14,12 @@ abbrev pub lengths_found : Option Items → List (Option ℕ)
 lengths_found None = []
 lengths_found (Some items) = lengths_in items
 
--- Those of a body. A body without changes has none.
+-- The params of a notification.
+abbrev pub notification_params : Reading → Option Data
+notification_params (message (notification method params)) = params
+notification_params body = None
+
+-- The lengths in a body. A body without changes has none.
 abbrev pub lengths_of : Reading → List (Option ℕ)
-lengths_of (message (notification method params))
-    = lengths_found (array_in (member_at (codes "contentChanges") params))
-lengths_of body = []
+lengths_of body =
+    lengths_found (array_in (member_at (codes "contentChanges") (notification_params body)))

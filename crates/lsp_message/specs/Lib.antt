@@ -1,3 +1,4 @@
+pub mod Prelude
 pub mod Values
 pub mod Message
 pub mod Params

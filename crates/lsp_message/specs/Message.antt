@@ -1,11 +1,7 @@
 -- Which message a body is (LSP 3.17, Base Protocol: Abstract Message, Request Message, Response
 -- Message, Notification Message).
-use Rattle.std.specs.Prelude.{ℕ, ℤ, Bool, false, List, Option, Some, None, option_map, option_and_then, codes, if◌then◌else◌}
-use Rattle.std.specs.Option.{option_map_or}
-use Rattle.std.specs.Str.{is_utf8, bytes_eq}
-use Rattle.serde_json.specs.Data.{Data, null, number, string}
-use Rattle.serde_json.specs.Find.{get, as_i64}
-use Rattle.serde_json.specs.Read.{read}
+use Rattle.lsp_message.specs.Prelude.{ℕ, ℤ, Bool, false, List, Option, Some, None, option_map, option_and_then, codes, if◌then◌else◌, option_map_or, is_utf8, bytes_eq, Data, null, number, get, as_i64, read}
+use Rattle.serde_json.specs.Data.{string}
 use Rattle.lsp_message.specs.Values.{◌>>=◌, text_in, is_missing}
 
 -- The id of a request, and of the response to it: a whole number of 64 bits (the protocol's have

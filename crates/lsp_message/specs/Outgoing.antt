@@ -1,19 +1,9 @@
 -- The messages that are written, and the body of each (LSP 3.17, Initialize, Initialized, Shutdown,
 -- Exit, DidOpen, DidChange, DidClose): JSON without spaces, with members in the order of their
 -- names' bytes.
-use Rattle.std.specs.Prelude.{ℕ, ℤ, negsuc, List, [], ◌∷◌, ◌++◌, filter, Option, Some, None, codes, decimal}
+use Rattle.lsp_message.specs.Prelude.{ℕ, ℤ, negsuc, List, [], ◌∷◌, ◌++◌, filter, Option, Some, None, codes, decimal, join_by, Encoding, Utf8, Utf16, Utf32, Position, Range, name_of, Offers, SyncKind, Off, Full, Incremental, ErrorCode}
 use Rattle.std.specs.Fmt.{signed_decimal}
-use Rattle.std.specs.List.{join_by}
 use Rattle.json.specs.Print.{quoted}
-use Rattle.lsp_text.specs.declared.encoding.Encoding.{Encoding}
-use Rattle.lsp_text.specs.declared.encoding.Encoding.TheVariants.{Utf8, Utf16, Utf32}
-use Rattle.lsp_text.specs.declared.position.Position.{Position}
-use Rattle.lsp_text.specs.declared.position.Range.{Range}
-use Rattle.lsp_text.specs.Units.{name_of}
-use Rattle.lsp_message.specs.declared.agreement.Offers.{Offers}
-use Rattle.lsp_message.specs.declared.agreement.SyncKind.{SyncKind}
-use Rattle.lsp_message.specs.declared.agreement.SyncKind.TheVariants.{Off, Full, Incremental}
-use Rattle.lsp_message.specs.declared.outgoing.ErrorCode.{ErrorCode}
 use Rattle.lsp_message.specs.declared.outgoing.ErrorCode.TheVariants.{ParseError, InvalidRequest, MethodNotFound, InvalidParams, ServerNotInitialized}
 use Rattle.lsp_message.specs.Agreement.{is_offered}
 use Rattle.lsp_message.specs.Message.{IdData, whole, text}

@@ -1,16 +1,6 @@
 -- The JSON value of each message that is written. A body is the compact text of that value.
-use Rattle.std.specs.Prelude.{ℕ, ℤ, true, List, [], ◌∷◌, map, filter, Option, Some, None, codes}
-use Rattle.serde_json.specs.Data.{Data, null, boolean, number, unsigned, string, array, object, Members, no_members, member}
-use Rattle.serde_json.specs.Find.{of_integer}
-use Rattle.serde_json.specs.View.{items_of}
-use Rattle.lsp_text.specs.declared.encoding.Encoding.{Encoding}
-use Rattle.lsp_text.specs.declared.encoding.Encoding.TheVariants.{Utf8, Utf16, Utf32}
-use Rattle.lsp_text.specs.declared.position.Position.{Position}
-use Rattle.lsp_text.specs.declared.position.Range.{Range}
-use Rattle.lsp_text.specs.Units.{name_of}
-use Rattle.lsp_message.specs.declared.agreement.Offers.{Offers}
-use Rattle.lsp_message.specs.declared.agreement.SyncKind.{SyncKind}
-use Rattle.lsp_message.specs.declared.outgoing.ErrorCode.{ErrorCode}
+use Rattle.lsp_message.specs.Prelude.{ℕ, ℤ, true, List, [], ◌∷◌, map, filter, Option, Some, None, codes, Data, null, boolean, number, unsigned, array, object, Members, no_members, member, of_integer, items_of, Encoding, Utf8, Utf16, Utf32, Position, Range, name_of, Offers, SyncKind, ErrorCode}
+use Rattle.serde_json.specs.Data.{string}
 use Rattle.lsp_message.specs.Agreement.{is_offered}
 use Rattle.lsp_message.specs.Message.{IdData, whole, text}
 use Rattle.lsp_message.specs.Params.{DocumentItem, ContentChangeData, ChangeData, CloseData}

@@ -28,5 +28,5 @@ pub use outgoing::{ErrorCode, Outgoing};
 pub use params::{
     ChangeParams, CloseParams, OpenParams, ParamsFault, params_change, params_close, params_open,
 };
-pub use reader::{Incoming, Scratch, range_lengths};
+pub use reader::{Incoming, Noted, Scratch};
 pub use writer::{message_frame, push_change, push_document, write};

@@ -107,9 +107,12 @@ fn begins_with_mark(body: &[u8]) -> bool
     body.first() == Some(&0xEF)
 }
 
+/// A message, or why a value is none.
+type Found = Result<Message, ReadFault>;
+
 /// Reads a parsed value as a message, or converts the error of its parse. Only the parse runs out
 /// of memory.
-fn message_from(parsed: Result<Value, serde_json::Error>) -> Result<Message, ReadFault>
+fn message_from(parsed: Result<Value, serde_json::Error>) -> Found
     ensures { MatchResult parsed
         (λ value. Answers result (message_of (view value)))
         (λ error. IsErrAnd result (IsFaultOfError error)) }
@@ -117,7 +120,7 @@ fn message_from(parsed: Result<Value, serde_json::Error>) -> Result<Message, Rea
     message_of(parsed?)
 }
 
-fn message_of(value: Value) -> Result<Message, ReadFault>
+fn message_of(value: Value) -> Found
     ensures { Answers result (message_of (view value)) }
 {
     match value {
@@ -169,7 +172,7 @@ impl Members {
     }
 }
 
-fn message_by(members: Members) -> Result<Message, ReadFault>
+fn message_by(members: Members) -> Found
     ensures { Answers result
         (reading_by (option_map view members.version) (option_map view members.method)
         (option_map view members.id)
@@ -219,7 +222,7 @@ fn id_found(id: Option<Value>) -> Option<Id>
     id_in(id?)
 }
 
-fn call_of(id: Option<Value>, method: String, params: Option<Value>) -> Result<Message, ReadFault>
+fn call_of(id: Option<Value>, method: String, params: Option<Value>) -> Found
     ensures { Answers result
         (call_of (option_map view id) (string_bytes method) (option_map view params)) }
 {
@@ -232,11 +235,7 @@ fn call_of(id: Option<Value>, method: String, params: Option<Value>) -> Result<M
     }
 }
 
-fn answer_of(
-    id: Option<Value>,
-    error: Option<Value>,
-    outcome: Option<Value>,
-) -> Result<Message, ReadFault>
+fn answer_of(id: Option<Value>, error: Option<Value>, outcome: Option<Value>) -> Found
     ensures { Answers result
         (answer_of (option_map view id) (option_map view error) (option_map view outcome)) }
 {
@@ -252,11 +251,7 @@ fn answer_of(
     }
 }
 
-fn outcome_of(
-    id: Option<Id>,
-    error: Option<Value>,
-    outcome: Option<Value>,
-) -> Result<Message, ReadFault>
+fn outcome_of(id: Option<Id>, error: Option<Value>, outcome: Option<Value>) -> Found
     ensures { Answers result
         (outcome_of (option_map id_view id) (option_map view error) (option_map view outcome)) }
 {

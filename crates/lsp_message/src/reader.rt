@@ -1,8 +1,8 @@
 //! Reads what a body asks of a language server, in one pass over the tokens of its JSON.
 //!
-//! No tree is built, but for `initialize`, and by [`range_lengths`] where the body is no keystroke:
-//! the members that the protocol names are kept, and all others are skipped. The result is what
-//! `specs/Incoming.antt` defines for the value that `serde_json` reads, for each body.
+//! No tree is built, but for `initialize`, and by [`Incoming::read_noted`] where the body is no
+//! keystroke: the members that the protocol names are kept, and all others are skipped. The result
+//! is what `specs/Incoming.antt` defines for the value that `serde_json` reads, for each body.
 //!
 //! ```text
 //! let mut scratch = Scratch::new(alloc);
@@ -20,7 +20,7 @@
 //!   protocol, each with the members that are kept of it.
 //! - `keystroke`: a `didChange` in its usual layout, read by its bytes; `cursor`: what is left of a
 //!   text.
-//! - `lengths`: the `rangeLength` of changes, which nobody needs to apply them.
+//! - `noted`: what notes go by, as the `rangeLength` of changes, which nobody needs to apply them.
 //! - `scalar`: a text, a whole number or null.
 //! - `number`: which numbers are in range.
 //! - `skip`: values that are skipped.
@@ -33,8 +33,8 @@ mod document;
 mod fault;
 mod incoming;
 mod keystroke;
-mod lengths;
 mod message;
+mod noted;
 mod number;
 mod object;
 mod params;
@@ -45,4 +45,4 @@ mod skip;
 
 pub use incoming::Incoming;
 pub use json::Scratch;
-pub use lengths::range_lengths;
+pub use noted::Noted;

@@ -1,14 +1,9 @@
 -- How both ends are set up, what may happen to them, and what they answer.
-use Rattle.std.specs.Prelude.{List, [], ◌∷◌}
-use Rattle.lsp_frame.specs.Limits.{LimitsData}
+use Rattle.lsp_pair.specs.Prelude.{List, [], ◌∷◌, LimitsData, OutgoingData, AnswerData, reply_code, Call, DeliveredData, Did}
 use Rattle.lsp_message.specs.declared.agreement.Offers.{Offers}
-use Rattle.lsp_message.specs.Outgoing.{OutgoingData}
 use Rattle.lsp_server.specs.declared.config.Config.{Config}
 use Rattle.lsp_server.specs.Answer as answer
-use Rattle.lsp_server.specs.Answer.{AnswerData, reply_code}
 use Rattle.lsp_client.specs.Step as client
-use Rattle.lsp_client.specs.Step.{Call, DeliveredData}
-use Rattle.lsp_pair.specs.declared.event.Did.{Did}
 use Rattle.lsp_pair.specs.declared.event.Did.TheVariants as done
 use Rattle.lsp_pair.specs.declared.event.Heard.{Heard}
 use Rattle.lsp_pair.specs.declared.event.Heard.TheVariants as heard

@@ -1,3 +1,4 @@
+pub mod Prelude
 pub mod Codes
 pub mod Events
 pub mod Pair

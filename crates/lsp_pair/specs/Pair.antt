@@ -1,19 +1,14 @@
 -- Both ends of a session and the frames between them, and one step of both.
-use Rattle.std.specs.Prelude.{ℕ, ◌≡◌, ◌≢◌, Bool, true, false, not, nat_le, ◌&&◌, ◌||◌, List, [], ◌∷◌, ◌++◌, map, Result, Ok, Err}
+use Rattle.lsp_pair.specs.Prelude.{ℕ, ◌≡◌, ◌≢◌, Bool, true, false, not, nat_le, ◌&&◌, ◌||◌, List, [], ◌∷◌, ◌++◌, map, Result, Ok, Err, LimitsData, AreInRange, reading, OutgoingData, body_of, ClientFault, Happened, Refused, Server, Client, Nothing}
 use Rattle.lsp_frame.specs.Frame.{frame, IsFrameOf}
-use Rattle.lsp_frame.specs.Limits.{LimitsData, AreInRange}
 use Rattle.lsp_text.specs.declared.encoding.Encoding.TheVariants.{Utf16}
-use Rattle.lsp_message.specs.Message.{reading}
-use Rattle.lsp_message.specs.Outgoing.{OutgoingData, body_of}
 use Rattle.lsp_store.specs.Limits.{AreWithin}
 use Rattle.lsp_server.specs.declared.config.EncodingChoice.{EncodingChoice}
 use Rattle.lsp_server.specs.declared.config.EncodingChoice.TheVariants.{Fixed, Negotiated}
 use Rattle.lsp_server.specs.declared.phase.Phase.TheVariants.{Ended}
 use Rattle.lsp_server.specs.Step as server
-use Rattle.lsp_client.specs.declared.fault.ClientFault.{ClientFault}
 use Rattle.lsp_client.specs.Step as client
-use Rattle.lsp_pair.specs.declared.event.Happened.{Happened}
-use Rattle.lsp_pair.specs.declared.event.Happened.TheVariants.{Sent, Refused, Server, Client, Nothing}
+use Rattle.lsp_pair.specs.declared.event.Happened.TheVariants.{Sent}
 use Rattle.lsp_pair.specs.Events.{Setting, EventData, calls, to_server, to_client, did_of, replies_in, heard_of, messages_in}
 
 -- Both ends, and the frames on the way to each, oldest first.

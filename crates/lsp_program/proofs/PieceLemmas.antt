@@ -23,3 +23,9 @@ one_more pieces index text piece within is rest =
     let after = texts (drop (index + 1) pieces) in
     append_assoc text piece after ∙ ap (λ z. text ++ (z ++ after)) is
     ∙ sym (ap (λ z. text ++ texts z) (first_and_rest pieces index within)) ∙ rest
+
+-- The line of a fault: its text has a number or a place at its end.
+pub fault_pieces : (start text number end whole : List ℕ) → whole ≡ text ++ number
+    → start ++ (text ++ (number ++ end)) ≡ start ++ (whole ++ end)
+fault_pieces start text number end whole is =
+    ap (λ z. start ++ z) (sym (append_assoc text number end) ∙ ap (λ z. z ++ end) (sym is))

@@ -1,7 +1,7 @@
 -- The options and files of a command line, as `clap` gets them.
-use Rattle.std.specs.Prelude.{◌≡◌, ◌++◌, ◌∷◌, [], true, List, Option, Some, None, codes}
+use Rattle.std.specs.Prelude.{ℕ, ◌≡◌, ◌++◌, ◌∷◌, [], true, List, Option, Some, None, codes, decimal, map}
 use Rattle.std.specs.Borrow.{Bor}
-use Rattle.clap.specs.Words.{Rule, Text, app_of, new_rule}
+use Rattle.clap.specs.Words.{App, Rule, Text, app_of, new_rule}
 use Rattle.clap.specs.Simple.{on_top}
 use Rattle.clap.specs.Lexer.{usize_max}
 use Rattle.clap.specs.declared.builder.action.ArgAction.TheVariants.{Append, SetTrue}
@@ -32,6 +32,25 @@ option_rule name kind defaults = record (text_rule name) {
   defaults = defaults;
 }
 
+-- An option with a number from `least` to `greatest`.
+abbrev pub number_rule : Text → ℕ → ℕ → List Text → Rule
+number_rule name least greatest = option_rule name (parsers.Unsigned least greatest)
+
+-- An option with the name of an encoding.
+abbrev pub encoding_rule : Text → Choices → List Text → Rule
+encoding_rule name encodings = option_rule name (parsers.Names encodings)
+
+-- An option with the name of what a server asks changes for.
+abbrev pub form_rule : Text → Choices → Rule
+form_rule name forms = option_rule name (parsers.Names forms) (codes "incremental" ∷ [])
+
+-- The limits of a message, a document, open documents, and changes in a message.
+abbrev pub limit_rules : List Rule
+limit_rules = number_rule (codes "max-body") 4096 1073741824 (decimal 16777216 ∷ [])
+    ∷ number_rule (codes "max-text") 0 1073741824 (decimal 16777216 ∷ [])
+    ∷ number_rule (codes "max-docs") 1 65536 (decimal 1024 ∷ [])
+    ∷ number_rule (codes "max-changes") 1 1048576 (decimal 65536 ∷ []) ∷ []
+
 -- A file that has to be named.
 abbrev pub file_rule : Text → Rule
 file_rule name = record (new_rule name) { required = true }
@@ -57,11 +76,10 @@ abbrev pub rule_of_value : OptionNames → Text → Value → Rule
 rule_of_value names name values.Flag = flag_rule name
 rule_of_value names name (values.Text word) = text_rule name
 rule_of_value names name (values.Number range default) =
-    option_rule name (parsers.Unsigned range.least range.greatest) (defaults_of default)
+    number_rule name range.least range.greatest (defaults_of default)
 rule_of_value names name (values.Encoding default) =
-    option_rule name (parsers.Names names.encodings) (defaults_of default)
-rule_of_value names name values.ChangeForm =
-    option_rule name (parsers.Names names.change_forms) (codes "incremental" ∷ [])
+    encoding_rule name names.encodings (defaults_of default)
+rule_of_value names name values.ChangeForm = form_rule name names.change_forms
 rule_of_value names name values.File = file_rule name
 rule_of_value names name values.Log = log_rule name
 rule_of_value names name values.Logs = logs_rule name
@@ -74,3 +92,12 @@ rule_by names argument = rule_of_value names argument.0.now argument.1
 pub record AddsRules (old : Command) (rules : List Rule) (new : Command) : Type 0 where
   pub app : app_of new ≡ on_top (λ s. record s { rules = s.rules ++ rules }) (app_of old)
   pub globals : (fields_of new).has_globals ≡ (fields_of old).has_globals
+
+-- The command line is a program's, with the names of the encodings and of the forms of changes.
+pub record IsProgramOf (program : Choices → Choices → App) (app : App) : Type 0 where
+  pub encodings : Choices
+  pub forms : Choices
+  pub names : map (λ s. s.now) encodings.now
+      ≡ codes "utf-8" ∷ codes "utf-16" ∷ codes "utf-32" ∷ []
+  pub form_names : map (λ s. s.now) forms.now ≡ codes "full" ∷ codes "incremental" ∷ []
+  pub same : app ≡ program encodings forms

@@ -1,5 +1,5 @@
 -- The facts of a record, what is known after it, and the output of `trace` and `check --explain` from the record on.
-use Rattle.lsp_replay.proofs.Prelude.{◌≡◌, ◌≢◌, ℕ, Bool, false, List, [], ◌∷◌, option_map, string_bytes, refl, sym, ap, ap₂, ◌∙◌, inl, inr, ◌⊎◌, reading, change_view, ChangeData, IncomingData, incoming_of, ServerData, Head, Sender, Client, Server, Version, Record, Facts, Note, Taken, written_first, change_in, writes, rare_notes, Known, LineView, is_renamed, is_strict_refusal, known_after, last_in, lines, uri_of, lines_in, is_mention, notes_if, notes_of, notes_on, ranged_after, Session, Verdict, recorded, bad, encoding_for, judge_server, is_change, judge, judge_from, BodyData, body_read, AreFacts, IsAbout, IsLearned, is_change_read, known_by, uri_read, notes_on_read, judge_at, IsTaken, ranged_read, ranged_with, verdict_view}
+use Rattle.lsp_replay.proofs.Prelude.{◌≡◌, ◌≢◌, ℕ, Bool, false, List, [], ◌∷◌, option_map, string_bytes, refl, sym, ap, ap₂, ◌∙◌, inl, inr, ◌⊎◌, reading, change_view, ChangeData, IncomingData, incoming_of, ServerData, Head, Sender, Client, Server, Version, Record, Facts, Note, Taken, written_first, change_in, writes, rare_notes, Known, LineView, is_renamed, is_strict_refusal, known_after, last_in, lines, uri_of, is_mention, notes_if, notes_of, notes_on, ranged_after, Session, Verdict, recorded, bad, encoding_for, judge_server, is_change, judge, judge_from, BodyData, body_read, AreFacts, IsAbout, IsLearned, is_change_read, known_by, saved_in, saved_read, uri_read, notes_on_read, judge_at, IsTaken, ranged_read, ranged_with, verdict_view, output_in, lengths_of, notification_params}
 use Rattle.lsp_replay.specs.declared.facts.About.{About}
 use Rattle.lsp_replay.proofs.Canonical.CanonicalLogLemmas.{heard_as}
 use Rattle.lsp_replay.proofs.Records.OutputLemmas.{output_after, unless_not}
@@ -14,6 +14,12 @@ module _ (s : Session) (body : List ℕ) where
   uri_at : (version : Version) (side : Sender) → uri_read (body_read version side body) ≡ uri_of side asked
   uri_at version Client = refl
   uri_at version Server = refl
+
+  saved_at : (version : Version) (side : Sender)
+      → saved_read (body_read version side body) (reading body)
+      ≡ saved_in side asked (notification_params (reading body))
+  saved_at version Client = refl
+  saved_at version Server = refl
 
   ranged_at : (ranged : Bool) (version : Version) (side : Sender)
       → ranged_read ranged s (body_read version side body) ≡ ranged_after ranged s side body
@@ -48,7 +54,8 @@ module _ (s : Session) (body : List ℕ) where
       let announced = encoding_for s.expected (reading body) in
       let heard = heard_as s announced in
       no_notes [] (judge_server s announced).verdict heard
-      ∙ sym (no_notes (notes_on s.server ranged (reading body) asked) (judge_server s announced).verdict heard)
+      ∙ sym (no_notes (notes_on s.server ranged (lengths_of (reading body)) (notification_params (reading body)) asked)
+      (judge_server s announced).verdict heard)
 
 -- ---- a record, by what was read of it, what it is about, and what became of it
 
@@ -87,6 +94,8 @@ module _ (known : Known) (s : Session) (head : Head) (body : List ℕ) (read : B
         number = learned.number ∙ counted;
         verdict = ap verdict_view learned.verdict ∙ is_taken.judged;
         uri = ap (option_map string_bytes) learned.uri ∙ uri_is;
+        saved = ap (option_map string_bytes) learned.saved ∙ is_about.saved
+            ∙ ap (λ (d : BodyData). saved_read d (reading body)) is_read ∙ saved_at s body head.version head.side;
         change = ap (option_map change_view) learned.change ∙ is_taken.change;
         renamed = learned.renamed ∙ ap₂ (is_renamed known) uri_is is_taken.judged;
         last = learned.last ∙ ap₂ (last_in known) uri_is is_taken.judged;
@@ -109,7 +118,7 @@ module _ (view : LineView) (known : Known) (s : Session) (r : Record) where
 
   pub line_first : (judge s r).verdict ≢ bad → (bytes : List ℕ) → bytes ≡ line → (t : Session) → t ≡ (judge s r).session
       → (kept : Known) → kept ≡ next → (more : List Record)
-      → lines_in view known s (r ∷ more) ≡ written_first bytes (lines_in view kept t more)
+      → output_in (lines view) known s (r ∷ more) ≡ written_first bytes (output_in (lines view) kept t more)
   line_first not_bad bytes is t session kept kept_is =
       output_after (lines view) known s r (writes bytes)
       (unless_not r (judge s r).verdict (writes line) not_bad ∙ ap writes (sym is)) kept kept_is t session

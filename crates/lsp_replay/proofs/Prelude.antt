@@ -62,6 +62,7 @@ pub use Rattle.lsp_log.specs.declared.record.Version.TheVariants.{One, Two}
 pub use Rattle.lsp_log.specs.declared.splitter.Splitter.{Splitter}
 pub use Rattle.lsp_log.specs.laws.Logs.{BufferedLaw, FirstLaw, IsFirstOf, RestLaw, VersionLaw}
 pub use Rattle.lsp_message.proofs.ReadBack.{body_of-unique, is_read_back, reading-body_of}
+pub use Rattle.lsp_message.specs.Lengths.{lengths_of, notification_params}
 pub use Rattle.lsp_message.specs.Message.{IdData, MessageData, OutcomeData, Reading, id_in, json_of, message_of, reading, text, whole}
 pub use Rattle.lsp_message.specs.Outgoing.{OutgoingData, body_of, document_text, error_reply, initialize_result}
 pub use Rattle.lsp_message.specs.Params.{ChangeData, CloseData, ContentChangeData, DocumentItem, change_by, change_of, close_by, close_of, content_change_in, document_and_changes, document_in, open_by, open_of, version_from, version_in}
@@ -77,7 +78,7 @@ pub use Rattle.lsp_replay.specs.Compared.{comparing, comparing_after, if_ends_so
 pub use Rattle.lsp_replay.specs.Counts.{rare_note, rare_notes, tallied_notes}
 pub use Rattle.lsp_replay.specs.Documents.{KeepsDocuments, Kept, Selection, WroteDocuments, after_kept, after_left_out, documents, is_answer_to, is_due, kept_first, kept_in, kept_records, message_stays, nothing_selected, output_of_kept, record_stays, waiting_after, with_due, with_line}
 pub use Rattle.lsp_replay.specs.Engine.{Called, FewCalls, NonePassedOver, PortState, WroteRecords, all_of, last_of, state_of}
-pub use Rattle.lsp_replay.specs.Explained.{Seen, explained_line, explaining, listed_line, listed_notes, seen_in}
+pub use Rattle.lsp_replay.specs.Explained.{Seen, explained_line, explaining, listed_line, listed_notes, noted_uri, saved_in, seen_in}
 pub use Rattle.lsp_replay.specs.Lines.{Known, LineView, is_renamed, is_strict_refusal, known_after, last_in, lines, nothing_known, uri_of}
 pub use Rattle.lsp_replay.specs.Mentions.{Mention, is_mention, last_for, last_record, mentioned, most_mentions, without}
 pub use Rattle.lsp_replay.specs.Notes.{Terms, batch_notes, change_notes, change_words, differing_line, has_feed, has_lone_return, left_by, note_words, notes_after, notes_from, notes_if, notes_of, notes_on, notes_words, past_words, ranged_after, replaced_by, side_words, taken_as}
@@ -104,13 +105,12 @@ pub use Rattle.lsp_replay.specs.inside.AllRecords.{CutAtEnd, EndedBy, IsFaultRep
 pub use Rattle.lsp_replay.specs.inside.Bodies.{BodyData, IsChangeTaken, IsReceived, body_read, body_view, from_client, from_server, judge_read}
 pub use Rattle.lsp_replay.specs.inside.Commands.{run_output_in}
 pub use Rattle.lsp_replay.specs.inside.Engine.{AtEnd, BreaksAtEnd, Broken, BrokenAtEnd, IsLoopRun, IsPieceFault, IsRunFault, Ran, RanOut, RanOutAtEnd, Reached, RefusesInput, Stopped, reading_by}
-pub use Rattle.lsp_replay.specs.inside.Facts.{AreFacts, IsAbout, IsLearned, canonical_json, explained_by, is_change_read, known_by, members_by, reason_of, uri_read}
+pub use Rattle.lsp_replay.specs.inside.Facts.{AreFacts, IsAbout, IsLearned, canonical_json, explained_by, is_change_read, known_by, members_by, noted_by, reason_of, saved_read, uri_read}
 pub use Rattle.lsp_replay.specs.inside.Joining.{IsBegun, IsChange, IsChangeWriting, IsFramed, IsJoined, IsLonger, IsOpenAfter, IsOpenIn, IsOther, IsWriting, refusal_of, server_after}
 pub use Rattle.lsp_replay.specs.inside.Kept.{closed_by, kept_after, text_at, text_closed}
-pub use Rattle.lsp_replay.specs.inside.Lines.{lines_in}
 pub use Rattle.lsp_replay.specs.inside.Noting.{notes_on_read, terms_view}
-pub use Rattle.lsp_replay.specs.inside.Openings.{listed_in, open_read}
-pub use Rattle.lsp_replay.specs.inside.Parts.{found_now, replayed_in}
+pub use Rattle.lsp_replay.specs.inside.Openings.{open_read}
+pub use Rattle.lsp_replay.specs.inside.Parts.{found_now}
 pub use Rattle.lsp_replay.specs.inside.Piped.{IsAdmitted, once_written, piped, written_due}
 pub use Rattle.lsp_replay.specs.inside.Progress.{BothSpend, Ends, IsEndFault, IsHandleFault, IsHandled, IsLastFault, IsProgress, Runs}
 pub use Rattle.lsp_replay.specs.inside.Run.{IsRanOf}

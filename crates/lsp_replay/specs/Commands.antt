@@ -1,29 +1,10 @@
 -- The output of each engine for the records of a log.
-use Rattle.std.specs.Prelude.{ℕ, Bool, true, false, ◌==◌, ◌++◌, if◌then◌else◌, nat_lt, length, map, drop, List, [], ◌∷◌, Option, Some, None, Result, Ok, Err, codes, decimal, flat_map}
-use Rattle.lsp_frame.specs.Frame.{frame}
-use Rattle.lsp_frame.specs.Limits.{default_limits}
-use Rattle.lsp_text.specs.declared.encoding.Encoding.TheVariants.{Utf16}
-use Rattle.lsp_text.specs.Units.{units_in}
-use Rattle.lsp_message.specs.declared.outgoing.ErrorCode.{ErrorCode}
-use Rattle.lsp_message.specs.declared.outgoing.ErrorCode.TheVariants.{ParseError, InvalidRequest, MethodNotFound, InvalidParams, ServerNotInitialized}
-use Rattle.lsp_message.specs.Message.{reading}
+use Rattle.lsp_replay.specs.Prelude.{ℕ, Bool, true, false, ◌==◌, ◌++◌, if◌then◌else◌, nat_lt, length, map, drop, List, [], ◌∷◌, Option, Some, None, Result, Ok, Err, codes, decimal, flat_map, frame, default_limits, Utf16, units_in, ErrorCode, ParseError, InvalidRequest, MethodNotFound, InvalidParams, ServerNotInitialized, reading, DocumentItem, ChangeData, server_refusal_code, IncomingData, incoming_of, did_change, ServerData, session_encoding, content_change_from_data, AnswerData, reply, changed, dropped, ignored, refused, exits, already_ended, Sent, Outcome, EngineFault, BadLog, BodyTooLong, Head, LogRules, Record, version_line, mark_of, Config, Settings}
 use Rattle.lsp_message.specs.Outgoing.{document_text}
-use Rattle.lsp_message.specs.Params.{DocumentItem, ChangeData}
 use Rattle.lsp_store.specs.Message.{canonical_body}
-use Rattle.lsp_server.specs.Codes.{server_refusal_code}
-use Rattle.lsp_server.specs.Incoming.{IncomingData, incoming_of, did_change}
-use Rattle.lsp_server.specs.Step.{ServerData, session_encoding, content_change_from_data}
-use Rattle.lsp_server.specs.Answer.{AnswerData, reply, changed, dropped, ignored, refused, exits, already_ended, Sent}
-use Rattle.lsp_replay.specs.declared.outcome.Outcome.{Outcome}
-use Rattle.lsp_stream.specs.declared.fault.EngineFault.{EngineFault}
-use Rattle.lsp_stream.specs.declared.fault.EngineFault.TheVariants.{BadLog, BodyTooLong}
-use Rattle.lsp_log.specs.declared.record.Head.{Head}
-use Rattle.lsp_log.specs.Log.{LogRules, Record, version_line, mark_of}
 use Rattle.lsp_replay.specs.RunOutput.{RunOutput, written_first, stopped}
-use Rattle.lsp_server.specs.declared.config.Config.{Config}
 use Rattle.lsp_server.specs.declared.config.EncodingChoice.TheVariants.{Fixed}
 use Rattle.lsp_server.specs.declared.config.ChangeForm.TheVariants.{Incremental}
-use Rattle.lsp_replay.specs.declared.commands.Settings.{Settings}
 use Rattle.lsp_replay.specs.Session.{Session, opened, Verdict, answered, recorded, bad, Judged, judge, session_outcome}
 
 -- ---- every engine judges the records by a session; most have no state but that

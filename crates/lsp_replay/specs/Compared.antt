@@ -1,25 +1,8 @@
 -- `compare`: whether a document's last text is that of a file, and else which message made it so.
-use Rattle.std.specs.Prelude.{ℕ, Bool, if◌then◌else◌, length, List, [], ◌∷◌, ◌++◌, Option, Some, None, Result, Ok, Err}
-use Rattle.std.specs.Str.{chars}
-use Rattle.line_diff.specs.Compared.{ComparisonData, comparison_words, ends_so, equality, refused_by, taken}
+use Rattle.lsp_replay.specs.Prelude.{ℕ, Bool, if◌then◌else◌, length, List, [], ◌∷◌, ◌++◌, Option, Some, None, Result, Ok, Err, chars, ComparisonData, comparison_words, ends_so, equality, refused_by, taken, Splice, units_in, Range, ends_of, EditFault, reading, ChangeData, ContentChangeData, DocumentItem, entry_at, changed, refused, server_refusal_code, IncomingData, did_change, incoming_of, ServerData, content_change_from_data, session_encoding, Record, Settings, Outcome}
 use Rattle.line_diff.specs.Owners.{splice_between}
-use Rattle.line_diff.specs.declared.owners.Splice.{Splice}
-use Rattle.lsp_text.specs.Units.{units_in}
-use Rattle.lsp_text.specs.declared.position.Range.{Range}
-use Rattle.lsp_edit.specs.Batch.{ends_of}
 use Rattle.lsp_edit.specs.Faults.{places_at}
-use Rattle.lsp_edit.specs.declared.fault.EditFault.{EditFault}
-use Rattle.lsp_message.specs.Message.{reading}
-use Rattle.lsp_message.specs.Params.{ChangeData, ContentChangeData, DocumentItem}
-use Rattle.lsp_store.specs.Table.{entry_at}
-use Rattle.lsp_server.specs.Answer.{changed, refused}
-use Rattle.lsp_server.specs.Codes.{server_refusal_code}
-use Rattle.lsp_server.specs.Incoming.{IncomingData, did_change, incoming_of}
-use Rattle.lsp_server.specs.Step.{ServerData, content_change_from_data, session_encoding}
-use Rattle.lsp_log.specs.Log.{Record}
-use Rattle.lsp_replay.specs.declared.commands.Settings.{Settings}
 use Rattle.lsp_replay.specs.declared.outcome.Missing.TheVariants as missing
-use Rattle.lsp_replay.specs.declared.outcome.Outcome.{Outcome}
 use Rattle.lsp_replay.specs.RunOutput.{RunOutput}
 use Rattle.lsp_replay.specs.Commands.{View, log_config, output_in, unless_bad, writes}
 use Rattle.lsp_replay.specs.Lines.{uri_of}

@@ -1,20 +1,8 @@
 -- `normalise` of the records that are about the session and the documents' texts: all others are
 -- left out (LSP 3.17, Lifecycle Messages, Text Document Synchronization).
-use Rattle.std.specs.Prelude.{ℕ, ◌≡◌, Bool, true, false, not, ◌||◌, if◌then◌else◌, List, [], ◌∷◌, Option, Some, None, codes, Result, IfOk}
-use Rattle.std.specs.Io.KnownBytes.{Consumes, Appends}
-use Rattle.std.specs.Str.{bytes_eq}
-use Rattle.lsp_message.specs.Message.{IdData, Reading, reading}
+use Rattle.lsp_replay.specs.Prelude.{ℕ, ◌≡◌, Bool, true, false, not, ◌||◌, if◌then◌else◌, List, [], ◌∷◌, Option, Some, None, codes, Result, IfOk, Consumes, Appends, bytes_eq, IdData, Reading, reading, Phase, IncomingData, response, initialize, shutdown, other_request, other_notification, incoming_of, EngineFault, Ports, Sender, Head, Record, Log, IsReadAs, Settings, Outcome}
 use Rattle.lsp_message.specs.Message as read
-use Rattle.lsp_server.specs.declared.phase.Phase.{Phase}
-use Rattle.lsp_server.specs.Incoming.{IncomingData, response, initialize, shutdown, other_request, other_notification, incoming_of}
-use Rattle.lsp_stream.specs.declared.fault.EngineFault.{EngineFault}
-use Rattle.lsp_stream.specs.Ports.{Ports}
-use Rattle.lsp_log.specs.declared.record.Sender.{Sender}
 use Rattle.lsp_log.specs.declared.record.Sender.TheVariants.{Client, Server}
-use Rattle.lsp_log.specs.declared.record.Head.{Head}
-use Rattle.lsp_log.specs.Log.{Record, Log, IsReadAs}
-use Rattle.lsp_replay.specs.declared.commands.Settings.{Settings}
-use Rattle.lsp_replay.specs.declared.outcome.Outcome.{Outcome}
 use Rattle.lsp_replay.specs.RunOutput.{RunOutput}
 use Rattle.lsp_replay.specs.Commands.{as_log, log_config, report}
 use Rattle.lsp_replay.specs.laws.Written.{LeavesAlike}

@@ -1,12 +1,5 @@
 -- What an engine wrote of a log, and which calls it made.
-use Rattle.std.specs.Prelude.{ℕ, ◌≡◌, ◌≢◌, ◌+◌, ◌≤◌, ◌<◌, ◌^◌, ◌++◌, Bool, true, List, Option, None, Result, Err}
-use Rattle.std.specs.Io.KnownBytes.{Consumes, Appends, IsAtEnd}
-use Rattle.lsp_replay.specs.declared.outcome.Outcome.{Outcome}
-use Rattle.lsp_stream.specs.declared.fault.EngineFault.{EngineFault}
-use Rattle.lsp_stream.specs.declared.fault.EngineFault.TheVariants.{Read, Write, TooManyTurns}
-use Rattle.lsp_stream.specs.Ports.{Ports, Rose}
-use Rattle.lsp_stream.specs.Turns.{StaysWell}
-use Rattle.lsp_log.specs.Log.{LogRules, Record, Log, IsReadAs, is_line_due}
+use Rattle.lsp_replay.specs.Prelude.{ℕ, ◌≡◌, ◌≢◌, ◌+◌, ◌≤◌, ◌<◌, ◌^◌, ◌++◌, Bool, true, List, Option, None, Result, Err, Consumes, Appends, IsAtEnd, Outcome, EngineFault, Read, Write, TooManyTurns, Ports, Rose, StaysWell, LogRules, Record, Log, IsReadAs, is_line_due}
 use Rattle.lsp_replay.specs.RunOutput.{RunOutput}
 
 -- The output at the end of the input, after the records of a log.

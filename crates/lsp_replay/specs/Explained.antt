@@ -1,20 +1,13 @@
 -- `check --explain`: a line of `check` for each record, with the reason where it was refused and
 -- the notes where it is suspicious; at the end what came how often, and what to do next.
-use Rattle.std.specs.Prelude.{ℕ, Bool, false, not, ◌==◌, ◌&&◌, ◌||◌, ◌∷◌, ◌++◌, if◌then◌else◌, List, [], Option, Some, None, codes, decimal}
-use Rattle.lsp_frame.specs.Limits.{LimitsData}
-use Rattle.lsp_message.specs.Message.{Reading, reading}
-use Rattle.lsp_message.specs.Params.{ChangeData}
-use Rattle.lsp_server.specs.Incoming.{IncomingData, incoming_of}
-use Rattle.lsp_log.specs.Log.{Record}
-use Rattle.lsp_replay.specs.declared.commands.Settings.{Settings}
-use Rattle.lsp_replay.specs.declared.commands.explained.Listing.{Listing}
-use Rattle.lsp_replay.specs.declared.notes.Note.{Note}
+use Rattle.lsp_replay.specs.Prelude.{ℕ, Bool, false, not, ◌==◌, ◌&&◌, ◌||◌, ◌∷◌, ◌++◌, if◌then◌else◌, List, [], Option, Some, None, codes, decimal, LimitsData, notification_params, reading, ChangeData, IncomingData, incoming_of, other_notification, Sender, Record, Settings, Listing, Note, Data}
+use Rattle.lsp_log.specs.declared.record.Sender.TheVariants.{Client}
 use Rattle.lsp_replay.specs.RunOutput.{RunOutput}
 use Rattle.lsp_replay.specs.Commands.{change_in, log_config, output_in, verdict_word}
 use Rattle.lsp_replay.specs.Counts.{Counts, counts_words, rare_notes}
 use Rattle.lsp_replay.specs.Tallies.{has_repeated, has_tallies}
 use Rattle.lsp_replay.specs.Lines.{Known, LineView, has_notes, is_renamed, last_in, lines, nothing_known, uri_of}
-use Rattle.lsp_replay.specs.Notes.{notes_of, notes_words, notification_params, saved_uri}
+use Rattle.lsp_replay.specs.Notes.{notes_of, notes_words, saved_uri}
 use Rattle.lsp_replay.specs.Reasons.{reason_words, renamed_words}
 use Rattle.lsp_replay.specs.Run.{Engine, log_engine}
 use Rattle.lsp_replay.specs.Session.{Session, Judged, Verdict, answered, is_refused, opened, refuses}
@@ -49,10 +42,15 @@ explanation limits uri change seen (answered answer) = if is_refused answer then
     ++ renamed_words seen.renamed ++ see_words seen.last else []
 explanation limits uri change seen verdict = []
 
+-- The document whose text was saved, of an editor's message that isn't about the documents.
+abbrev pub saved_in : Sender → IncomingData → Option Data → Option (List ℕ)
+saved_in Client (other_notification method) params = saved_uri params
+saved_in side m params = None
+
 -- The document that notes are about: the record's, or that of the text that was saved.
-abbrev pub noted_uri : Option (List ℕ) → Reading → Option (List ℕ)
-noted_uri None body = saved_uri (notification_params body)
-noted_uri (Some uri) body = Some uri
+abbrev pub noted_uri : Option (List ℕ) → Option (List ℕ) → Option (List ℕ)
+noted_uri None saved = saved
+noted_uri (Some uri) saved = Some uri
 
 -- What comes after the word of a record that has notes.
 abbrev pub remark : Option (List ℕ) → List Note → List ℕ
@@ -68,25 +66,19 @@ listed_notes listing counts notes = if listing.all then notes else rare_notes co
 abbrev pub is_listed : Listing → Verdict → List Note → Bool
 is_listed listing verdict notes = not listing.brief || (refuses verdict || has_notes notes)
 
--- A line, if the record has one.
-abbrev pub if_listed : Bool → List ℕ → List ℕ
-if_listed listed line = if listed then line else []
-
--- The line of a record with these notes on it, by its number, its document, its body, the change
--- that it asks for, and what is known of the document.
-abbrev pub line_with : LimitsData → ℕ → Option (List ℕ) → Reading → Option ChangeData → Seen
-    → Verdict → List Note → List ℕ
-line_with limits number uri body change seen verdict notes =
+-- The line of a record with these notes on it. They are about the document `noted`.
+abbrev pub line_with : LimitsData → ℕ → Option (List ℕ) → Option (List ℕ) → Option ChangeData
+    → Seen → Verdict → List Note → List ℕ
+line_with limits number uri noted change seen verdict notes =
     decimal number ++ codes " " ++ verdict_word verdict
-    ++ explanation limits uri change seen verdict ++ remark (noted_uri uri body) notes
-    ++ codes "\n"
+    ++ explanation limits uri change seen verdict ++ remark noted notes ++ codes "\n"
 
 -- The same, unless the record has none.
-abbrev pub listed_line : Listing → LimitsData → ℕ → Option (List ℕ) → Reading → Option ChangeData
-    → Seen → Verdict → List Note → List ℕ
-listed_line listing limits number uri body change seen verdict notes =
-    if_listed (is_listed listing verdict notes)
-    (line_with limits number uri body change seen verdict notes)
+abbrev pub listed_line : Listing → LimitsData → ℕ → Option (List ℕ) → Option (List ℕ)
+    → Option ChangeData → Seen → Verdict → List Note → List ℕ
+listed_line listing limits number uri noted change seen verdict notes =
+    if is_listed listing verdict notes
+    then line_with limits number uri noted change seen verdict notes else []
 
 -- What is known of the document of a record.
 abbrev pub seen_in : Known → Option (List ℕ) → Verdict → Seen
@@ -100,7 +92,9 @@ seen_in known uri verdict = record {
 abbrev pub explained_line : Listing → Known → Session → Record → Judged → IncomingData → List ℕ
 explained_line listing known s r j m =
     listed_line listing j.session.server.config.limits j.session.records (uri_of r.head.side m)
-    (reading r.body) (change_in m) (seen_in known (uri_of r.head.side m) j.verdict) j.verdict
+    (noted_uri (uri_of r.head.side m)
+    (saved_in r.head.side m (notification_params (reading r.body))))
+    (change_in m) (seen_in known (uri_of r.head.side m) j.verdict) j.verdict
     (listed_notes listing known.counts (notes_of s known.ranged r.body j.verdict))
 
 -- ---- what to do next, after so many refusals

@@ -1,3 +1,4 @@
+pub mod Prelude
 pub mod RunOutput
 pub mod Engine
 pub mod Session

@@ -1,17 +1,7 @@
 -- The commands that write a line for each record by what is known of the records before it: `trace`
 -- and `check --explain`.
-use Rattle.std.specs.Prelude.{ℕ, Bool, true, false, not, ◌&&◌, ◌||◌, if◌then◌else◌, List, [], ◌∷◌, Option, Some, None, is_none}
-use Rattle.lsp_message.specs.Message.{reading}
-use Rattle.lsp_message.specs.Params.{ChangeData}
-use Rattle.lsp_store.specs.declared.fault.StoreFault.TheVariants.{AlreadyOpen, NotOpen, StaleVersion}
-use Rattle.lsp_server.specs.Answer.{refused}
-use Rattle.lsp_server.specs.Incoming.{IncomingData, did_open, did_change, did_close, incoming_of}
-use Rattle.lsp_server.specs.declared.answer.Refusal.TheVariants.{Store}
-use Rattle.lsp_log.specs.declared.record.Head.{Head}
-use Rattle.lsp_log.specs.declared.record.Sender.{Sender}
+use Rattle.lsp_replay.specs.Prelude.{ℕ, Bool, true, false, not, ◌&&◌, ◌||◌, if◌then◌else◌, List, [], ◌∷◌, Option, Some, None, is_none, reading, ChangeData, AlreadyOpen, NotOpen, StaleVersion, refused, IncomingData, did_open, did_change, did_close, incoming_of, Store, Head, Sender, Record, Note}
 use Rattle.lsp_log.specs.declared.record.Sender.TheVariants.{Client}
-use Rattle.lsp_log.specs.Log.{Record}
-use Rattle.lsp_replay.specs.declared.notes.Note.{Note}
 use Rattle.lsp_replay.specs.Commands.{View, change_in, unless_bad, writes}
 use Rattle.lsp_replay.specs.Counts.{Counts, counts_after, nothing_counted}
 use Rattle.lsp_replay.specs.Mentions.{Mention, is_mention, last_for, last_record, mentioned}
@@ -74,21 +64,13 @@ is_stale_refusal verdict = false
 abbrev pub is_strict_refusal : Option ChangeData → Verdict → Bool
 is_strict_refusal change verdict = is_open_already verdict || is_stale_refusal verdict && not (is_idle change)
 
--- The documents that were opened, closed or refused last, after a record of one side that asks `m`.
-abbrev pub mentions_after : List Mention → Sender → IncomingData → Judged → List Mention
-mentions_after mentions side m j =
-    mentioned (is_mention (is_change m) j.verdict) (uri_of side m) j.session.records mentions
-
--- The documents that were opened, changed or closed last, after such a record.
-abbrev pub made_after : List Mention → Sender → IncomingData → Judged → List Mention
-made_after made side m j =
-    mentioned (has_changed j.verdict) (uri_of side m) j.session.records made
-
 -- What is known after a record with this head and body, by the session before it.
 abbrev pub known_after : Known → Session → Head → List ℕ → Judged → Known
 known_after known s head body j = record {
-  mentions = mentions_after known.mentions head.side (incoming_of (reading body)) j;
-  made = made_after known.made head.side (incoming_of (reading body)) j;
+  mentions = mentioned (is_mention (is_change (incoming_of (reading body))) j.verdict)
+      (uri_of head.side (incoming_of (reading body))) j.session.records known.mentions;
+  made = mentioned (has_changed j.verdict) (uri_of head.side (incoming_of (reading body)))
+      j.session.records known.made;
   ranged = ranged_after known.ranged s head.side body;
   strict_refusal = known.strict_refusal
       || is_strict_refusal (change_in (incoming_of (reading body))) j.verdict;

@@ -1,36 +1,14 @@
 -- What of a message that wasn't refused is suspicious: its notes, and their words.
 -- These are ASCII, with no quotation mark and no backslash.
-use Rattle.std.specs.Prelude.{ℕ, ℤ, suc, Bool, true, false, not, ◌&&◌, ◌||◌, ◌==◌, ◌++◌, if◌then◌else◌, nat_lt, int_le, length, map, slice_get, slice_range, sum_by, encode_utf8_all, List, [], ◌∷◌, Option, Some, None, option_and_then, option_map, Result, Ok, Err, codes, decimal, flat_map}
-use Rattle.std.specs.Fmt.{signed_decimal}
+use Rattle.lsp_replay.specs.Prelude.{ℕ, ℤ, suc, Bool, true, false, not, ◌&&◌, ◌||◌, ◌==◌, ◌++◌, if◌then◌else◌, nat_lt, int_le, length, map, slice_get, slice_range, sum_by, encode_utf8_all, List, [], ◌∷◌, Option, Some, None, option_and_then, option_map, Result, Ok, Err, codes, decimal, flat_map, signed_decimal, bytes_eq, chars, Data, units_in, Utf16, Utf32, Position, Range, ContentChange, Fault, meaning, ends_of, Side, Start, Stop, announced_of, IdData, reading, DocumentItem, ChangeData, Announced, lengths_of, notification_params, entry_at, greatest_batch, changed, ignored, IncomingData, did_open, did_change, other_notification, incoming_of, ServerData, content_change_from_data, session_encoding, one_more, Sender, Note}
 use Rattle.std.specs.Result.{result_ok}
-use Rattle.std.specs.Str.{bytes_eq, chars}
-use Rattle.serde_json.specs.Data.{Data}
 use Rattle.line_diff.specs.Lines.{ends_line}
 use Rattle.lsp_text.specs.Positions.{denoted, exact_position}
-use Rattle.lsp_text.specs.Units.{units_in}
-use Rattle.lsp_text.specs.declared.encoding.Encoding.TheVariants.{Utf16, Utf32}
-use Rattle.lsp_text.specs.declared.position.Position.{Position}
-use Rattle.lsp_text.specs.declared.position.Range.{Range}
-use Rattle.lsp_edit.specs.Batch.{ContentChange, Fault, meaning, ends_of}
 use Rattle.lsp_edit.specs.Indexed.{text_within}
-use Rattle.lsp_edit.specs.declared.fault.Side.{Side}
-use Rattle.lsp_edit.specs.declared.fault.Side.TheVariants.{Start, Stop}
-use Rattle.lsp_message.specs.Agreement.{announced_of}
-use Rattle.lsp_message.specs.Message.{IdData, Reading, message, notification, reading}
-use Rattle.lsp_message.specs.Params.{DocumentItem, ChangeData}
-use Rattle.lsp_message.specs.declared.agreement.Announced.{Announced}
 use Rattle.lsp_message.specs.declared.agreement.SyncKind.{SyncKind}
 use Rattle.lsp_message.specs.declared.agreement.SyncKind.TheVariants.{Incremental}
-use Rattle.lsp_message.specs.Lengths.{lengths_of}
 use Rattle.lsp_message.specs.Values.{member_at, text_in}
-use Rattle.lsp_store.specs.Table.{entry_at, greatest_batch}
-use Rattle.lsp_server.specs.Answer.{changed, ignored}
-use Rattle.lsp_server.specs.Incoming.{IncomingData, did_open, did_change, other_notification, incoming_of}
-use Rattle.lsp_server.specs.Step.{ServerData, content_change_from_data, session_encoding}
-use Rattle.lsp_stream.specs.Ports.{one_more}
-use Rattle.lsp_log.specs.declared.record.Sender.{Sender}
 use Rattle.lsp_log.specs.declared.record.Sender.TheVariants.{Client, Server}
-use Rattle.lsp_replay.specs.declared.notes.Note.{Note}
 use Rattle.lsp_replay.specs.declared.notes.Note.TheVariants.{OpenAlready, LoneReturn, OldVersion, NoChanges, WholeText, PastEnd, WrongLength, SameText, OtherSaved}
 use Rattle.lsp_replay.specs.Reasons.{position_words}
 use Rattle.lsp_replay.specs.Session.{Session, Verdict, answered, result_for}
@@ -179,11 +157,6 @@ return_notes text = if has_lone_return false text && has_feed text then LoneRetu
 abbrev pub opening_notes : Option DocumentItem → List ℕ → List Note
 opening_notes entry text = open_notes entry ++ return_notes text
 
--- The params of a notification.
-abbrev pub notification_params : Reading → Option Data
-notification_params (message (notification method params)) = params
-notification_params body = None
-
 -- The document and the text that params of a `didSave` name. The text is there only if the server
 -- asked for it.
 abbrev pub saved_uri : Option Data → Option (List ℕ)
@@ -209,27 +182,27 @@ saved_notes entry saved = []
 
 -- The notes of a notification with this method that isn't about the documents. Of a `didSave` of
 -- an open document with the text "abc" the text "abc" has none, "abX" has one.
-abbrev pub saving_notes : List DocumentItem → List ℕ → Reading → List Note
-saving_notes table method body = if bytes_eq method (codes "textDocument/didSave") then
-    saved_notes (option_and_then (entry_at table) (saved_uri (notification_params body)))
-    (saved_text (notification_params body)) else []
+abbrev pub saving_notes : List DocumentItem → List ℕ → Option Data → List Note
+saving_notes table method params = if bytes_eq method (codes "textDocument/didSave") then
+    saved_notes (option_and_then (entry_at table) (saved_uri params)) (saved_text params) else []
 
--- What the notes of the changes of a body go by, in the encoding of the session.
-abbrev pub terms_in : ServerData → Bool → Reading → Terms
-terms_in s ranged body = record {
+-- What the notes of changes go by, in the encoding of the session.
+abbrev pub terms_in : ServerData → Bool → List (Option ℕ) → Terms
+terms_in s ranged lengths = record {
   units = units_in (session_encoding s);
-  lengths = lengths_of body;
+  lengths = lengths;
   ranged = ranged;
 }
 
--- What there is to note of a message on the documents before it, unless it is refused. `ranged`:
--- did the server ask for ranges?
-abbrev pub notes_on : ServerData → Bool → Reading → IncomingData → List Note
-notes_on s ranged body (did_open (Some p)) = opening_notes (entry_at s.table p.uri) p.text
-notes_on s ranged body (did_change (Some p))
-    = changing_notes (terms_in s ranged body) p (entry_at s.table p.uri)
-notes_on s ranged body (other_notification method) = saving_notes s.table method body
-notes_on s ranged body m = []
+-- What there is to note of a message on the documents before it, unless it is refused, by the
+-- `rangeLength` of its changes or its params. `ranged`: did the server ask for ranges?
+abbrev pub notes_on : ServerData → Bool → List (Option ℕ) → Option Data → IncomingData → List Note
+notes_on s ranged lengths params (did_open (Some p))
+    = opening_notes (entry_at s.table p.uri) p.text
+notes_on s ranged lengths params (did_change (Some p))
+    = changing_notes (terms_in s ranged lengths) p (entry_at s.table p.uri)
+notes_on s ranged lengths params (other_notification method) = saving_notes s.table method params
+notes_on s ranged lengths params m = []
 
 -- Notes, if a message is accepted, or ignored by a running server. A refused one has its reason.
 abbrev pub notes_if : List Note → Verdict → List Note
@@ -240,7 +213,8 @@ notes_if notes verdict = []
 -- The notes of a record, by the session before it, its body and its judgement.
 abbrev pub notes_of : Session → Bool → List ℕ → Verdict → List Note
 notes_of s ranged body verdict =
-    notes_if (notes_on s.server ranged (reading body) (incoming_of (reading body))) verdict
+    notes_if (notes_on s.server ranged (lengths_of (reading body))
+    (notification_params (reading body)) (incoming_of (reading body))) verdict
 
 -- ---- whether the server asked for ranges, which a log of version 2 says
 

@@ -1,12 +1,6 @@
 -- Which message opened each document of a log first, for a user who asked for one that isn't there.
-use Rattle.std.specs.Prelude.{ℕ, ◌-◌, ◌==◌, ◌++◌, if◌then◌else◌, length, take, List, [], Option, Some, None, codes, decimal, flat_map}
-use Rattle.line_diff.specs.Compared.{ends_so}
-use Rattle.lsp_message.specs.Message.{reading}
-use Rattle.lsp_server.specs.Incoming.{IncomingData, did_open, incoming_of}
-use Rattle.lsp_log.specs.declared.record.Sender.{Sender}
+use Rattle.lsp_replay.specs.Prelude.{ℕ, ◌-◌, ◌==◌, ◌++◌, if◌then◌else◌, length, take, List, [], Option, Some, None, codes, decimal, flat_map, ends_so, reading, IncomingData, did_open, incoming_of, Sender, Record, Settings}
 use Rattle.lsp_log.specs.declared.record.Sender.TheVariants.{Client}
-use Rattle.lsp_log.specs.Log.{Record}
-use Rattle.lsp_replay.specs.declared.commands.Settings.{Settings}
 use Rattle.lsp_replay.specs.RunOutput.{RunOutput}
 use Rattle.lsp_replay.specs.Commands.{View, log_config, output_in, unless_bad, writes}
 use Rattle.lsp_replay.specs.Run.{Engine, log_engine}

@@ -1,16 +1,8 @@
 -- `replay` of a part of a log: the documents after a record, or the last text of one document.
-use Rattle.std.specs.Prelude.{ℕ, Bool, false, not, ◌==◌, ◌&&◌, ◌||◌, if◌then◌else◌, List, [], Option, Some, None, is_some, option_map, Ok}
-use Rattle.std.specs.Str.{bytes_eq}
-use Rattle.std.specs.String.{string_bytes}
-use Rattle.line_diff.specs.Compared.{ends_so}
-use Rattle.lsp_message.specs.Params.{DocumentItem}
-use Rattle.lsp_store.specs.Table.{entry_at}
-use Rattle.lsp_log.specs.Log.{Record}
+use Rattle.lsp_replay.specs.Prelude.{ℕ, Bool, false, not, ◌==◌, ◌&&◌, ◌||◌, if◌then◌else◌, List, [], Option, Some, None, is_some, option_map, Ok, bytes_eq, string_bytes, ends_so, DocumentItem, entry_at, Record, Settings, Outcome}
 use Rattle.lsp_replay.specs.declared.commands.parts.Part.{Part}
-use Rattle.lsp_replay.specs.declared.commands.Settings.{Settings}
 use Rattle.lsp_replay.specs.declared.outcome.Missing.{Missing}
 use Rattle.lsp_replay.specs.declared.outcome.Missing.TheVariants as missing
-use Rattle.lsp_replay.specs.declared.outcome.Outcome.{Outcome}
 use Rattle.lsp_replay.specs.RunOutput.{RunOutput}
 use Rattle.lsp_replay.specs.Commands.{RecordOutput, View, writes, ends, output_in, unless_bad, report_from, log_config}
 use Rattle.lsp_replay.specs.Openings.{opened_in}

@@ -1,23 +1,10 @@
 -- Why a record was refused, in words for people. They are ASCII, with no quotation mark and no
 -- backslash.
-use Rattle.std.specs.Prelude.{ℕ, Bool, true, false, ◌∷◌, ◌++◌, if◌then◌else◌, List, [], Option, Some, None, option_and_then, codes, decimal, slice_get}
-use Rattle.std.specs.Fmt.{signed_decimal}
-use Rattle.lsp_frame.specs.Limits.{LimitsData}
-use Rattle.lsp_text.specs.declared.position.Position.{Position}
-use Rattle.lsp_text.specs.declared.position.Range.{Range}
-use Rattle.lsp_edit.specs.declared.fault.EditFault.{EditFault}
+use Rattle.lsp_replay.specs.Prelude.{ℕ, Bool, true, false, ◌∷◌, ◌++◌, if◌then◌else◌, List, [], Option, Some, None, option_and_then, codes, decimal, slice_get, signed_decimal, LimitsData, Position, Range, EditFault, Side, Start, Stop, ErrorCode, ParseError, InvalidRequest, InvalidParams, ServerNotInitialized, ChangeData, AlreadyOpen, TooManyDocuments, TextTooLong, NotOpen, StaleVersion, TooManyChanges, Edit, Store, AnswerData, reply, refused, exits, Sent, one_more}
 use Rattle.lsp_edit.specs.declared.fault.EditFault.TheVariants.{InsideCharacter, ReversedRange, NoMemory as NoMemoryToEdit}
-use Rattle.lsp_edit.specs.declared.fault.Side.{Side}
-use Rattle.lsp_edit.specs.declared.fault.Side.TheVariants.{Start, Stop}
-use Rattle.lsp_message.specs.declared.outgoing.ErrorCode.{ErrorCode}
-use Rattle.lsp_message.specs.declared.outgoing.ErrorCode.TheVariants.{ParseError, InvalidRequest, InvalidParams, ServerNotInitialized}
-use Rattle.lsp_message.specs.Params.{ChangeData}
 use Rattle.lsp_store.specs.declared.fault.StoreFault.{StoreFault}
-use Rattle.lsp_store.specs.declared.fault.StoreFault.TheVariants.{AlreadyOpen, TooManyDocuments, TextTooLong, NotOpen, StaleVersion, TooManyChanges, Edit}
 use Rattle.lsp_server.specs.declared.answer.Refusal.{Refusal}
-use Rattle.lsp_server.specs.declared.answer.Refusal.TheVariants.{InvalidParams as BadParams, Store}
-use Rattle.lsp_server.specs.Answer.{AnswerData, reply, refused, exits, Sent}
-use Rattle.lsp_stream.specs.Ports.{one_more}
+use Rattle.lsp_server.specs.declared.answer.Refusal.TheVariants.{InvalidParams as BadParams}
 
 -- ---- what was sent
 

@@ -1,13 +1,5 @@
 -- What each engine does between a reader and a writer.
-use Rattle.std.specs.Prelude.{ℕ, ◌≡◌, ◌≢◌, ◌&&◌, not, Bool, true, false, List, Result, Err, IfOk}
-use Rattle.lsp_server.specs.declared.config.Config.{Config}
-use Rattle.lsp_stream.specs.declared.fault.EngineFault.{EngineFault}
-use Rattle.lsp_stream.specs.declared.fault.EngineFault.TheVariants.{NoMemory, TooManyTurns, Write}
-use Rattle.lsp_stream.specs.Ports.{Ports}
-use Rattle.lsp_stream.specs.Turns.{StaysFlushed}
-use Rattle.lsp_log.specs.Log.{LogRules, Record}
-use Rattle.lsp_replay.specs.declared.commands.Settings.{Settings}
-use Rattle.lsp_replay.specs.declared.outcome.Outcome.{Outcome}
+use Rattle.lsp_replay.specs.Prelude.{ℕ, ◌≡◌, ◌≢◌, ◌&&◌, not, Bool, true, false, List, Result, Err, IfOk, Config, EngineFault, NoMemory, TooManyTurns, Write, Ports, StaysFlushed, LogRules, Record, Settings, Outcome}
 use Rattle.lsp_replay.specs.RunOutput.{RunOutput}
 use Rattle.lsp_replay.specs.Engine.{Called, FewCalls, NonePassedOver, WroteRecords, state_of}
 use Rattle.lsp_replay.specs.Commands.{as_converted, as_log, as_stream, converted, replies, report, verdicts}

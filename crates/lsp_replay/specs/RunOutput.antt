@@ -1,7 +1,5 @@
 -- The output of an engine for the records of a log and for its end.
-use Rattle.std.specs.Prelude.{ℕ, Bool, List, [], ◌++◌, Option, Some, None, Result}
-use Rattle.lsp_replay.specs.declared.outcome.Outcome.{Outcome}
-use Rattle.lsp_stream.specs.declared.fault.EngineFault.{EngineFault}
+use Rattle.lsp_replay.specs.Prelude.{ℕ, Bool, List, [], ◌++◌, Option, Some, None, Result, Outcome, EngineFault}
 
 -- The output of an engine for some records, one after another.
 pub record RunOutput : Type 0 where

@@ -1,29 +1,10 @@
 -- A server over the records of a log: the judgement of each record, and what is counted (LSP 3.17,
 -- Lifecycle Messages).
-use Rattle.std.specs.Prelude.{ℕ, Bool, true, false, ◌&&◌, ◌==◌, not, if◌then◌else◌, List, Option, Some, None, is_some, option_and_then, option_map}
+use Rattle.lsp_replay.specs.Prelude.{ℕ, Bool, true, false, ◌&&◌, ◌==◌, not, if◌then◌else◌, List, Option, Some, None, is_some, option_and_then, option_map, bytes_eq, Data, Announced, ErrorCode, MethodNotFound, IdData, Reading, reading, announced_of, Phase, New, Running, Ended, IncomingData, incoming_of, did_change, initialize, AnswerData, reply, changed, refused, exits, Sent, as_sent, Config, ServerData, new_server, step_on, with_encoding, Outcome, one_more, Version, Two, Sender, Record}
 use Rattle.std.specs.Ordering.{int_eq}
-use Rattle.std.specs.Str.{bytes_eq}
-use Rattle.serde_json.specs.Data.{Data}
 use Rattle.lsp_text.specs.declared.encoding.Encoding.{Encoding}
-use Rattle.lsp_message.specs.declared.agreement.Announced.{Announced}
-use Rattle.lsp_message.specs.declared.outgoing.ErrorCode.{ErrorCode}
-use Rattle.lsp_message.specs.declared.outgoing.ErrorCode.TheVariants.{MethodNotFound}
-use Rattle.lsp_message.specs.Message.{IdData, Reading, reading}
 use Rattle.lsp_message.specs.Message as read
-use Rattle.lsp_message.specs.Agreement.{announced_of}
-use Rattle.lsp_server.specs.declared.phase.Phase.{Phase}
-use Rattle.lsp_server.specs.declared.phase.Phase.TheVariants.{New, Running, Ended}
-use Rattle.lsp_server.specs.Incoming.{IncomingData, incoming_of, did_change, initialize}
-use Rattle.lsp_server.specs.Answer.{AnswerData, reply, changed, refused, exits, Sent, as_sent}
-use Rattle.lsp_server.specs.declared.config.Config.{Config}
-use Rattle.lsp_server.specs.Step.{ServerData, new_server, step_on, with_encoding}
-use Rattle.lsp_replay.specs.declared.outcome.Outcome.{Outcome}
-use Rattle.lsp_stream.specs.Ports.{one_more}
-use Rattle.lsp_log.specs.declared.record.Version.{Version}
-use Rattle.lsp_log.specs.declared.record.Version.TheVariants.{Two}
-use Rattle.lsp_log.specs.declared.record.Sender.{Sender}
 use Rattle.lsp_log.specs.declared.record.Sender.TheVariants.{Client, Server}
-use Rattle.lsp_log.specs.Log.{Record}
 
 -- A server that is run on a log, and what is counted.
 pub record Session : Type 0 where

@@ -1,18 +1,6 @@
 -- `normalise` with squash: accepted changes of one document, with no other record between them, are
 -- written as one message.
-use Rattle.std.specs.Prelude.{ℕ, Bool, false, ◌++◌, if◌then◌else◌, is_none, map, flat_map, List, [], ◌∷◌, Option, Some, None, option_map, Result}
-use Rattle.std.specs.Str.{bytes_eq}
-use Rattle.lsp_message.specs.Message.{reading}
-use Rattle.lsp_message.specs.Params.{ChangeData, DocumentItem}
-use Rattle.lsp_store.specs.Squash.{SquashData, squash_of, squash_after, squash_frame, squash_refusal}
-use Rattle.lsp_store.specs.Table.{entry_at}
-use Rattle.lsp_server.specs.Incoming.{incoming_of}
-use Rattle.lsp_server.specs.Step.{session_encoding, content_change_from_data}
-use Rattle.lsp_server.specs.Answer.{changed}
-use Rattle.lsp_replay.specs.declared.commands.Settings.{Settings}
-use Rattle.lsp_replay.specs.declared.outcome.Outcome.{Outcome}
-use Rattle.lsp_stream.specs.declared.fault.EngineFault.{EngineFault}
-use Rattle.lsp_log.specs.Log.{Record}
+use Rattle.lsp_replay.specs.Prelude.{ℕ, Bool, false, ◌++◌, if◌then◌else◌, is_none, map, flat_map, List, [], ◌∷◌, Option, Some, None, option_map, Result, bytes_eq, reading, ChangeData, DocumentItem, SquashData, squash_of, squash_after, squash_frame, squash_refusal, entry_at, incoming_of, session_encoding, content_change_from_data, changed, Settings, Outcome, EngineFault, Record}
 use Rattle.lsp_replay.specs.RunOutput.{RunOutput}
 use Rattle.lsp_replay.specs.Commands.{RecordOutput, View, writes, ends, output_in, front_of, change_in, normalising, line_if, log_config, canonical_log}
 use Rattle.lsp_replay.specs.Session.{Session, Verdict, answered, Judged, opened, session_outcome}

@@ -1,20 +1,8 @@
 -- `trace`: a line of JSON for each record of a log, with what a server answers to it and why.
-use Rattle.std.specs.Prelude.{ℕ, Bool, true, false, ◌&&◌, ◌||◌, ◌==◌, ◌∷◌, ◌++◌, if◌then◌else◌, nat_lt, length, List, [], Option, Some, None, option_and_then, option_map, codes, decimal}
-use Rattle.std.specs.Fmt.{signed_decimal}
+use Rattle.lsp_replay.specs.Prelude.{ℕ, Bool, true, false, ◌&&◌, ◌||◌, ◌==◌, ◌∷◌, ◌++◌, if◌then◌else◌, nat_lt, length, List, [], Option, Some, None, option_and_then, option_map, codes, decimal, signed_decimal, LimitsData, IdData, whole, text, reading, DocumentItem, entry_at, IncomingData, not_json, not_a_message, response, initialize, shutdown, other_request, exit, did_open, did_change, did_close, other_notification, incoming_of, Head, Sender, Record, Settings, Details, Note}
 use Rattle.serde_json.specs.Data.{string}
 use Rattle.serde_json.specs.Written.{compact_text}
-use Rattle.lsp_frame.specs.Limits.{LimitsData}
-use Rattle.lsp_message.specs.Message.{IdData, whole, text, reading}
-use Rattle.lsp_message.specs.Params.{DocumentItem}
-use Rattle.lsp_store.specs.Table.{entry_at}
-use Rattle.lsp_server.specs.Incoming.{IncomingData, not_json, not_a_message, response, initialize, shutdown, other_request, exit, did_open, did_change, did_close, other_notification, incoming_of}
-use Rattle.lsp_log.specs.declared.record.Head.{Head}
-use Rattle.lsp_log.specs.declared.record.Sender.{Sender}
 use Rattle.lsp_log.specs.declared.record.Sender.TheVariants.{Client, Server}
-use Rattle.lsp_log.specs.Log.{Record}
-use Rattle.lsp_replay.specs.declared.commands.Settings.{Settings}
-use Rattle.lsp_replay.specs.declared.commands.traced.Details.{Details}
-use Rattle.lsp_replay.specs.declared.notes.Note.{Note}
 use Rattle.lsp_replay.specs.RunOutput.{RunOutput}
 use Rattle.lsp_replay.specs.Commands.{canonical_of_record, change_in, log_config, output_in, verdict_word}
 use Rattle.lsp_replay.specs.Lines.{Known, LineView, is_renamed, last_in, lines, nothing_known, uri_of}

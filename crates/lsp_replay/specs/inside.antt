@@ -7,7 +7,6 @@ pub mod Kept
 pub mod Facts
 pub mod Piped
 pub mod Taken
-pub mod Lines
 pub mod Mentions
 pub mod Noting
 pub mod Openings

@@ -3,15 +3,15 @@
 //!
 //! `noting` has what is suspicious of a message, `asked` what a body asks.
 
-ghost use Rattle.std.specs.Prelude.{◌≡◌, ◌≢◌, ◌⊎◌, IfErr, IfOk, OnOk, option_map};
+ghost use Rattle.std.specs.Prelude.{◌≡◌, ◌≢◌, ◌⊎◌, IfErr, IfOk, OnOk, option_map, true};
 ghost use Rattle.lsp_message.specs.Seen.{change_view};
 ghost use Rattle.lsp_replay.specs.Lines.{has_notes, is_new_name, is_not_open, is_open_already};
 ghost use Rattle.lsp_replay.specs.Lines.{is_renamed, is_stale_refusal, is_strict_refusal, known_after};
 ghost use Rattle.lsp_replay.specs.Lines.{last_in, nothing_known};
 ghost use Rattle.lsp_replay.specs.Mentions.{is_mention, last_for};
 ghost use Rattle.lsp_replay.specs.Session.{bad};
-ghost use Rattle.lsp_replay.specs.inside.Facts.{AreFacts, IsLearned, known_by};
-ghost use Rattle.lsp_replay.specs.inside.Reads.{IsReadOf};
+ghost use Rattle.lsp_replay.specs.inside.Facts.{AreFacts, IsLearned, known_by, noted_by};
+ghost use Rattle.lsp_replay.specs.inside.Reads.{IsNotedOf, IsReadOf};
 ghost use Rattle.lsp_replay.specs.inside.Session.{judge_at};
 ghost use Rattle.lsp_replay.specs.inside.Taken.{IsShown, accepted_of, ranged_with};
 ghost use Rattle.lsp_replay.specs.inside.Verdicts.{verdict_view};
@@ -40,6 +40,8 @@ use std::marker::Model;
 pub struct About {
     /// The URI of its document.
     pub uri: Option<String>,
+    /// The URI of the document whose text was saved, if it isn't about the documents.
+    pub saved: Option<String>,
     /// Whether it is a `didChange`.
     pub is_change: bool,
     /// What is suspicious of it, unless it is refused.
@@ -54,6 +56,8 @@ pub struct Facts {
     pub verdict: Verdict,
     /// The URI of the document that it is about.
     pub uri: Option<String>,
+    /// The URI of the document whose text was saved, if it isn't about the documents.
+    pub saved: Option<String>,
     /// The params of a change that a running server received: what a reason quotes.
     pub change: Option<ChangeParams>,
     /// Whether the document may be another one under a new name, if the documents refused it.
@@ -65,6 +69,18 @@ pub struct Facts {
     pub notes: Vec<Note>,
     /// The notes whose kinds are no habits.
     pub rare: Vec<Note>,
+}
+
+impl Facts {
+    /// Returns the document that notes are about: the record's, or that of the text that was saved.
+    pub fn noted(&self) -> Option<&str>
+        ensures { option_map (λ uri. uri.now) result ≡ noted_by self.now }
+    {
+        match &self.uri {
+            Some(uri) => Some(uri.as_str()),
+            None => self.saved.as_deref(),
+        }
+    }
 }
 
 /// What is known of the records before one.
@@ -136,6 +152,7 @@ impl Known {
         witness: &mut W,
     ) -> Result<Facts, EngineFault>
         requires is_read { IsReadOf item.now.head item.now.body.now read }
+        requires noted { IsNotedOf true item.now.body.now read }
         requires fits { W.Fits witness.old session.old.server }
         ensures facts { IfOk result
             (AreFacts self.old session.old item.now.head item.now.body.now) }
@@ -152,7 +169,7 @@ impl Known {
             ⊎ ((fault ≡ EngineFault.BadLog item.now.head.place)
             × ((judge_at session.old item.now.head item.now.body.now).verdict ≡ bad))) }
     {
-        let about = about_of(self.alloc, session.server(), self.ranged, item.body, &read)?;
+        let about = about_of(self.alloc, session.server(), self.ranged, &read)?;
         let taken = session.take(read, witness)?;
         in_log(&taken.verdict, item.head.place)?;
         Ok(self.learn(session.records(), about, taken)?)
@@ -165,6 +182,7 @@ impl Known {
     {
         let About {
             uri,
+            saved,
             is_change,
             notes,
         } = about;
@@ -189,6 +207,7 @@ impl Known {
             number,
             verdict,
             uri,
+            saved,
             change,
             renamed,
             last,

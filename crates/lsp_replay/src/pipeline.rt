@@ -82,7 +82,13 @@ impl<P: Printer> Handler for Pipeline<P> {
         (P.quiet p.printer) };
 
     fn handle(&mut self, item: &Record<'_>, buffer: &mut Vec<u8>) -> Printed {
-        let read = RecordBody::read(self.alloc, item.head, item.body, &mut self.scratch)?;
+        let read = RecordBody::read(
+            self.alloc,
+            item.head,
+            item.body,
+            &mut self.scratch,
+            P::NOTES,
+        )?;
         let Some(head) = self.admit(item.head, &read)? else {
             return Ok(Given::more(Output::Bytes));
         };

@@ -7,12 +7,12 @@
 //! `front` writes what comes before a record's frame, `reasons` why a record was refused, and
 //! `noted` what is suspicious of one that was accepted.
 
-ghost use Rattle.std.specs.Prelude.{◌≡◌, ◌<◌, ◌++◌, ◌∷◌, ◌⊎◌, [], ℕ, List, false, Err, IfOk, IfErr, MatchOption, OnOk};
+ghost use Rattle.std.specs.Prelude.{◌≡◌, ◌<◌, ◌++◌, ◌∷◌, ◌⊎◌, [], ℕ, Bool, List, false, Err, IfOk, IfErr, MatchOption, OnOk};
 ghost use Rattle.lsp_log.specs.Log as log;
 ghost use Rattle.lsp_log.specs.Splitting.{record_of};
 ghost use Rattle.lsp_replay.specs.RunOutput.{RunOutput, stopped};
 ghost use Rattle.lsp_replay.specs.Session as spec;
-ghost use Rattle.lsp_replay.specs.inside.Reads.{IsReadOf};
+ghost use Rattle.lsp_replay.specs.inside.Reads.{IsNotedOf, IsReadOf};
 ghost use Rattle.lsp_replay.specs.inside.RunOutput.{IsQuiet, after, output_of, IsRecordFault};
 ghost use Rattle.lsp_replay.specs.inside.Session.{judge_at};
 
@@ -45,7 +45,12 @@ pub trait Printer {
     ghost reached: { Self → spec.Session };
 
     // How often `finish` may still return without the outcome.
-    ghost parts: { Self → ℕ };
+    ghost parts: { Self → ℕ } = { λ _. 0 };
+
+    ghost NOTES: { Bool } = { false };
+
+    /// Whether bodies are read with what notes go by.
+    const NOTES: bool;
 
     /// Returns the session.
     fn session(&self) -> &Session
@@ -55,6 +60,7 @@ pub trait Printer {
     /// which is empty before.
     fn print(&mut self, item: &Record<'_>, read: RecordBody<'_>, buffer: &mut Vec<u8>) -> Printed
         requires is_read { IsReadOf item.now.head item.now.body.now read }
+        requires noted { IsNotedOf NOTES item.now.body.now read }
         requires empty { buffer.old.items ≡ [] }
         ensures ok { IfOk result (λ given. (more : List log.Record) →
             run_output self.old (record_of item.now ∷ more)

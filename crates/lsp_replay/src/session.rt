@@ -23,7 +23,7 @@ ghost use Rattle.lsp_server.specs.Seen.{incoming_view};
 ghost use Rattle.lsp_server.specs.Step.{step_on};
 ghost use Rattle.lsp_replay.specs.Session.{bad, opened, session_outcome};
 ghost use Rattle.lsp_replay.specs.inside.Bodies.{IsChangeTaken, IsReceived, body_view};
-ghost use Rattle.lsp_replay.specs.inside.Reads.{IsReadOf};
+ghost use Rattle.lsp_replay.specs.inside.Reads.{IsNotedOf, IsReadOf};
 ghost use Rattle.lsp_replay.specs.inside.Session.{judge_at};
 ghost use Rattle.lsp_replay.specs.inside.Taken.{IsChangeWitnessed, IsTakenAs};
 ghost use Rattle.lsp_replay.specs.inside.Verdicts.{verdict_view};
@@ -42,7 +42,7 @@ use crate::outcome::Outcome;
 use crate::session::counting::one_more;
 use crate::session::witness::{Nothing, Witness};
 use lsp_log::{Head, Sender, Version};
-use lsp_message::{ChangeParams, Id, Scratch};
+use lsp_message::{ChangeParams, Id, Noted, Scratch};
 use lsp_server::{Answer, Config, Incoming, Phase, PlannedChange, Server};
 use lsp_stream::EngineFault;
 use std::alloc::{AllocError, Global};
@@ -62,27 +62,38 @@ pub enum Verdict {
 /// The body of a record, read once.
 #[derive(Drop)]
 pub enum RecordBody<'a> {
-    /// What a client's record in a log of this version asks of the server.
-    Client(Version, Incoming),
+    /// What a client's record in a log of this version asks of the server, and what notes of it go
+    /// by, if that was read.
+    Client(Version, Incoming, Noted),
     /// The body of a server's record.
     Server(&'a [u8]),
 }
 
 impl<'a> RecordBody<'a> {
-    /// Reads the body of a record, with a scratch that is kept from body to body. A server's body
-    /// is read where it matters alone.
+    /// Reads the body of a record, with a scratch that is kept from body to body; or with what
+    /// notes go by. A server's body is read where it matters alone.
     pub fn read(
         alloc: Global,
         head: Head,
         body: &'a [u8],
         scratch: &mut Scratch,
+        notes: bool,
     ) -> Result<RecordBody<'a>, AllocError>
-        ensures { IfOk result (IsReadOf head body.now) }
+        ensures read { IfOk result (IsReadOf head body.now) }
+        ensures noted { IfOk result (IsNotedOf notes body.now) }
     {
         match head.side {
+            Sender::Client if notes => {
+                let (incoming, noted) = Incoming::read_noted(alloc, body)?;
+                Ok(RecordBody::Client(head.version, incoming, noted))
+            }
             Sender::Client => {
                 let incoming = Incoming::read_with(alloc, body, scratch)?;
-                Ok(RecordBody::Client(head.version, incoming))
+                let noted = Noted {
+                    lengths: Vec::new(alloc),
+                    params: None,
+                };
+                Ok(RecordBody::Client(head.version, incoming, noted))
             }
             Sender::Server => Ok(RecordBody::Server(body)),
         }
@@ -247,7 +258,10 @@ impl Session {
             return Err(read);
         }
         match read {
-            RecordBody::Client(_, Incoming::DidChange(Some(params))) => Ok(params),
+            RecordBody::Client(version, incoming, noted) => match incoming {
+                Incoming::DidChange(Some(params)) => Ok(params),
+                other => Err(RecordBody::Client(version, other, noted)),
+            },
             other => Err(other),
         }
     }

@@ -1,9 +1,6 @@
 -- What a server answers, and how it is sent (LSP 3.17, Base Protocol).
-use Rattle.std.specs.Prelude.{ℕ, List, Option, Some, None, ⊤}
+use Rattle.lsp_server.specs.Prelude.{ℕ, List, Option, Some, None, ⊤, ErrorCode, OutgoingData, error_reply, body_of, Refusal}
 use Rattle.lsp_frame.specs.Frame.{frame}
-use Rattle.lsp_message.specs.declared.outgoing.ErrorCode.{ErrorCode}
-use Rattle.lsp_message.specs.Outgoing.{OutgoingData, error_reply, body_of}
-use Rattle.lsp_server.specs.declared.answer.Refusal.{Refusal}
 use Rattle.lsp_server.specs.declared.answer.Refusal.TheVariants.{InvalidParams}
 
 -- What a server answers: a reply, or the outcome of a notification or of a response. The documents

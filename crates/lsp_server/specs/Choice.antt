@@ -1,16 +1,10 @@
 -- What a server announces in its result of `initialize` (LSP 3.17, Initialize Request:
 -- PositionEncodingKind, TextDocumentSyncKind).
-use Rattle.std.specs.Prelude.{if◌then◌else◌}
-use Rattle.lsp_text.specs.declared.encoding.Encoding.{Encoding}
-use Rattle.lsp_text.specs.declared.encoding.Encoding.TheVariants.{Utf16}
-use Rattle.lsp_message.specs.declared.agreement.Offers.{Offers}
+use Rattle.lsp_server.specs.Prelude.{if◌then◌else◌, Encoding, Utf16, Offers, is_offered, Config, Fixed, Negotiated}
 use Rattle.lsp_message.specs.declared.agreement.SyncKind.{SyncKind}
 use Rattle.lsp_message.specs.declared.agreement.SyncKind.TheVariants as kind
-use Rattle.lsp_message.specs.Agreement.{is_offered}
 use Rattle.lsp_frame.specs.Limits.{default_limits}
-use Rattle.lsp_server.specs.declared.config.Config.{Config}
 use Rattle.lsp_server.specs.declared.config.EncodingChoice.{EncodingChoice}
-use Rattle.lsp_server.specs.declared.config.EncodingChoice.TheVariants.{Fixed, Negotiated}
 use Rattle.lsp_server.specs.declared.config.ChangeForm.{ChangeForm}
 use Rattle.lsp_server.specs.declared.config.ChangeForm.TheVariants.{Incremental, Full}
 

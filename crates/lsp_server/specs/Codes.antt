@@ -1,8 +1,6 @@
 -- The codes of the server's faults and refusals, as docs/PROTOCOL.md lists them.
-use Rattle.std.specs.Prelude.{ℕ, List, codes}
-use Rattle.lsp_store.specs.Faults.{fault_code}
-use Rattle.lsp_server.specs.declared.answer.Refusal.{Refusal}
-use Rattle.lsp_server.specs.declared.answer.Refusal.TheVariants.{InvalidParams, Store}
+use Rattle.lsp_server.specs.Prelude.{ℕ, List, codes, fault_code, Refusal, Store}
+use Rattle.lsp_server.specs.declared.answer.Refusal.TheVariants.{InvalidParams}
 use Rattle.lsp_server.specs.declared.answer.ServerFault.{ServerFault}
 use Rattle.lsp_server.specs.declared.answer.ServerFault.TheVariants.{AlreadyEnded, NoMemory}
 

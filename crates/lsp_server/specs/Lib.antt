@@ -1,3 +1,4 @@
+pub mod Prelude
 pub use Rattle.lsp_message.specs.Incoming
 pub mod Codes
 pub mod Choice

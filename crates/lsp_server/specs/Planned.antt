@@ -1,13 +1,8 @@
 -- A change in two halves: what becomes of it before anything changes, and the server after a plan.
-use Rattle.std.specs.Prelude.{◌≡◌, ◌≢◌, map, Some}
-use Rattle.lsp_message.specs.Params.{ChangeData}
-use Rattle.lsp_message.specs.Incoming.{did_change}
+use Rattle.lsp_server.specs.Prelude.{◌≡◌, ◌≢◌, map, Some, ChangeData, did_change, Answer, Changed, Running}
 use Rattle.lsp_store.specs.declared.store.plan.Plan.{Plan}
 use Rattle.lsp_store.specs.Opened.{StoreData}
 use Rattle.lsp_store.specs.Plan.{IsPlanOf, IsPlanOn, after_plan}
-use Rattle.lsp_server.specs.declared.answer.Answer.{Answer}
-use Rattle.lsp_server.specs.declared.answer.Answer.TheVariants.{Changed}
-use Rattle.lsp_server.specs.declared.phase.Phase.TheVariants.{Running}
 use Rattle.lsp_server.specs.declared.planned.PlannedChange.{PlannedChange}
 use Rattle.lsp_server.specs.declared.planned.PlannedChange.TheVariants.{Accepted, Answered}
 use Rattle.lsp_server.specs.Answer.{as_sent}

@@ -1,8 +1,6 @@
 -- The types of `src/` as the definitions see them.
-use Rattle.std.specs.Prelude.{IsSome, ⊤}
+use Rattle.lsp_server.specs.Prelude.{IsSome, ⊤, Answer, Reply, Changed, Dropped, Ignored, Refused}
 pub use Rattle.lsp_message.specs.Seen.{incoming_view}
-use Rattle.lsp_server.specs.declared.answer.Answer.{Answer}
-use Rattle.lsp_server.specs.declared.answer.Answer.TheVariants.{Reply, Changed, Dropped, Ignored, Refused}
 use Rattle.lsp_server.specs.declared.answer.Answer.TheVariants as answer
 use Rattle.lsp_server.specs.Answer.{AnswerData, reply, changed, dropped, ignored, refused, exits, Sent}
 

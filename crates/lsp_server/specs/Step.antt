@@ -1,26 +1,15 @@
 -- One step of a session: what a server answers to a body, and its state afterwards (LSP 3.17, Base
 -- Protocol, Lifecycle Messages, Text Document Synchronization).
-use Rattle.std.specs.Prelude.{List, [], map, option_map, unwrap_or, Option, Some, None, Result, Ok, Err}
+use Rattle.lsp_server.specs.Prelude.{List, [], map, option_map, unwrap_or, Option, Some, None, Result, Ok, Err, Encoding, Utf16, Offers, ErrorCode, IdData, Reading, OutgoingData, initialize_result, shutdown_result, error_reply, DocumentItem, ContentChangeData, ChangeData, CloseData, refusal_fault, Store, Config, Phase, New, Running, Down, Ended, IncomingData, not_json, not_a_message, initialize, shutdown, other_request, exit, did_open, did_change, did_close, other_notification, incoming_of}
 use Rattle.std.specs.Str.{chars}
-use Rattle.lsp_text.specs.declared.encoding.Encoding.{Encoding}
-use Rattle.lsp_text.specs.declared.encoding.Encoding.TheVariants.{Utf16}
 use Rattle.lsp_edit.specs.Batch.{ContentChange}
-use Rattle.lsp_message.specs.declared.agreement.Offers.{Offers}
-use Rattle.lsp_message.specs.declared.outgoing.ErrorCode.{ErrorCode}
 use Rattle.lsp_message.specs.declared.outgoing.ErrorCode.TheVariants.{ParseError, InvalidRequest, MethodNotFound, InvalidParams, ServerNotInitialized}
-use Rattle.lsp_message.specs.Message.{IdData, Reading}
-use Rattle.lsp_message.specs.Outgoing.{OutgoingData, initialize_result, shutdown_result, error_reply}
-use Rattle.lsp_message.specs.Params.{DocumentItem, ContentChangeData, ChangeData, CloseData}
-use Rattle.lsp_store.specs.Faults.{refusal_fault}
 use Rattle.lsp_store.specs.Table as table
 use Rattle.lsp_store.specs.Table.{Command, opens, changes, closes, after_command}
-use Rattle.lsp_server.specs.declared.answer.Refusal.TheVariants.{InvalidParams as params_invalid, Store}
-use Rattle.lsp_server.specs.declared.config.Config.{Config}
-use Rattle.lsp_server.specs.declared.phase.Phase.{Phase}
-use Rattle.lsp_server.specs.declared.phase.Phase.TheVariants.{New, Running, Down, Ended}
+use Rattle.lsp_server.specs.declared.answer.Refusal.TheVariants.{InvalidParams as params_invalid}
 use Rattle.lsp_server.specs.Answer.{AnswerData, reply, changed, dropped, ignored, already_ended, refused, exits}
 use Rattle.lsp_server.specs.Choice.{encoding_chosen, announced_kind}
-use Rattle.lsp_message.specs.Incoming.{IncomingData, not_json, not_a_message, response, initialize, shutdown, other_request, exit, did_open, did_change, did_close, other_notification, incoming_of}
+use Rattle.lsp_message.specs.Incoming.{response}
 
 -- A server: its configuration, its phase, the chosen encoding, if there is one, and the open
 -- documents.

@@ -39,12 +39,6 @@ whole_waiting m n =
     (ends_line (decimal m) (codes " " ++ (decimal n ++ codes "\n"))
     (ends_line (codes " ") (decimal n ++ codes "\n") (ends_line (decimal n) (codes "\n") ([], refl)))))
 
--- The line of a fault is printed in pieces.
-pub fault_pieces : (start text number end whole : List ℕ) → whole ≡ text ++ number
-    → start ++ (text ++ (number ++ end)) ≡ start ++ (whole ++ end)
-fault_pieces start text number end whole is =
-    ap (λ z. start ++ z) (sym (append_assoc text number end) ∙ ap (λ z. z ++ end) (sym is))
-
 -- ---- some first lines
 
 pub no_lines : (old : Option (List ℕ)) (lines : List ℕ) → AppendsLines old old lines

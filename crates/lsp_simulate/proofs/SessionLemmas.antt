@@ -3,7 +3,7 @@
 use Rattle.lsp_simulate.proofs.Prelude.{◌≡◌, ◌≤◌, ◌⊎◌, ◌↔◌, inl, inr, ℕ, ◌+◌, true, false, List, [], ◌∷◌, ◌++◌, length, codes, Option, Result, Ok, Err, refl, sym, ap, ◌∙◌, subst, arith, append_assoc, Appends-nil, Appends-trans, IfSome, length-append, Appends, IsAtEnd, EngineFault, ReaderState, Rose, WriterState, ports, AppendsFront, Spends, WritesWithin, IsStopped, allowed_turns, front_after, front_before, spends_more, stopped_after, DocumentItem, PairData, IsFitting, are_within, can_choose_utf16, new_pair, Setting, RunFault, Read, Write, NoMemory, BadEvent, run_fault, AppendsLines, AreSteps, AreWholeLines, IsSettingRefused, PairStep, RanSteps, ReadLines, WroteSession, WroteSteps, document_lines, end_document, end_lines, line_count, next_line_number, pair_setting, step_line, step_lines, waiting_line, Passed, AreUnderWay, IsStepLine, IsUnderWay, WroteLines, last_number, read_fault}
 use Rattle.lsp_pair.specs.declared.setting.PairFault.{PairFault}
 use Rattle.lsp_pair.specs.declared.setting.PairFault.TheVariants.{NotUtf16, LimitsTooSmall}
-use Rattle.lsp_simulate.proofs.InputLemmas.{all_passed, at_least, fewer, passed_more}
+use Rattle.lsp_simulate.proofs.InputLemmas.{all_passed, at_least, fewer, none_spent, passed_more}
 use Rattle.lsp_simulate.proofs.LineLemmas.{lines-append, whole_steps, whole_document, whole_documents, whole_waiting, lines_after, wrote_after, wrote_before, write_fault, steps_more, last_more, lines_more, next_last}
 use Rattle.lsp_stream.specs.declared.fault.EngineFault.TheVariants as engine
 
@@ -17,12 +17,7 @@ begun setting input later before left pair fits is all none = record {
   last = refl;
   taken = none;
   written = Appends-nil before.written;
-  spent = record {
-    within = omega (arith, all);
-    least = omega arith;
-    most = omega (arith, all);
-    exact = λ _. omega (arith, all);
-  };
+  spent = none_spent before.calls allowed_turns left all;
 }
 
 abbrev made : (pair after : PairData) (number : ℕ) (line : List ℕ) → IsStepLine pair after number line → PairStep

@@ -1,3 +1,4 @@
+pub mod Prelude
 pub mod CommandLine
 pub mod Run
 pub mod Session

@@ -1,19 +1,9 @@
 -- What the program does with its words, and the status that it ends with.
-use Rattle.std.specs.Prelude.{ℕ, ◌≡◌, ◌⊎◌, ◌++◌, List, Option, Some, None, codes, decimal, Result, Ok, Err}
-use Rattle.std.specs.Io.KnownBytes.{Keeps}
-use Rattle.clap.specs.Values.{kind_of}
-use Rattle.clap.specs.declared.error.Error.{Error}
+use Rattle.lsp_simulate.specs.Prelude.{ℕ, ◌≡◌, ◌⊎◌, ◌++◌, List, Option, Some, None, codes, decimal, Result, Ok, Err, Keeps, kind_of, Error, EngineFault, WriterState, ports, IsFlushed, IsPrinted, IsTextPrinted, Streams, PairFault, NotUtf16, LimitsTooSmall, Setting, RunFault, Pair, Read, BadEvent}
 use Rattle.clap.specs.declared.error.kind.ErrorKind.{ErrorKind}
 use Rattle.clap.specs.declared.error.kind.ErrorKind.TheVariants as kind
-use Rattle.lsp_stream.specs.declared.fault.EngineFault.{EngineFault}
 use Rattle.lsp_stream.specs.declared.fault.EngineFault.TheVariants as engine
-use Rattle.lsp_stream.specs.Ports.{WriterState, ports}
-use Rattle.lsp_program.specs.Output.{IsFlushed, IsPrinted, IsTextPrinted, Streams}
-use Rattle.lsp_pair.specs.declared.setting.PairFault.{PairFault}
-use Rattle.lsp_pair.specs.declared.setting.PairFault.TheVariants.{NotUtf16, LimitsTooSmall}
-use Rattle.lsp_simulate.specs.declared.command_line.Setting.{Setting}
-use Rattle.lsp_simulate.specs.declared.run.RunFault.{RunFault}
-use Rattle.lsp_simulate.specs.declared.run.RunFault.TheVariants.{Pair, Read, Write, NoMemory, BadEvent}
+use Rattle.lsp_simulate.specs.declared.run.RunFault.TheVariants.{Write, NoMemory}
 use Rattle.lsp_simulate.specs.Session.{WroteSession}
 use Rattle.lsp_simulate.specs.Setting.{AreWordsReadAs}
 

@@ -1,20 +1,7 @@
 -- What a session writes: a line for each step of a pair, and then how the pair ends.
-use Rattle.std.specs.Prelude.{ℕ, ◌≡◌, ◌⊎◌, ◌+◌, ◌-◌, ◌<◌, ◌≤◌, ◌==◌, ◌^◌, ◌++◌, ◌∷◌, [], Bool, true, false, if◌then◌else◌, List, length, min, codes, decimal, Option, IfSome, Result, Ok, Err}
-use Rattle.std.specs.Io.KnownBytes.{Appends}
-use Rattle.lsp_stream.specs.declared.fault.EngineFault.{EngineFault}
-use Rattle.lsp_stream.specs.Ports.{Ports, ReaderState, Rose, WriterState}
-use Rattle.lsp_stream.specs.Turns.{AppendsFront, Spends}
-use Rattle.lsp_program.specs.Output.{IsStopped, allowed_turns}
-use Rattle.lsp_message.specs.Outgoing.{document_text}
-use Rattle.lsp_message.specs.Params.{DocumentItem}
-use Rattle.lsp_pair.specs.declared.event.Happened.{Happened}
-use Rattle.lsp_pair.specs.declared.setting.PairFault.{PairFault}
-use Rattle.lsp_pair.specs.declared.setting.PairFault.TheVariants.{NotUtf16, LimitsTooSmall}
-use Rattle.lsp_pair.specs.Events.{Setting as PairSetting, EventData}
-use Rattle.lsp_pair.specs.Pair.{PairData, IsFitting, IsStep, are_within, can_choose_utf16, new_pair}
-use Rattle.lsp_simulate.specs.declared.command_line.Setting.{Setting}
-use Rattle.lsp_simulate.specs.declared.run.RunFault.{RunFault}
-use Rattle.lsp_simulate.specs.declared.run.RunFault.TheVariants.{Pair, Read, Write, NoMemory, BadEvent}
+use Rattle.lsp_simulate.specs.Prelude.{ℕ, ◌≡◌, ◌⊎◌, ◌+◌, ◌-◌, ◌<◌, ◌≤◌, ◌==◌, ◌^◌, ◌++◌, ◌∷◌, [], Bool, true, false, if◌then◌else◌, List, length, min, codes, decimal, Option, IfSome, Result, Ok, Err, Appends, EngineFault, Ports, ReaderState, Rose, WriterState, AppendsFront, Spends, IsStopped, allowed_turns, document_text, DocumentItem, Happened, PairFault, NotUtf16, LimitsTooSmall, EventData, PairData, IsFitting, IsStep, are_within, can_choose_utf16, new_pair, Setting, RunFault, Pair, Read, BadEvent}
+use Rattle.lsp_pair.specs.Events.{Setting as PairSetting}
+use Rattle.lsp_simulate.specs.declared.run.RunFault.TheVariants.{Write, NoMemory}
 use Rattle.lsp_simulate.specs.Words.{happened_words}
 
 -- A step: an event, and what happened.

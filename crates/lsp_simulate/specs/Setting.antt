@@ -1,13 +1,11 @@
 -- The setting of a session, by what `clap` finds in the words.
-use Rattle.std.specs.Prelude.{ℕ, ◌≡◌, ◌⊎◌, [], Result, Ok, Err, List, Option, Some, None, codes, option_map, option_and_then, if◌then◌else◌}
+use Rattle.lsp_simulate.specs.Prelude.{ℕ, ◌≡◌, ◌⊎◌, [], Result, Ok, Err, List, Option, Some, None, codes, option_map, option_and_then, if◌then◌else◌, matches_of, kind_of, Error, Setting}
 use Rattle.std.specs.Str.{bytes_eq}
 use Rattle.clap.specs.Matches.{found_of, first_value}
-use Rattle.clap.specs.Simple.{App, matches_of}
+use Rattle.clap.specs.Simple.{App}
 use Rattle.clap.specs.Faults.{fault_of}
 use Rattle.clap.specs.Kinds.{IsAmong}
-use Rattle.clap.specs.Values.{kind_of}
 use Rattle.clap.specs.Walk.{rows_of}
-use Rattle.clap.specs.declared.error.Error.{Error}
 use Rattle.clap.specs.declared.error.kind.ErrorKind.TheVariants.{OutOfMemory}
 use Rattle.clap.specs.declared.parser.matches.ArgMatches.{ArgMatches}
 use Rattle.lsp_frame.specs.Limits.{LimitsData, first_out_of_range}
@@ -19,7 +17,6 @@ use Rattle.lsp_server.specs.declared.config.ChangeForm.{ChangeForm}
 use Rattle.lsp_server.specs.declared.config.ChangeForm.TheVariants.{Incremental, Full}
 use Rattle.lsp_program.specs.Found.{AreLimits, HasNumber, IsFlag}
 use Rattle.lsp_simulate.specs.CommandLine.{IsProgram}
-use Rattle.lsp_simulate.specs.declared.command_line.Setting.{Setting}
 
 -- The number of the first option, or where that has none, of the second.
 abbrev pub HasEither : ArgMatches → List ℕ → List ℕ → ℕ → Type 0

@@ -1,7 +1,6 @@
 -- The words for what happened at a step, as docs/LSPSYNC.md lists them.
-use Rattle.std.specs.Prelude.{ℕ, ◌++◌, List, Option, Some, None, codes, decimal}
+use Rattle.lsp_simulate.specs.Prelude.{ℕ, ◌++◌, List, Option, Some, None, codes, decimal, code_of, Happened}
 use Rattle.std.specs.Fmt.{signed_decimal}
-use Rattle.lsp_message.specs.Outgoing.{code_of}
 use Rattle.lsp_store.specs.Faults.{fault_code}
 use Rattle.lsp_message.specs.declared.outgoing.ErrorCode.{ErrorCode}
 use Rattle.lsp_server.specs.declared.answer.Refusal.{Refusal}
@@ -16,7 +15,6 @@ use Rattle.lsp_pair.specs.declared.event.Did.{Did}
 use Rattle.lsp_pair.specs.declared.event.Did.TheVariants as did
 use Rattle.lsp_pair.specs.declared.event.Heard.{Heard}
 use Rattle.lsp_pair.specs.declared.event.Heard.TheVariants as heard
-use Rattle.lsp_pair.specs.declared.event.Happened.{Happened}
 use Rattle.lsp_pair.specs.declared.event.Happened.TheVariants as happened
 
 -- The word of a client's phase.

@@ -6,7 +6,7 @@ ghost use Rattle.clap.specs.declared.error.kind.ErrorKind.TheVariants.{OutOfMemo
 ghost use Rattle.clap.specs.declared.error.kind.ErrorKind.TheVariants.{DisplayHelp, DisplayVersion};
 ghost use Rattle.lsp_program.specs.Output.{IsTextPrinted, digits_of, streams};
 ghost use Rattle.lsp_simulate.specs.Run.{EndsWith, IsOutputEnd, IsReported, IsSession, IsSessionEnd};
-ghost use Rattle.lsp_simulate.specs.Run.{IsSimulation, IsSimulationOf, pair_text, run_fault};
+ghost use Rattle.lsp_simulate.specs.Run.{IsSimulation, pair_text, run_fault};
 ghost use Rattle.lsp_simulate.specs.Run.{run_fault_status, run_fault_text};
 ghost use Rattle.lsp_simulate.specs.declared.run.RunFault.TheVariants.{NoMemory, Pair};
 
@@ -66,7 +66,8 @@ impl From<EngineFault> for RunFault {
 }
 
 /// Runs the program, and returns its exit status. `words` is its command line, the program's name
-/// first. A fault's line is written to `errors`.
+/// first. Words that ask for no session are explained, and nothing is read. A fault's line is
+/// written to `errors`.
 pub fn run<R: Source, W: Sink, E: Sink>(
     alloc: Global,
     words: &[&str],
@@ -78,24 +79,7 @@ pub fn run<R: Source, W: Sink, E: Sink>(
         (streams (R.seen input.old) (W.seen output.old) (E.seen errors.old))
         (streams (R.seen input.new) (W.seen output.new) (E.seen errors.new)) result }
 {
-    let read = parse(alloc, words);
-    perform(alloc, read, input, output, errors)
-}
-
-/// Runs the session that the words ask for. Words that ask for none are explained, and nothing is
-/// read.
-fn perform<R: Source, W: Sink, E: Sink>(
-    alloc: Global,
-    read: Result<Option<Setting>, clap::Error>,
-    input: &mut R,
-    output: &mut W,
-    errors: &mut E,
-) -> u8
-    ensures { IsSimulationOf read
-        (streams (R.seen input.old) (W.seen output.old) (E.seen errors.old))
-        (streams (R.seen input.new) (W.seen output.new) (E.seen errors.new)) result }
-{
-    match read {
+    match parse(alloc, words) {
         Ok(Some(setting)) => run_session(alloc, setting, input, output, errors),
         Ok(None) => USAGE,
         Err(error) => print_error(alloc, &error, output, errors),

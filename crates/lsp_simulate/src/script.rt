@@ -3,48 +3,21 @@
 use lsp_message::{ParamsFault, params_change, params_close, params_open};
 use lsp_pair::Event;
 use serde_json::Value;
-use std::alloc::{AllocError, Global};
-use thiserror::Error;
-
-/// Why a line has no event.
-#[derive(Clone, Copy, Debug, PartialEq, Eq, Error)]
-pub enum ScriptFault {
-    /// It is no JSON, or no event.
-    #[error("no event")]
-    BadEvent,
-    /// Memory ran out.
-    #[error("out of memory")]
-    NoMemory,
-}
-
-impl From<AllocError> for ScriptFault {
-    fn from(_: AllocError) -> ScriptFault {
-        ScriptFault::NoMemory
-    }
-}
-
-impl From<ParamsFault> for ScriptFault {
-    fn from(fault: ParamsFault) -> ScriptFault {
-        match fault {
-            ParamsFault::InvalidParams => ScriptFault::BadEvent,
-            ParamsFault::NoMemory => ScriptFault::NoMemory,
-        }
-    }
-}
+use std::alloc::Global;
 
 /// Reads the event of a line: an object whose member `event` names it. For `open`, `edit` and
 /// `close` it has the members of the protocol's didOpen, didChange and didClose beside that. Other
 /// members are ignored.
 ///
 /// # Errors
-/// [`ScriptFault::BadEvent`] if the line is no JSON or no event, [`ScriptFault::NoMemory`].
-pub fn event_of(alloc: Global, line: &[u8]) -> Result<Event, ScriptFault> {
+/// [`ParamsFault::InvalidParams`] if the line is no JSON or no event, [`ParamsFault::NoMemory`].
+pub fn event_of(alloc: Global, line: &[u8]) -> Result<Event, ParamsFault> {
     let value = match Value::from_slice(alloc, line) {
         Ok(value) => value,
-        Err(error) if error.is_memory() => return Err(ScriptFault::NoMemory),
-        Err(_) => return Err(ScriptFault::BadEvent),
+        Err(error) if error.is_memory() => return Err(ParamsFault::NoMemory),
+        Err(_) => return Err(ParamsFault::InvalidParams),
     };
-    let kind = kind_of(&value).ok_or(ScriptFault::BadEvent)?;
+    let kind = kind_of(&value).ok_or(ParamsFault::InvalidParams)?;
     event_in(alloc, kind, value)
 }
 
@@ -75,7 +48,7 @@ fn kind_of(value: &Value) -> Option<Kind> {
     }
 }
 
-fn event_in(alloc: Global, kind: Kind, value: Value) -> Result<Event, ScriptFault> {
+fn event_in(alloc: Global, kind: Kind, value: Value) -> Result<Event, ParamsFault> {
     match kind {
         Kind::Start => Ok(Event::Start),
         Kind::Open => {

@@ -10,9 +10,9 @@ ghost use Rattle.lsp_simulate.specs.inside.Session.{IsStepLine, WroteLines, read
 use crate::command_line::Setting;
 use crate::lines::InputLines;
 use crate::run::RunFault;
-use crate::script::{ScriptFault, event_of};
+use crate::script::event_of;
 use crate::word::write_happened;
-use lsp_message::push_document;
+use lsp_message::{ParamsFault, push_document};
 use lsp_pair::{Happened, Pair};
 use lsp_program::MAX_TURNS;
 use lsp_store::{Document, Store};
@@ -60,8 +60,8 @@ fn step(alloc: Global, pair: &mut Pair, number: u64, line: &[u8]) -> Result<Vec<
 {
     let event = match event_of(alloc, line) {
         Ok(event) => event,
-        Err(ScriptFault::BadEvent) => return Err(RunFault::BadEvent { line: number }),
-        Err(ScriptFault::NoMemory) => return Err(RunFault::NoMemory),
+        Err(ParamsFault::InvalidParams) => return Err(RunFault::BadEvent { line: number }),
+        Err(ParamsFault::NoMemory) => return Err(RunFault::NoMemory),
     };
     let happened = pair.step(&event)?;
     match step_line(alloc, number, happened) {

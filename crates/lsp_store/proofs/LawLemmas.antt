@@ -1,6 +1,7 @@
 -- What is true of the table of documents.
 -- ---- what an accepted command says of the table
-use Rattle.lsp_store.proofs.Prelude.{ℕ, ℤ, ◌≡◌, true, false, List, [], ◌∷◌, ◌++◌, length, map, IsUtf8, bytes_eq, encode_utf8_all, Some, None, Ok, refl, ap, ◌∙◌, arith, ⊎_elim, chars, cases_Bool, sum_by-cons, bytes_eq-Decides, encodes-chars, LimitsData, AreInRange, units_in, New, text_of, ContentChange, meaning, bytes_left, DocumentItem, Command, opens, changes, closes, batch_bytes, entry_at, entry_refusal, change_refusal, changed, after_change, after_close, table_after, table_from, AreTexts, whole_text, whole_batch, WholeTextLaw, UniqueLaw, TableLaw, LastLaw, IsWithin, AreUnique, AreAccepted, IsInOrder, AreWithin, common_steps}
+use Rattle.lsp_store.proofs.Prelude.{ℕ, ℤ, ◌≡◌, true, false, List, [], ◌∷◌, ◌++◌, length, map, IsUtf8, bytes_eq, encode_utf8_all, Some, None, Ok, refl, ap, ◌∙◌, arith, ⊎_elim, chars, cases_Bool, sum_by-cons, bytes_eq-Decides, encodes-chars, LimitsData, AreInRange, units_in, New, ContentChange, meaning, bytes_left, DocumentItem, Command, opens, changes, closes, batch_bytes, entry_at, entry_refusal, change_refusal, changed, after_change, after_close, table_after, table_from, AreTexts, whole_text, whole_batch, WholeTextLaw, UniqueLaw, TableLaw, LastLaw, IsWithin, AreUnique, AreAccepted, IsInOrder, AreWithin, common_steps}
+use Rattle.lsp_edit.proofs.Parts.CutLemmas.{text_of-new}
 use Rattle.lsp_store.proofs.Tables.LenientLemmas.{still_new}
 use Rattle.lsp_store.proofs.Messages.MessageLemmas.{Accepts, accepted_parts, accepted_from, leaves_same}
 use Rattle.lsp_store.proofs.GreaterLemmas.{change_parts, change_from}
@@ -23,11 +24,6 @@ found_changed units (first ∷ table) uri version batch entry found =
     ) (found_changed units table uri version batch entry (rw not at found)))
     (cases_Bool (bytes_eq uri first.uri))
 
--- new characters read off are those that were put in
-read_off : (old characters : List ℕ) → text_of old (map New characters) ≡ characters
-read_off old [] = refl
-read_off old (c ∷ characters) = ap (λ (rest : List ℕ). c ∷ rest) (read_off old characters)
-
 abbrev pub one_text : List ℕ → List ContentChange
 one_text bytes = record { range = None; text = chars bytes } ∷ []
 
@@ -35,7 +31,7 @@ one_means : (units : ℕ → ℕ) (old bytes : List ℕ) → meaning units old (
 one_means units old bytes = refl
 
 one_bytes : (old bytes : List ℕ) → IsUtf8 bytes → bytes_left old (map New (chars bytes)) ≡ bytes
-one_bytes old bytes utf8 = ap encode_utf8_all (read_off (chars old) (chars bytes)) ∙ encodes-chars bytes utf8
+one_bytes old bytes utf8 = ap encode_utf8_all (text_of-new (chars old) (chars bytes)) ∙ encodes-chars bytes utf8
 
 one_weighs : (bytes : List ℕ) → IsUtf8 bytes → batch_bytes (one_text bytes) ≡ length bytes
 one_weighs bytes utf8 = grind (arith, common_steps, sum_by-cons, encode_utf8_all, encodes-chars)

@@ -1,9 +1,9 @@
 -- Batches of changes on one document, as one: what the fields that are kept are.
-use Rattle.lsp_store.proofs.Prelude.{ℕ, ℤ, ◌≡◌, ◌≤◌, false, nat_lt, if◌then◌else◌, List, [], length, sum_by, IsUtf8, encode_utf8_all, Option, None, Some, Ok, refl, sym, ap, ap₂, ◌∙◌, subst, arith, le-ltb, sum_by-le-sum_by, encodes-chars, len_utf8, chars, LimitsData, units_in, Encoding, Item, text_of, text_within, bytes_left, ContentChange, meaning, canonical, IsCanonical, bytes_after, meant_by, canonical_law, units_some, StoreFault, Stored, IsRefusal, body_refusal, change_body, Plan, StoreData, entry_under, IsPlanOf, IsPlanOn, HasReached, IsSquashAfter, SquashData, add_refusal, reached_entry, squash_after, squash_batch, squash_refusal, squash_under, DocumentItem, IsLeftToMeaning, Refusal, batch_bytes, changed, greatest_batch, entry_refusal, is_stale, meant_text, too_many_changes, common_steps}
+use Rattle.lsp_store.proofs.Prelude.{ℕ, ℤ, ◌≡◌, ◌<◌, ◌≤◌, Bool, false, inr, lt-ltb, ltb-false, TooManyChanges, nat_lt, if◌then◌else◌, List, [], length, IsUtf8, encode_utf8_all, Option, None, Some, Ok, refl, sym, ap, ap₂, ◌∙◌, subst, arith, le-ltb, encodes-chars, chars, LimitsData, units_in, Encoding, Item, text_of, text_within, bytes_left, ContentChange, meaning, canonical, bytes_after, meant_by, canonical_law, units_some, StoreFault, Stored, IsRefusal, body_refusal, change_body, Plan, StoreData, entry_under, IsPlanOf, IsPlanOn, HasReached, IsSquashAfter, SquashData, add_refusal, reached_entry, squash_after, squash_batch, squash_refusal, squash_under, DocumentItem, IsLeftToMeaning, Refusal, changed, entry_refusal, is_stale, meant_text, too_many_changes, common_steps}
 use Rattle.lsp_edit.specs.Compose.{then_items}
 use Rattle.lsp_edit.specs.Joined.{IsJoined, IsReached, JoinedData, joined_text}
 use Rattle.lsp_edit.proofs.Batches.ComposeLemmas.{then_means}
-use Rattle.lsp_store.proofs.Messages.ProperLemmas.{bytes_sum}
+use Rattle.lsp_store.proofs.Messages.MessageLemmas.{canonical_accepted}
 use Rattle.lsp_store.proofs.Tables.PlanLemmas.{on_utf8}
 use Rattle.lsp_store.proofs.Tables.RefusalLemmas.{meaning_accepted}
 
@@ -18,9 +18,6 @@ seen uri limits encoding joined version = record {
   version = version;
 }
 
-weights : (edits : List ContentChange) → batch_bytes edits ≤ sum_by (λ change. sum_by len_utf8 change.text) edits
-weights edits = grind (arith, common_steps, sum_by-le-sum_by, encode_utf8_all, sum_by, bytes_sum)
-
 -- ---- the message
 
 module _ (uri : List ℕ) (limits : LimitsData) (encoding : Encoding) (joined : JoinedData) (version : ℤ)
@@ -29,42 +26,35 @@ module _ (uri : List ℕ) (limits : LimitsData) (encoding : Encoding) (joined : 
   pub batch_is : made ≡ squash_batch kept
   batch_is = is ∙ ap squash_batch view
 
-  pub written_refusal : (if nat_lt limits.max_changes (length made) then Some too_many_changes else body_refusal limits
+  written_refusal : (if nat_lt limits.max_changes (length made) then Some too_many_changes else body_refusal limits
       (change_body uri version made)) ≡ squash_refusal kept
   written_refusal = grind (arith, common_steps, nat_lt, batch_is)
 
+  pub many_refused : limits.max_changes < length made → IsRefusal (squash_refusal kept) TooManyChanges
+  many_refused many = subst (λ (r : Option Refusal). IsRefusal r TooManyChanges) written_refusal
+      (inr (rw (lt-ltb limits.max_changes (length made) many) refl))
+
+  pub few_refusal : length made ≤ limits.max_changes → body_refusal limits (change_body uri version made)
+      ≡ squash_refusal kept
+  few_refusal few =
+      subst (λ (many : Bool). (if many then Some too_many_changes else body_refusal limits
+      (change_body uri version made)) ≡ squash_refusal kept) (le-ltb limits.max_changes (length made) few)
+      written_refusal
+
 -- ---- the message of all batches is accepted on the document as it was, and leaves the one that was reached
 
-module _ (limits : LimitsData) (encoding : Encoding) (entry : DocumentItem) (version : ℤ) (batch : List ContentChange)
-    (items : List Item)
-    (means : meaning (units_in encoding) (chars entry.text) batch ≡ Ok items)
-    (newer : is_stale limits version entry.version ≡ false)
-    (short : length (bytes_left entry.text items) ≤ limits.max_text) (within : limits.max_text ≤ 1073741824)
-    (few : nat_lt limits.max_changes (length (canonical (units_in encoding) (chars entry.text) items)) ≡ false) where
-  all_law : IsCanonical (units_in encoding) (chars entry.text) batch items
-  all_law = canonical_law (units_in encoding) (units_some encoding) (chars entry.text) batch items means
-
-  all_fit : nat_lt greatest_batch (batch_bytes (canonical (units_in encoding) (chars entry.text) items)) ≡ false
-  all_fit =
-      le-ltb greatest_batch (batch_bytes (canonical (units_in encoding) (chars entry.text) items))
-      (omega (
-        arith,
-        weights (canonical (units_in encoding) (chars entry.text) items),
-        all_law.short len_utf8,
-        bytes_sum (text_of (chars entry.text) items),
-        short,
-        within,
-      ))
-
-  pub squash_accepted : entry_refusal limits (units_in encoding) entry version
-      (canonical (units_in encoding) (chars entry.text) items) ≡ None
-  squash_accepted = rw (
-    newer,
-    few,
-    all_fit,
-    all_law.means,
-    le-ltb limits.max_text (length (bytes_left entry.text items)) short,
-  ) refl
+pub squash_accepted : (limits : LimitsData) (encoding : Encoding) (entry : DocumentItem) (version : ℤ)
+    (batch : List ContentChange) (items : List Item) → meaning (units_in encoding) (chars entry.text) batch ≡ Ok items
+    → is_stale limits version entry.version ≡ false → length (bytes_left entry.text items) ≤ limits.max_text
+    → limits.max_text ≤ 1073741824
+    → nat_lt limits.max_changes (length (canonical (units_in encoding) (chars entry.text) items)) ≡ false
+    → entry_refusal limits (units_in encoding) entry version (canonical (units_in encoding) (chars entry.text) items)
+    ≡ None
+squash_accepted limits encoding entry version batch items means newer short within few =
+    canonical_accepted limits (units_in encoding) entry version batch items
+    (canonical_law (units_in encoding) (units_some encoding) (chars entry.text) batch items means) newer
+    (ltb-false limits.max_changes (length (canonical (units_in encoding) (chars entry.text) items)) few) short
+    (omega (arith, short, within))
 
 -- What a batch makes of a squash is one thing.
 pub after_is : (old : SquashData) (version : ℤ) (batch : List ContentChange) (new : SquashData)

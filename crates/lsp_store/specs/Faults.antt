@@ -1,12 +1,11 @@
 -- How the calls of this crate report why they refuse.
-use Rattle.std.specs.Prelude.{ℕ, ◌≡◌, ◌⊎◌, List, Option, Some, codes, option_map}
+use Rattle.lsp_store.specs.Prelude.{ℕ, ◌≡◌, ◌⊎◌, List, Option, Some, codes, option_map, StoreFault}
 use Rattle.lsp_frame.specs.declared.written.EncodeFault.{EncodeFault}
 use Rattle.lsp_frame.specs.declared.written.EncodeFault.TheVariants as encode
 use Rattle.lsp_edit.specs.declared.fault.EditFault.TheVariants.{InsideCharacter, ReversedRange}
 use Rattle.lsp_edit.specs.declared.indexed.fault.BatchFault.{BatchFault}
 use Rattle.lsp_edit.specs.declared.indexed.fault.BatchFault.TheVariants as text
 use Rattle.lsp_edit.specs.Faults.{fault_at}
-use Rattle.lsp_store.specs.declared.fault.StoreFault.{StoreFault}
 use Rattle.lsp_store.specs.declared.fault.StoreFault.TheVariants.{AlreadyOpen, TooManyDocuments, TextTooLong, NotOpen, StaleVersion, TooManyChanges, Edit, BodyTooLong, NoMemory}
 use Rattle.lsp_store.specs.Table.{Refusal, already_open, too_many_documents, text_too_long, not_open, too_many_changes, stale_version, edit, body_too_long}
 

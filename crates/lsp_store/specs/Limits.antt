@@ -1,6 +1,5 @@
 -- Limits beside other limits.
-use Rattle.std.specs.Prelude.{◌≤◌, IsTrue}
-use Rattle.lsp_frame.specs.Limits.{LimitsData}
+use Rattle.lsp_store.specs.Prelude.{◌≤◌, IsTrue, LimitsData}
 
 -- Each of the limits is at most the other's, and they are lenient only if the others are.
 pub record AreWithin (small great : LimitsData) : Type 0 where

@@ -1,14 +1,7 @@
 -- The canonical message of a batch that is accepted on an open document (LSP 3.17,
 -- DidChangeTextDocument).
-use Rattle.std.specs.Prelude.{ℕ, ℤ, ◌≡◌, true, if◌then◌else◌, nat_lt, List, [], ◌∷◌, length, map, encode_utf8_all, Option, Some, None, Result, Ok, Err, ⊤}
-use Rattle.std.specs.Str.{all_scalars, chars}
-use Rattle.lsp_frame.specs.Frame.{frame}
-use Rattle.lsp_frame.specs.Limits.{LimitsData}
-use Rattle.lsp_edit.specs.Items.{Item}
-use Rattle.lsp_edit.specs.Batch.{ContentChange, Fault, meaning}
-use Rattle.lsp_edit.specs.Canonical.{DoTheSame, canonical}
+use Rattle.lsp_store.specs.Prelude.{ℕ, ℤ, ◌≡◌, true, if◌then◌else◌, nat_lt, List, [], ◌∷◌, length, map, encode_utf8_all, Option, Some, None, Result, Ok, Err, ⊤, all_scalars, chars, frame, LimitsData, Item, ContentChange, Fault, meaning, DoTheSame, canonical, DocumentItem, ContentChangeData, IsChangeRead}
 use Rattle.lsp_message.specs.Outgoing.{OutgoingData, did_change, body_of}
-use Rattle.lsp_message.specs.Params.{DocumentItem, ContentChangeData, IsChangeRead}
 use Rattle.lsp_store.specs.Table.{Refusal, body_too_long, entry_at, change_refusal, after_change}
 
 -- A change as it is written, with its text as bytes.

@@ -1,13 +1,8 @@
 -- A store as callers see it, and what its calls do to it.
-use Rattle.std.specs.Prelude.{◌≡◌, ℕ, ℤ, IsSomeAnd, List, String, string_bytes, Option, None, Ok}
+use Rattle.lsp_store.specs.Prelude.{◌≡◌, ℕ, ℤ, IsSomeAnd, List, String, string_bytes, Option, None, Ok, LimitsData, StoreFault, ContentChange, one_change, DocumentItem}
 use Rattle.std.specs.declared.alloc.Global.{Global}
-use Rattle.lsp_frame.specs.Limits.{LimitsData}
-use Rattle.lsp_store.specs.declared.fault.StoreFault.{StoreFault}
 use Rattle.lsp_store.specs.declared.store.stored.Stored.{Stored}
 use Rattle.lsp_text.specs.declared.position.Range.{Range}
-use Rattle.lsp_edit.specs.Batch.{ContentChange}
-use Rattle.lsp_edit.specs.Indexed.{one_change}
-use Rattle.lsp_message.specs.Params.{DocumentItem}
 use Rattle.lsp_store.specs.Table.{Command, IsLeftToMeaning, entry_at, after_command, change_refusal, command_refusal}
 use Rattle.lsp_store.specs.Faults.{IsRefusal}
 

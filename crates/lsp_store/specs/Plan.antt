@@ -1,13 +1,7 @@
 -- A batch that was resolved once on an open document, and its application.
-use Rattle.std.specs.Prelude.{ℕ, ℤ, ◌≡◌, ◌≤◌, zero, suc, List, [], ◌∷◌, ◌++◌, length, Some, None, slice_get}
-use Rattle.lsp_text.specs.Units.{units_in}
-use Rattle.lsp_text.specs.declared.encoding.Encoding.{Encoding}
+use Rattle.lsp_store.specs.Prelude.{ℕ, ℤ, ◌≡◌, ◌≤◌, zero, suc, List, [], ◌∷◌, ◌++◌, length, Some, None, slice_get, units_in, Encoding, ContentChange, DocumentItem, Plan, StoreFault}
 use Rattle.lsp_edit.specs.declared.delta.Delta.{Delta}
-use Rattle.lsp_edit.specs.Batch.{ContentChange}
 use Rattle.lsp_edit.specs.Delta.{IsDeltaOf, IsOn, bytes_after}
-use Rattle.lsp_message.specs.Params.{DocumentItem}
-use Rattle.lsp_store.specs.declared.store.plan.Plan.{Plan}
-use Rattle.lsp_store.specs.declared.fault.StoreFault.{StoreFault}
 use Rattle.lsp_store.specs.Faults.{IsRefusal}
 use Rattle.lsp_store.specs.Message.{canonical_body, canonical_frame, message_refusal}
 use Rattle.lsp_store.specs.Opened.{ChangeMayAllocate, StoreData}

@@ -1,18 +1,7 @@
 -- Batches of changes on one document, one after another, as one batch (LSP 3.17,
 -- DidChangeTextDocumentParams).
-use Rattle.std.specs.Prelude.{ℕ, ℤ, ◌≡◌, if◌then◌else◌, nat_lt, List, [], ◌++◌, length, Option, Some, None, Result, Ok, Err}
-use Rattle.std.specs.Str.{chars}
-use Rattle.lsp_frame.specs.Frame.{frame}
-use Rattle.lsp_frame.specs.Limits.{LimitsData}
-use Rattle.lsp_text.specs.declared.encoding.Encoding.{Encoding}
-use Rattle.lsp_text.specs.Units.{units_in}
-use Rattle.lsp_edit.specs.Items.{Item, plain, text_of}
-use Rattle.lsp_edit.specs.Batch.{ContentChange, Fault, meaning}
-use Rattle.lsp_edit.specs.Canonical.{canonical}
+use Rattle.lsp_store.specs.Prelude.{ℕ, ℤ, ◌≡◌, if◌then◌else◌, nat_lt, List, [], ◌++◌, length, Option, Some, None, Result, Ok, Err, chars, frame, LimitsData, Encoding, units_in, Item, plain, text_of, ContentChange, Fault, meaning, canonical, bytes_left, DocumentItem, Plan}
 use Rattle.lsp_edit.specs.Compose.{then_items}
-use Rattle.lsp_edit.specs.Indexed.{bytes_left}
-use Rattle.lsp_message.specs.Params.{DocumentItem}
-use Rattle.lsp_store.specs.declared.store.plan.Plan.{Plan}
 use Rattle.lsp_store.specs.Opened.{StoreData}
 use Rattle.lsp_store.specs.Plan.{IsPlanOf}
 use Rattle.lsp_store.specs.Table.{Refusal, changed, too_many_changes, entry_refusal}

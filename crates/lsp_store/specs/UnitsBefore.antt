@@ -1,7 +1,6 @@
 -- How many units of a whole text are before a byte offset.
-use Rattle.std.specs.Prelude.{ℕ, ◌≡◌, ◌≤◌, List, length}
+use Rattle.lsp_store.specs.Prelude.{ℕ, ◌≡◌, ◌≤◌, List, length, units_between}
 use Rattle.lsp_text.specs.Text.{place_of}
-use Rattle.lsp_text.specs.Units.{units_between}
 
 -- The byte offset is that of an index of the text, and the characters before that index have so
 -- many units.

@@ -24,6 +24,7 @@ pub use laws::store_laws;
 pub use lsp_buffer::TextBuffer;
 pub use squash::{Batches, Squash};
 pub use store::Store;
+pub use store::canonical::change_frame;
 pub use store::document::Document;
 pub use store::documents::Documents;
 pub use store::plan::Plan;

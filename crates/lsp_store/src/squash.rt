@@ -13,7 +13,7 @@ ghost use Rattle.lsp_store.specs.Table.{IsLeftToMeaning};
 
 use crate::fault::StoreFault;
 use crate::store::Store;
-use crate::store::canonical::batch_frame;
+use crate::store::canonical::change_frame;
 use crate::store::document::Document;
 use crate::store::plan::Plan;
 use crate::store::stored::Stored;
@@ -156,8 +156,11 @@ impl Batches {
         ensures error { IfErr result (IsRefusal (squash_refusal self.now)) }
     {
         let batch = self.joined.canonical(self.encoding)?;
+        if batch.len() > self.limits.max_changes() {
+            return Err(StoreFault::TooManyChanges);
+        }
         let alloc = *self.uri.allocator();
-        batch_frame(alloc, &self.limits, &self.uri, self.version, batch)
+        change_frame(alloc, &self.limits, &self.uri, self.version, batch)
     }
 }
 

@@ -1,3 +1,4 @@
+pub mod Prelude
 pub mod Text
 pub mod TextLines
 pub mod Units

@@ -1,7 +1,6 @@
 -- Positions (LSP 3.17, Position), over a text and a function that says how many units a character
 -- has.
-use Rattle.std.specs.Prelude.{ℕ, ◌==◌, if◌then◌else◌, nat_lt, nat_le, List, length, Option, Some, find}
-use Rattle.lsp_text.specs.declared.position.Position.{Position}
+use Rattle.lsp_text.specs.Prelude.{ℕ, ◌==◌, if◌then◌else◌, nat_lt, nat_le, List, length, Option, Some, find, Position}
 use Rattle.lsp_text.specs.TextLines.{line_at, line_ends, line_content, line_start, line_stop}
 use Rattle.lsp_text.specs.Units.{units_between}
 

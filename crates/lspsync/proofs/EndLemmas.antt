@@ -1,14 +1,8 @@
 -- Lines on standard error, piece by piece, and the end of a run over a file.
-use Rattle.lspsync.proofs.Prelude.{◌≡◌, inr, ℕ, List, [], ◌++◌, Option, Err, ap, sym, ◌∙◌, append_assoc, append-nil, EngineFault, Ending, fault_cause, IsBlamed, IsFileEnding}
+use Rattle.lspsync.proofs.Prelude.{◌≡◌, inr, ℕ, List, [], ◌++◌, Option, Err, append_assoc, append-nil, EngineFault, Ending, fault_cause, IsBlamed, IsFileEnding}
 use Rattle.lsp_stream.specs.Ports.{WriterState}
 use Rattle.lspsync.specs.declared.wanted.Wanted.{Wanted}
 use Rattle.lsp_stream.specs.declared.fault.EngineFault.TheVariants as engine
-
--- The line of a fault.
-pub fault_pieces : (start text place end whole : List ℕ) → whole ≡ text ++ place
-    → start ++ (text ++ (place ++ end)) ≡ start ++ (whole ++ end)
-fault_pieces start text place end whole is =
-    ap (λ z. start ++ z) (sym (append_assoc text place end) ∙ ap (λ z. z ++ end) (sym is))
 
 -- The line of a fault of a file.
 pub blame_pieces : (start name sep text place cause page end whole : List ℕ) → whole ≡ text ++ place

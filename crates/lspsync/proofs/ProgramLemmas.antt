@@ -1,5 +1,5 @@
 -- The command line is put together.
-use Rattle.lspsync.proofs.Prelude.{◌≡◌, ◌∙◌, ◌+◌, ◌++◌, ◌<◌, ◌≤◌, ℕ, ap, sym, refl, false, List, [], ◌∷◌, Result, Ok, Err, IfOk, codes, length, map, take, get_or, App, Rule, app_of, new_app, with_subcommand, IsProgram, limit_rules, program_app}
+use Rattle.lspsync.proofs.Prelude.{◌≡◌, ◌∙◌, ◌+◌, ◌++◌, ◌<◌, ◌≤◌, ℕ, ap, sym, refl, false, List, [], ◌∷◌, Result, Ok, Err, IfOk, codes, length, map, take, get_or, App, Rule, app_of, new_app, with_subcommand, IsProgram, common_rules, program_app}
 use Rattle.std.proofs.lemmas.List.{map_more, take_all}
 use Rattle.clap.specs.Words.{Shape}
 use Rattle.clap.specs.declared.builder.command.Command.{Command}
@@ -13,7 +13,7 @@ use Rattle.lspsync.specs.declared.command_line.help.Page.{Page}
 -- A command by its page: a new one, and then its own options and files, and the limits.
 pub is_command : {E : Type 0} (page : Page) (names : OptionNames) (new own : Command) (made : Result Command E)
     (limits : List Rule) → app_of new ≡ new_app page.name.now → (fields_of new).has_globals ≡ false
-    → limits ≡ limit_rules → AddsRules new (map (rule_by names) page.arguments.now) own
+    → limits ≡ common_rules → AddsRules new (map (rule_by names) page.arguments.now) own
     → IfOk made (AddsRules own limits) → IfOk made (IsCommand page names)
 is_command page names new own (Err e) limits is local same a b = tt
 is_command page names new own (Ok made) limits is local same a b =
@@ -43,11 +43,11 @@ pub program_is : (names : OptionNames) (pages : List Page) (index : ℕ) (app : 
     → length pages ≤ index
     → ((n : OptionNames) → map (shape_by n) pages ≡ (program_app n.encodings n.change_forms).subs)
     → app ≡ with_all top_app (map (shape_by names) (take index pages)) → IsProgram app
-program_is names pages index app encodings kinds all are is = record {
+program_is names pages index app encodings forms all are is = record {
   encodings = names.encodings;
-  kinds = names.change_forms;
+  forms = names.change_forms;
   names = encodings;
-  kind_names = kinds;
+  form_names = forms;
   same = is ∙ (ap (λ front. with_all top_app (map (shape_by names) front)) (take_all index pages all)
       ∙ ap (with_all top_app) (are names));
 }

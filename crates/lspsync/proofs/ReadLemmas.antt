@@ -5,19 +5,19 @@ use Rattle.clap.specs.declared.error.Error.{Error}
 use Rattle.clap.specs.declared.error.kind.ErrorKind.{ErrorKind}
 use Rattle.clap.proofs.OnLiterals.{clap_on_literals}
 
-simple : (encodings kinds : Choices) → is_simple (program_app encodings kinds) ≡ true
+simple : (encodings forms : Choices) → is_simple (program_app encodings forms) ≡ true
 unfolding clap_on_literals
-simple encodings kinds = refl
+simple encodings forms = refl
 
-free : (encodings kinds : Choices) → is_simple_and_free (program_app encodings kinds) ≡ true
+free : (encodings forms : Choices) → is_simple_and_free (program_app encodings forms) ≡ true
 unfolding clap_on_literals
-free encodings kinds = refl
+free encodings forms = refl
 
 pub is_simple_program : (app : App) → IsProgram app → is_simple app ≡ true
-is_simple_program app p = ap is_simple p.same ∙ simple p.encodings p.kinds
+is_simple_program app p = ap is_simple p.same ∙ simple p.encodings p.forms
 
 pub is_free_program : (app : App) → IsProgram app → is_simple_and_free app ≡ true
-is_free_program app p = ap is_simple_and_free p.same ∙ free p.encodings p.kinds
+is_free_program app p = ap is_simple_and_free p.same ∙ free p.encodings p.forms
 
 pub read_ok : (words : List (List ℕ)) (app : App) (found : ArgMatches) (tasks : Option (Vec Task Global))
     → IsProgram app → fault_of app words ≡ []

@@ -1,27 +1,18 @@
 -- A task more.
-use Rattle.lspsync.proofs.Prelude.{◌≡◌, ◌<◌, ℕ, ◌+◌, List, [], ◌∷◌, ◌++◌, map, length, get_or, take, Bor, ap, sym, ◌∙◌, add-one, Option, map_push, file_named, file_of, Task}
-use Rattle.std.proofs.Math.Seq.{take-suc}
+use Rattle.lspsync.proofs.Prelude.{◌≡◌, ◌<◌, ℕ, ◌+◌, List, [], ◌∷◌, ◌++◌, map, length, get_or, take, Bor, ap, sym, ◌∙◌, Option, map_push, file_named, file_of, Task}
+use Rattle.std.proofs.lemmas.List.{map_more}
 
 abbrev no_word : Bor (List ℕ)
 no_word = record { ref_ptr = (0, 0); now = [] }
 
-abbrev text_of_word : Bor (List ℕ) → List ℕ
-text_of_word word = word.now
-
 abbrev files_of_words : List (Bor (List ℕ)) → List (Option (List ℕ))
-files_of_words words = map file_named (map text_of_word words)
-
-more_words : (words : List (Bor (List ℕ))) (index : ℕ) → index < length words
-    → take (index + 1) words ≡ take index words ++ (get_or words index no_word ∷ [])
-more_words words index within = rw add-one (take-suc words index no_word within)
+files_of_words words = map file_named (map (λ word. word.now) words)
 
 more_files : (words : List (Bor (List ℕ))) (index : ℕ) → index < length words → files_of_words (take (index + 1) words)
     ≡ files_of_words (take index words) ++ file_named (get_or words index no_word).now ∷ []
 more_files words index within =
-    let front = take index words in
-    let word = get_or words index no_word in
-    ap files_of_words (more_words words index within)
-    ∙ (ap (map file_named) (map_push text_of_word front word) ∙ map_push file_named (map text_of_word front) word.now)
+    ap (map file_named) (map_more (λ word. word.now) words index no_word within)
+    ∙ map_push file_named (map (λ word. word.now) (take index words)) (get_or words index no_word).now
 
 -- It is that of the next word.
 pub one_more : (tasks : List Task) (task : Task) (words : List (Bor (List ℕ))) (index : ℕ) → index < length words

@@ -1,18 +1,7 @@
 -- By which other encoding of positions a log gives the text that it is compared with.
-use Rattle.std.specs.Prelude.{ℕ, ◌≡◌, List, codes, Option, Some, None, option_map, Ok}
-use Rattle.std.specs.Io.KnownBytes.{Keeps}
-use Rattle.std.specs.String.{string_bytes}
-use Rattle.line_diff.specs.Compared.{new_comparison}
-use Rattle.lsp_text.specs.declared.encoding.Encoding.{Encoding}
+use Rattle.lspsync.specs.Prelude.{ℕ, ◌≡◌, List, codes, Option, Some, None, option_map, Ok, Keeps, string_bytes, new_comparison, Encoding, ReaderState, WriterState, ports, allowed_turns, Settings, Outcome, compare_engine, IsEngineRun, Wanted}
 use Rattle.lsp_text.specs.declared.encoding.Encoding.TheVariants.{Utf8, Utf16, Utf32}
-use Rattle.lsp_stream.specs.Ports.{ReaderState, WriterState, ports}
-use Rattle.lsp_program.specs.Output.{allowed_turns}
-use Rattle.lsp_replay.specs.declared.commands.Settings.{Settings}
-use Rattle.lsp_replay.specs.declared.outcome.Outcome.{Outcome}
-use Rattle.lsp_replay.specs.Compared.{compare_engine}
-use Rattle.lsp_replay.specs.Run.{IsEngineRun}
 use Rattle.lspsync.specs.Openings.{file_opened, nothing_written}
-use Rattle.lspsync.specs.declared.wanted.Wanted.{Wanted}
 
 -- `compare` finds that the texts are equal over a file with these bytes, where they are known.
 pub record IsEqualRun (settings : Settings) (ending saved : List ℕ) (left : Option (List ℕ)) :

@@ -1,8 +1,7 @@
 -- The text of a fault's line.
-use Rattle.std.specs.Prelude.{ℕ, List, ◌++◌, codes, decimal, Option, Some, None}
+use Rattle.lspsync.specs.Prelude.{ℕ, List, ◌++◌, codes, decimal, Option, Some, None, EngineFault}
 use Rattle.lsp_frame.specs.declared.fault.FrameFault.{FrameFault}
 use Rattle.lsp_frame.specs.declared.fault.FrameFault.TheVariants as frame
-use Rattle.lsp_stream.specs.declared.fault.EngineFault.{EngineFault}
 use Rattle.lsp_stream.specs.declared.fault.EngineFault.TheVariants as engine
 
 -- A fault of a frame: its number, and the byte offset at which it is certain.

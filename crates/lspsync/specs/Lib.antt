@@ -1,3 +1,4 @@
+pub mod Prelude
 pub mod Call
 pub mod CommandLine
 pub mod Encodings

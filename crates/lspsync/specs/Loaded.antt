@@ -1,7 +1,5 @@
 -- A call with the text of a file that was read for it.
-use Rattle.std.specs.Prelude.{String}
-use Rattle.std.specs.declared.alloc.Global.{Global}
-use Rattle.lspsync.specs.declared.command_line.Call.{Call}
+use Rattle.lspsync.specs.Prelude.{String, Global, Call}
 use Rattle.lspsync.specs.declared.command_line.Call.TheVariants as call
 
 -- Only `compare` takes one.

@@ -1,15 +1,7 @@
 -- Which messages opened the documents of a log, where the one that is asked for isn't there.
-use Rattle.std.specs.Prelude.{ℕ, ◌≡◌, true, false, [], List, Option, Some, Ok}
-use Rattle.std.specs.Io.KnownBytes.{Keeps}
-use Rattle.std.specs.String.{string_bytes}
-use Rattle.lsp_stream.specs.Ports.{ReaderState, WriterState, ports, uncounted}
-use Rattle.lsp_program.specs.Output.{allowed_turns}
-use Rattle.lsp_replay.specs.declared.outcome.Missing.{Missing}
+use Rattle.lspsync.specs.Prelude.{ℕ, ◌≡◌, true, false, [], List, Option, Some, Ok, Keeps, string_bytes, ReaderState, WriterState, ports, uncounted, allowed_turns, Missing, Outcome, IsEngineRun, Wanted}
 use Rattle.lsp_replay.specs.declared.outcome.Missing.TheVariants as missing
-use Rattle.lsp_replay.specs.declared.outcome.Outcome.{Outcome}
 use Rattle.lsp_replay.specs.Openings.{openings_engine}
-use Rattle.lsp_replay.specs.Run.{IsEngineRun}
-use Rattle.lspsync.specs.declared.wanted.Wanted.{Wanted}
 
 -- What is known of a file that was opened, of which these bytes may be known.
 abbrev pub file_opened : Option (List ℕ) → ReaderState

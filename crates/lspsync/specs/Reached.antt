@@ -1,12 +1,5 @@
 -- Up to which record a faulty log can be replayed.
-use Rattle.std.specs.Prelude.{ℕ, ◌≡◌, List, Option, Some, None, Ok}
-use Rattle.std.specs.Io.KnownBytes.{Keeps}
-use Rattle.lsp_stream.specs.Ports.{ReaderState, WriterState, ports}
-use Rattle.lsp_program.specs.Output.{allowed_turns}
-use Rattle.lsp_replay.specs.declared.commands.Settings.{Settings}
-use Rattle.lsp_replay.specs.declared.outcome.Outcome.{Outcome}
-use Rattle.lsp_replay.specs.Parts.{part_engine}
-use Rattle.lsp_replay.specs.Run.{IsEngineRun}
+use Rattle.lspsync.specs.Prelude.{ℕ, ◌≡◌, List, Option, Some, None, Ok, Keeps, ReaderState, WriterState, ports, allowed_turns, Settings, Outcome, part_engine, IsEngineRun}
 use Rattle.lspsync.specs.Openings.{file_opened, nothing_written}
 
 -- `replay --at` writes the texts after the record of this number, of a file with these bytes, where

@@ -1,39 +1,21 @@
 -- What the program writes, and the status that it ends with.
-use Rattle.std.specs.Prelude.{ℕ, ◌≡◌, ◌⊎◌, ◌++◌, ◌∷◌, [], Bool, true, false, List, length, max, nat_lt, codes, Option, Some, None, option_map, unwrap_or, IfSome, Result, Ok, Err, String, Vec}
+use Rattle.lspsync.specs.Prelude.{ℕ, ◌≡◌, ◌⊎◌, ◌++◌, ◌∷◌, [], Bool, true, false, List, length, max, nat_lt, codes, Option, Some, None, option_map, unwrap_or, IfSome, Result, Ok, Err, String, Vec, Global, Keeps, string_bytes, kind_of, Error, EngineFault, Ports, ReaderState, WriterState, ports, IsFlushed, IsPrinted, IsTextPrinted, Streams, allowed_turns, Missing, Outcome, new_comparison, compare_engine, part_engine, Engine, IsEngineRun, check_engine, convert_engine, live, normalise_engine, replay_engine, serve_engine, Call, Task, Wanted, Encoding}
 use Rattle.std.specs.Result.{result_and}
-use Rattle.std.specs.declared.alloc.Global.{Global}
-use Rattle.std.specs.Io.KnownBytes.{Keeps}
-use Rattle.std.specs.String.{string_bytes}
-use Rattle.clap.specs.Values.{kind_of}
-use Rattle.clap.specs.declared.error.Error.{Error}
 use Rattle.clap.specs.declared.error.kind.ErrorKind.{ErrorKind}
 use Rattle.clap.specs.declared.error.kind.ErrorKind.TheVariants as kind
-use Rattle.lsp_stream.specs.declared.fault.EngineFault.{EngineFault}
 use Rattle.lsp_stream.specs.declared.fault.EngineFault.TheVariants.{Read, Write, NoMemory, TooManyTurns}
-use Rattle.lsp_stream.specs.Ports.{Ports, ReaderState, WriterState, ports}
-use Rattle.lsp_program.specs.Output.{IsFlushed, IsPrinted, IsTextPrinted, Streams, allowed_turns}
-use Rattle.lsp_replay.specs.declared.outcome.Missing.{Missing}
 use Rattle.lsp_replay.specs.declared.outcome.Missing.TheVariants as missing
-use Rattle.lsp_replay.specs.declared.outcome.Outcome.{Outcome}
-use Rattle.line_diff.specs.Compared.{new_comparison}
-use Rattle.lsp_replay.specs.Compared.{compare_engine}
 use Rattle.lsp_replay.specs.Documents.{documents_engine}
 use Rattle.lsp_replay.specs.Explained.{explain_engine}
-use Rattle.lsp_replay.specs.Parts.{part_engine}
 use Rattle.lsp_replay.specs.Trace.{trace_engine}
-use Rattle.lsp_replay.specs.Run.{Engine, IsEngineRun, check_engine, convert_engine, live, normalise_engine, replay_engine, serve_engine}
-use Rattle.lspsync.specs.declared.command_line.Call.{Call}
 use Rattle.lspsync.specs.declared.command_line.Call.TheVariants as call
 use Rattle.lspsync.specs.declared.ends.Ending.{Ending}
-use Rattle.lspsync.specs.declared.command_line.Task.{Task}
 use Rattle.lspsync.specs.Call.{AreWordsReadAs, file_of, saved_of}
 use Rattle.lspsync.specs.Loaded.{with_text}
 use Rattle.lspsync.specs.FaultText.{blame_text, fault_cause, fault_text}
 use Rattle.lspsync.specs.Encodings.{IsEncodingNamed, equal_text}
 use Rattle.lspsync.specs.Openings.{AreListed, file_opened}
 use Rattle.lspsync.specs.Wanted.{IsWanted}
-use Rattle.lspsync.specs.declared.wanted.Wanted.{Wanted}
-use Rattle.lsp_text.specs.declared.encoding.Encoding.{Encoding}
 
 -- The status of a fault: 3 if a stream failed, 4 if out of memory, 5 if the input is no log.
 abbrev pub status_of : EngineFault → ℕ

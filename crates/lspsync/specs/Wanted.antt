@@ -1,9 +1,6 @@
 -- The document that a call names.
-use Rattle.std.specs.Prelude.{◌≡◌, Some, None, option_map}
-use Rattle.std.specs.String.{string_bytes}
-use Rattle.lspsync.specs.declared.command_line.Call.{Call}
+use Rattle.lspsync.specs.Prelude.{◌≡◌, Some, None, option_map, string_bytes, Call, Wanted}
 use Rattle.lspsync.specs.declared.command_line.Call.TheVariants as call
-use Rattle.lspsync.specs.declared.wanted.Wanted.{Wanted}
 
 -- A call names this document, reads its log so, and compares its text with this one.
 abbrev pub IsWanted : Call → Wanted → Type 0

@@ -1,6 +1,7 @@
 //! How a run ends: its status, and what is printed of it on standard error.
 
 ghost use Rattle.std.specs.Prelude.{◌≡◌, ◌≢◌, ◌++◌, None, Some, codes, false, option_map};
+ghost use Rattle.std.specs.Result.{result_and};
 ghost use Rattle.lsp_program.specs.Output.{IsPrinted};
 ghost use Rattle.lspsync.specs.Run.{Ends, IsFaultEnd, IsOutcomeEnd, both_ends, error_line};
 ghost use Rattle.lspsync.specs.Run.{is_write_fault, missing_text, status_of};
@@ -31,6 +32,16 @@ impl Ending {
             status,
             printed,
             output_failed: false,
+        }
+    }
+
+    /// Makes the end of what comes after a heading, whose own failure to print is the first.
+    pub fn after(self, heading: Result<(), EngineFault>) -> Ending
+        ensures { result ≡ record self { printed = result_and heading self.printed } }
+    {
+        Ending {
+            printed: heading.and(self.printed),
+            ..self
         }
     }
 }

@@ -4,7 +4,7 @@ ghost use Rattle.std.specs.Prelude.{◌≡◌, ◌++◌, Err, IfOk, IfSome, List
 ghost use Rattle.std.specs.Io.KnownBytes.{Keeps};
 ghost use Rattle.lsp_program.specs.Output.{IsPrinted};
 ghost use Rattle.lspsync.specs.FaultText.{fault_text};
-ghost use Rattle.lspsync.specs.Run.{Ends, IsFileDone, IsFileEnding, IsUnreadable, blame_lines};
+ghost use Rattle.lspsync.specs.Run.{Ends, IsFileEnding, IsUnreadable, blame_lines};
 ghost use Rattle.lspsync.specs.Run.{status_of};
 
 use crate::beginning::hint;
@@ -14,11 +14,10 @@ use crate::ends::{Ending, end_missing, end_well, report, say, status_of};
 use crate::fault_text::{cause_of, text_of};
 use crate::openings::openings;
 use crate::reached::{last_before, settings_of};
-use crate::run::perform;
-use crate::wanted::{Wanted, wanted_by};
+use crate::wanted::Wanted;
 use itoa::Buffer;
 use lsp_program::{STREAM_FAULT, digits, print};
-use lsp_replay::{EngineFault, Outcome, Settings, Sink, Told};
+use lsp_replay::{EngineFault, Outcome, Settings, Sink};
 use std::alloc::Global;
 use std::io::{self, Read};
 
@@ -45,12 +44,27 @@ const SWAPPED: &str = "the file that is named first is a log: compare SAVED LOG"
 /// A log that is read from a file. It keeps what is said of a faulty one: the first bytes, the last
 /// error of a read, how it is read, and whether the text that it is compared with is a log.
 #[derive(Drop)]
-struct LogFile<T> {
+pub struct LogFile<T> {
     file: T,
     first: Vec<u8>,
     error: Option<io::Error>,
     settings: Option<Settings>,
     is_swapped: bool,
+}
+
+impl<T> LogFile<T> {
+    /// Takes the file of a call, before its first byte is read.
+    pub fn new(alloc: Global, file: T, call: &Call) -> LogFile<T>
+        ensures { result.file ≡ file }
+    {
+        LogFile {
+            file,
+            first: Vec::new(alloc),
+            error: None,
+            settings: settings_of(call),
+            is_swapped: is_swapped(call),
+        }
+    }
 }
 
 impl<T: Read> Read for LogFile<T> {
@@ -72,46 +86,8 @@ fn keep(first: &mut Vec<u8>, bytes: &[u8]) {
     let _ = first.extend_from_slice(&bytes[..room.min(bytes.len())]);
 }
 
-/// Runs the engine that a call names over a file, and flushes the output.
-pub fn run_file<F: Folder, W: Sink, E: Sink>(
-    alloc: Global,
-    call: Call,
-    name: &str,
-    folder: &F,
-    output: &mut W,
-    errors: &mut E,
-) -> Ending
-    ensures { IsFileDone call name.now (F.bytes folder.now name.now)
-        (W.seen output.old) (W.seen output.new)
-        (E.seen errors.old) (E.seen errors.new) result }
-{
-    match folder.open(name) {
-        Ok(file) => {
-            let mut log = Told::new(LogFile {
-                file,
-                first: Vec::new(alloc),
-                error: None,
-                settings: settings_of(&call),
-                is_swapped: is_swapped(&call),
-            });
-            let wanted = wanted_by(alloc, &call);
-            let answer = perform(alloc, call, &mut log, output);
-            end_file(
-                alloc,
-                name,
-                &log.into_inner(),
-                wanted,
-                answer,
-                folder,
-                errors,
-            )
-        }
-        Err(error) => unreadable(alloc, name, error, errors),
-    }
-}
-
 /// Ends with the outcome of a run over a file, or reports its fault.
-fn end_file<T, F: Folder, E: Sink>(
+pub fn end_file<T, F: Folder, E: Sink>(
     alloc: Global,
     name: &str,
     log: &LogFile<T>,

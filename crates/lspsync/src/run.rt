@@ -1,6 +1,6 @@
 //! The program over any reader, folder and writers.
 
-ghost use Rattle.std.specs.Prelude.{◌≡◌, ◌≢◌, ◌⊎◌, length, MatchResult, Result, map, nat_lt, option_map};
+ghost use Rattle.std.specs.Prelude.{◌≡◌, ◌≢◌, ◌⊎◌, MatchResult, Result, map, option_map};
 ghost use Rattle.std.specs.String.{string_bytes};
 ghost use Rattle.clap.specs.Values.{kind_of};
 ghost use Rattle.clap.specs.declared.error.kind.ErrorKind.TheVariants.{OutOfMemory};
@@ -8,26 +8,28 @@ ghost use Rattle.clap.specs.declared.error.kind.ErrorKind.TheVariants.{DisplayHe
 ghost use Rattle.lsp_stream.specs.Ports.{ports};
 ghost use Rattle.lsp_program.specs.Output.{IsPrinted, IsTextPrinted, allowed_turns, streams};
 ghost use Rattle.lsp_replay.specs.Run.{IsEngineRun};
-ghost use Rattle.lspsync.specs.Run.{AreDone, IsDoneOn, IsDoneWith, IsEnding, IsHeaded, IsHelpEnd};
-ghost use Rattle.lspsync.specs.Run.{IsPerformed};
-ghost use Rattle.lspsync.specs.Run.{IsFaultEnd, IsLoaded, IsNotLoaded, IsProgramRun, IsTaskDone};
-ghost use Rattle.lspsync.specs.Run.{answer_after_flush};
-ghost use Rattle.lspsync.specs.Run.{engine_of, nothing_yet, shown_name};
+ghost use Rattle.lspsync.specs.Run.{IsEnding, IsFaultEnd, IsFileDone, IsHeaded, IsHelpEnd, IsLoaded};
+ghost use Rattle.lspsync.specs.Run.{IsNotLoaded, IsPerformed, IsProgramRun, IsTaskDone};
+ghost use Rattle.lspsync.specs.Run.{answer_after_flush, engine_of, shown_name};
 
 use crate::command_line::{Call, Task, parse};
 use crate::ends::{Ending, both, end_well, report};
-use crate::files::{Folder, read_text, run_file, unreadable};
+use crate::files::{Folder, LogFile, end_file, read_text, unreadable};
 use crate::live::{run_check, run_explain, run_trace};
+use crate::wanted::wanted_by;
 use clap::error as clap_error;
 use lsp_program::{MAX_TURNS, USAGE, flush, print, print_text};
 use lsp_replay::{
-    Comparison, EngineFault, Outcome, Sink, Source, compare, convert, normalise,
+    Comparison, EngineFault, Outcome, Sink, Source, Told, compare, convert, normalise,
     normalise_documents, replay, replay_part, serve,
 };
 use std::alloc::Global;
 
 /// Runs the program. `words` is its command line, the program's name first. A file that it names is
 /// opened in `folder`. A fault's line is written to `errors`.
+///
+/// Tasks are done one after another. The status is the greatest of theirs. None is done after one
+/// whose output failed.
 pub fn run<F: Folder, R: Source, W: Sink, E: Sink>(
     alloc: Global,
     words: &[&str],
@@ -40,27 +42,11 @@ pub fn run<F: Folder, R: Source, W: Sink, E: Sink>(
         (streams (R.seen input.old) (W.seen output.old) (E.seen errors.old))
         (streams (R.seen input.new) (W.seen output.new) (E.seen errors.new)) result }
 {
-    match parse(alloc, words) {
-        Ok(Some(tasks)) => do_all(alloc, tasks, folder, input, output, errors),
-        Ok(None) => Ending::new(USAGE, Ok(())),
-        Err(error) => print_error(alloc, &error, output, errors),
-    }
-}
-
-/// Does tasks one after another. The status is the greatest of theirs. None is done after one whose
-/// output failed.
-fn do_all<F: Folder, R: Source, W: Sink, E: Sink>(
-    alloc: Global,
-    tasks: Vec<Task>,
-    folder: &F,
-    input: &mut R,
-    output: &mut W,
-    errors: &mut E,
-) -> Ending
-    ensures { AreDone (F.bytes folder.now) (nat_lt 1 (length tasks.items)) nothing_yet tasks.items
-        (streams (R.seen input.old) (W.seen output.old) (E.seen errors.old))
-        (streams (R.seen input.new) (W.seen output.new) (E.seen errors.new)) result }
-{
+    let tasks = match parse(alloc, words) {
+        Ok(Some(tasks)) => tasks,
+        Ok(None) => return Ending::new(USAGE, Ok(())),
+        Err(error) => return print_error(alloc, &error, output, errors),
+    };
     let is_headed = tasks.len() > 1;
     let mut ending = Ending::new(0, Ok(()));
     for task in tasks {
@@ -90,10 +76,15 @@ fn do_task<F: Folder, R: Source, W: Sink, E: Sink>(
 {
     let Task { call, saved, file } = task;
     let headed = head(is_headed, &file, errors);
-    let done = do_with(alloc, call, saved, file, folder, input, output, errors);
-    Ending {
-        printed: headed.and(done.printed),
-        ..done
+    match (loaded(alloc, call, saved, folder, errors), file) {
+        (Ok(call), Some(name)) => {
+            run_file(alloc, call, name.as_str(), folder, output, errors).after(headed)
+        }
+        (Ok(call), None) => {
+            let answer = perform(alloc, call, input, output);
+            end_with(answer, errors).after(headed)
+        }
+        (Err(ending), _) => ending.after(headed),
     }
 }
 
@@ -114,28 +105,6 @@ fn shown_name<'a>(file: &'a Option<String>) -> &'a str
     match file {
         Some(name) => name.as_str(),
         None => "standard input",
-    }
-}
-
-/// Makes a call on a file, or on standard input, once its saved text was read.
-fn do_with<F: Folder, R: Source, W: Sink, E: Sink>(
-    alloc: Global,
-    call: Call,
-    saved: Option<String>,
-    file: Option<String>,
-    folder: &F,
-    input: &mut R,
-    output: &mut W,
-    errors: &mut E,
-) -> Ending
-    ensures { IsDoneWith (F.bytes folder.now) call (option_map string_bytes saved)
-        (option_map string_bytes file)
-        (streams (R.seen input.old) (W.seen output.old) (E.seen errors.old))
-        (streams (R.seen input.new) (W.seen output.new) (E.seen errors.new)) result }
-{
-    match loaded(alloc, call, saved, folder, errors) {
-        Ok(call) => do_on(alloc, call, file, folder, input, output, errors),
-        Err(ending) => ending,
     }
 }
 
@@ -162,26 +131,35 @@ fn loaded<F: Folder, E: Sink>(
     }
 }
 
-/// Makes a call on a file, or on standard input.
-fn do_on<F: Folder, R: Source, W: Sink, E: Sink>(
+/// Runs the engine that a call names over a file, and flushes the output.
+fn run_file<F: Folder, W: Sink, E: Sink>(
     alloc: Global,
     call: Call,
-    file: Option<String>,
+    name: &str,
     folder: &F,
-    input: &mut R,
     output: &mut W,
     errors: &mut E,
 ) -> Ending
-    ensures { IsDoneOn (F.bytes folder.now) call (option_map string_bytes file)
-        (streams (R.seen input.old) (W.seen output.old) (E.seen errors.old))
-        (streams (R.seen input.new) (W.seen output.new) (E.seen errors.new)) result }
+    ensures { IsFileDone call name.now (F.bytes folder.now name.now)
+        (W.seen output.old) (W.seen output.new)
+        (E.seen errors.old) (E.seen errors.new) result }
 {
-    match file {
-        Some(name) => run_file(alloc, call, name.as_str(), folder, output, errors),
-        None => {
-            let answer = perform(alloc, call, input, output);
-            end_with(answer, errors)
+    match folder.open(name) {
+        Ok(file) => {
+            let mut log = Told::new(LogFile::new(alloc, file, &call));
+            let wanted = wanted_by(alloc, &call);
+            let answer = perform(alloc, call, &mut log, output);
+            end_file(
+                alloc,
+                name,
+                &log.into_inner(),
+                wanted,
+                answer,
+                folder,
+                errors,
+            )
         }
+        Err(error) => unreadable(alloc, name, error, errors),
     }
 }
 
@@ -200,7 +178,7 @@ fn end_with<E: Sink>(answer: Result<Outcome, EngineFault>, errors: &mut E) -> En
 ///
 /// # Errors
 /// The fault of the engine, else that of the flush.
-pub fn perform<R: Source, W: Sink>(
+fn perform<R: Source, W: Sink>(
     alloc: Global,
     call: Call,
     input: &mut R,

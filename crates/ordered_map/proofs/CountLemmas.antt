@@ -1,15 +1,9 @@
 -- Counts of blocks, as slots change.
 use Rattle.ordered_map.proofs.Prelude.{◌≡◌, ◌≤◌, ◌<◌, ◌+◌, ◌-◌, ◌*◌, ◌/◌, ℕ, List, [], ◌∷◌, ◌++◌, length, set, min, slice_get, slice_index, Option, Some, None, arith, ⊎_elim, length-append, length-set, get_or-set_same, get_or-set_other, get_or_append_left, get_or_push, cases_eq, cases_lt, le-ltb, lt-ltb, slice_get_within, AreCounted, counted_last, live_to, somes, common_steps}
-use Rattle.ordered_map.proofs.SlotLemmas.{live_next, live_gap, live_past, live_rises, live_within, live_taken_after, live_taken_before, live_put_before, live_put_after, live_all}
+use Rattle.ordered_map.proofs.SlotLemmas.{live_next, live_gap, live_past, live_rises, live_taken_after, live_taken_before, live_put_before, live_put_after, live_all}
 use Rattle.std.proofs.lemmas.Grind.{common_steps}
 
 module _ {X : Type 0} where
-  -- a count fits among the items
-  pub count_fits : (items : List (Option X)) (counts : List ℕ) (block : ℕ) → AreCounted items counts
-      → block < length counts → live_to items (256 * block) + slice_index counts block ≤ length (somes items)
-  count_fits items counts block counted within =
-      omega (arith, counted.each block within, live_within items (256 * (block + 1)))
-
   pub count_small : (items : List (Option X)) (counts : List ℕ) (block : ℕ) → AreCounted items counts
       → block < length counts → slice_index counts block ≤ 256
   count_small items counts block counted within =

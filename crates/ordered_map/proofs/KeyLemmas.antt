@@ -1,5 +1,5 @@
 -- Keys of slots, and the entries that they find.
-use Rattle.ordered_map.proofs.Prelude.{◌≡◌, ◌≤◌, ◌<◌, ◌+◌, ◌-◌, ℕ, zero, suc, Bool, true, false, List, [], ◌∷◌, ◌++◌, length, map, filter, set, slice_index_or as get_or, slice_get, position, is_some, option_map, Option, Some, None, String, string_bytes, string_eq, refl, sym, ap, ◌∙◌, arith, true≢false, ⊎_elim, cases_Bool, cases_eq, cases_lt, get_or_push, length-map, length-set, length_push, map-append, map-set, set-append_left, set-get_or, position-Some, none-some, slice_get-get_or, slice_get_within, IsDistinct, swap_remove, keys_of, lookup, values_of, Global, is_key, slot_entry, IsOnly, has_key, vacated, with_value_in, common_steps}
+use Rattle.ordered_map.proofs.Prelude.{◌≡◌, ◌≤◌, ◌<◌, ℕ, zero, suc, Bool, true, false, List, [], ◌∷◌, ◌++◌, length, map, filter, set, slice_index_or as get_or, slice_get, position, is_some, option_map, Option, Some, None, String, string_bytes, string_eq, refl, sym, ap, ◌∙◌, arith, true≢false, ⊎_elim, cases_Bool, cases_eq, cases_lt, get_or_push, length-map, length-set, length_push, map-append, map-set, set-append_left, set-get_or, position-Some, none-some, slice_get-get_or, slice_get_within, IsDistinct, swap_remove, keys_of, lookup, values_of, Global, is_key, slot_entry, IsOnly, has_key, vacated, with_value_in, common_steps}
 use Rattle.std.proofs.Common.{IfSome}
 use Rattle.std.proofs.Math.Seq.{take-append_seam}
 use Rattle.std.proofs.lemmas.Map.Keys.{apart_from_distinct}

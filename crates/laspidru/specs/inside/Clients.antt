@@ -1,11 +1,28 @@
--- A refused call of a client: its code, and what is written of it.
-use Rattle.std.specs.Prelude.{ℕ}
-use Rattle.lsp_client.specs.declared.fault.ClientFault.{ClientFault}
+-- The calls of a client, and of a refused call its code and what is written of it.
+use Rattle.laspidru.specs.Prelude.{ℕ, ◌≡◌, None, Call, starts, shuts_down, closes, orders, ClientFault, OUT_OF_MEMORY, WRONG_PHASE, FaultAt}
+use Rattle.lsp_client.specs.Step.{exits}
 use Rattle.lsp_client.specs.declared.fault.ClientFault.TheVariants as client
-use Rattle.laspidru.specs.declared.codes.TheConstants.{OUT_OF_MEMORY, WRONG_PHASE}
-use Rattle.laspidru.specs.declared.structs.FaultAt.{FaultAt}
-use Rattle.laspidru.specs.Clients.{IsStoreReport}
+use Rattle.laspidru.specs.declared.client.call.Call.{Call as Made}
+use Rattle.laspidru.specs.declared.client.call.Call.TheVariants.{Start, Shutdown, Exit, Open, Edit, Close}
+use Rattle.laspidru.specs.Clients.{IsStoreReport, edit_asked, open_asked}
 use Rattle.laspidru.specs.Servers.{store_code}
+use Rattle.laspidru.specs.Edits.{refused_edit}
+
+-- A call as the client has it.
+abbrev pub call_made : Made → Call
+call_made Start = starts
+call_made Shutdown = shuts_down
+call_made Exit = exits
+call_made (Open uri language version text) =
+    orders (open_asked uri.now language.now version text.now)
+call_made (Edit uri version edits texts) =
+    orders (edit_asked uri.now version edits.now texts.now)
+call_made (Close uri) = orders (closes uri.now)
+
+-- The edits of a call have their texts.
+abbrev pub IsChecked : Made → Type 0
+IsChecked (Edit uri version edits texts) = refused_edit edits.now texts.now ≡ None
+IsChecked other = Unit {0}
 
 -- The code of a refused call.
 abbrev pub call_code : ClientFault → ℕ

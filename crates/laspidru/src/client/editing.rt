@@ -1,24 +1,18 @@
 //! The calls that open, change and close a client's documents.
 
-ghost use Rattle.std.specs.Prelude.{◌≡◌, ◌≢◌, IfErr, IfOk, None, OnErr, Some};
-ghost use Rattle.lsp_client.specs.Seen.{IsFaultOf, IsSent};
+ghost use Rattle.std.specs.Prelude.{◌≡◌, ◌≢◌};
 ghost use Rattle.lsp_client.specs.Step.{call_result, closes, orders};
-ghost use Rattle.laspidru.specs.Batches.{refused_edit};
-ghost use Rattle.laspidru.specs.Clients.{IsCallOn, IsWritten, as_client, edit_asked, open_asked};
-ghost use Rattle.laspidru.specs.Clients.{opening_asked};
+ghost use Rattle.laspidru.specs.Edits.{refused_edit};
+ghost use Rattle.laspidru.specs.Clients.{IsCallOn, IsWritten, as_client, edit_asked, opening_asked};
 ghost use Rattle.laspidru.specs.Codes.{IsRefusedOr, both, unless};
 ghost use Rattle.laspidru.specs.Objects.{in_handle, uri_asked};
 
 use crate::bytes::checked_text;
-use crate::changes::{changes_of, refusal_of};
-use crate::client::call::{Call, make_call};
-use crate::codes::{INSIDE_CHARACTER, OK, OTHER_KIND, REVERSED_RANGE, or_return};
-use crate::handle::{Handle, with_object};
-use crate::object::Object;
-use crate::party::Party;
-use crate::reports::report_call;
+use crate::changes::refusal_of;
+use crate::client::call::{Call, make_call, make_reported};
+use crate::codes::{INSIDE_CHARACTER, OK, REVERSED_RANGE, or_return};
+use crate::handle::Handle;
 use crate::structs::{Edit, FaultAt};
-use lsp_client::{Client, ClientFault, Phase};
 use std::alloc::Global;
 
 /// Opens a document: the frame of `textDocument/didOpen` is to be sent (LSP 3.17,
@@ -35,9 +29,8 @@ pub extern "C" fn laspidru_client_open(
     text: &[u8],
     len: &mut usize,
 ) -> u32
-    ensures answer { IsRefusedOr (opening_asked uri.now language.now text.now) result (λ asked.
-        IsCallOn (in_handle as_client handle.old.value)
-        (orders (open_asked asked.uri asked.language version asked.text)) result
+    ensures answer { IsRefusedOr (opening_asked uri.now language.now version text.now) result
+        (λ order. IsCallOn (in_handle as_client handle.old.value) (orders order) result
         handle.new.value len.new) }
     ensures unchanged { result ≢ OK
         → (handle.new.value ≡ handle.old.value) × (len.new ≡ len.old) }
@@ -46,69 +39,6 @@ pub extern "C" fn laspidru_client_open(
     let language = or_return!(checked_text(language));
     let text = or_return!(checked_text(text));
     make_call(alloc, handle, Call::Open(uri, language, version, text), len)
-}
-
-/// Changes a document of a client.
-fn edited(
-    alloc: Global,
-    client: &mut Client,
-    uri: &str,
-    version: i32,
-    edits: &[Edit],
-    texts: &[u8],
-) -> Result<Vec<u8>, ClientFault>
-    requires { refused_edit edits.now texts.now ≡ None }
-    ensures ok { IfOk result (λ frame.
-        IsSent (call_result client.old (orders (edit_asked uri.now version edits.now texts.now)))
-        frame.items client.new) }
-    ensures unchanged { OnErr result (client.new ≡ client.old) }
-    ensures error { IfErr result (IsFaultOf (call_result client.old
-        (orders (edit_asked uri.now version edits.now texts.now)))) }
-{
-    match client.phase() {
-        Phase::Ready => {
-            let changes = changes_of(alloc, edits, texts)?;
-            client.edit(uri, version, &changes)
-        }
-        phase => Err(ClientFault::WrongPhase { phase }),
-    }
-}
-
-/// Changes a document by an object's client.
-#[tactic(auto, using(crate::proofs::Calls::accepted, crate::proofs::Calls::call_refused, crate::proofs::Calls::report_written, crate::proofs::Calls::none_written))]
-fn object_client_edit(
-    alloc: Global,
-    object: &mut Object,
-    uri: &str,
-    version: i32,
-    edits: &[Edit],
-    texts: &[u8],
-    fault: &mut FaultAt,
-    len: &mut usize,
-) -> u32
-    requires { refused_edit edits.now texts.now ≡ None }
-    ensures answer { let order = edit_asked uri.now version edits.now texts.now in
-        IsCallOn (as_client object.old) (orders order) result (Some object.new) len.new }
-    ensures report { IsRefusedOr (as_client object.old) result (λ asked.
-        IsWritten (call_result asked.client
-        (orders (edit_asked uri.now version edits.now texts.now))) result fault.new) }
-    ensures unchanged { result ≢ OK → (object.new ≡ object.old) × (len.new ≡ len.old) }
-    ensures fault { result ≢ INSIDE_CHARACTER → result ≢ REVERSED_RANGE → fault.new ≡ fault.old }
-{
-    let Object::End(held) = object else {
-        return OTHER_KIND;
-    };
-    let Party::Client(client) = &mut held.party else {
-        return OTHER_KIND;
-    };
-    match edited(alloc, client, uri, version, edits, texts) {
-        Ok(frame) => {
-            *len = frame.len();
-            held.frame = frame;
-            OK
-        }
-        Err(error) => report_call(error, fault),
-    }
 }
 
 /// Changes a document: the frame of one `textDocument/didChange` is to be sent, with the canonical
@@ -140,7 +70,7 @@ pub extern "C" fn laspidru_client_edit(
     ensures report { let client = unless (refused_edit edits.now texts.now)
         (in_handle as_client handle.old.value) in
         IsRefusedOr (both (uri_asked uri.now) client) result
-        (λ asked. IsWritten (call_result asked.1.client
+        (λ asked. IsWritten (call_result asked.1.0
         (orders (edit_asked asked.0 version edits.now texts.now))) result fault.new) }
     ensures unchanged { result ≢ OK
         → (handle.new.value ≡ handle.old.value) × (len.new ≡ len.old) }
@@ -150,9 +80,13 @@ pub extern "C" fn laspidru_client_edit(
     if let Some(code) = refusal_of(edits, texts) {
         return code;
     }
-    with_object!(handle, alloc, |object| {
-        object_client_edit(alloc, &mut object, uri, version, edits, texts, fault, len)
-    })
+    make_reported(
+        alloc,
+        handle,
+        Call::Edit(uri, version, edits, texts),
+        fault,
+        len,
+    )
 }
 
 /// Closes a document: the frame of `textDocument/didClose` is to be sent (LSP 3.17,

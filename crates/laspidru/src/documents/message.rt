@@ -1,7 +1,7 @@
 //! The function on canonical messages of an end's open documents.
 
 ghost use Rattle.std.specs.Prelude.{◌≡◌, ◌≢◌, ◌⊎◌, None};
-ghost use Rattle.laspidru.specs.Batches.{edits_of, refused_edit};
+ghost use Rattle.laspidru.specs.Edits.{edits_of, refused_edit};
 ghost use Rattle.laspidru.specs.Codes.{IsAnswerOrNoMemory, unless};
 ghost use Rattle.laspidru.specs.Ends.{as_end};
 ghost use Rattle.laspidru.specs.Messages.{IsMessageLeft, MessageAsked, canonical_message_of};

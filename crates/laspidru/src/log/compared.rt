@@ -3,8 +3,8 @@
 ghost use Rattle.std.specs.Prelude.{◌≡◌, ◌⊎◌, IfOk, None};
 ghost use Rattle.line_diff.specs.Compared.{new_comparison};
 ghost use Rattle.laspidru.specs.Codes.{IsAnswerOrNoMemory, unless};
-ghost use Rattle.laspidru.specs.Comparisons.{ComparisonAsked, IsCompared, comparison_asked};
-ghost use Rattle.laspidru.specs.Logs.{IsUnlessEnded};
+ghost use Rattle.laspidru.specs.declared.command.Command.TheVariants.{Compare};
+ghost use Rattle.laspidru.specs.Logs.{IsKeptRun, IsUnlessEnded, comparison_asked};
 ghost use Rattle.laspidru.specs.Objects.{in_use};
 
 use crate::bytes::checked_text;
@@ -36,10 +36,9 @@ fn compare_into(
     out: &mut Ending,
 ) -> u32
     requires { handle.old.value ≡ None }
-    ensures answer { let asked : ComparisonAsked =
-        record { uri = uri.now; saved = saved.now; settings = taken } in
+    ensures answer { let command = Compare (new_comparison uri.now saved.now) in
         (result ≡ OUT_OF_MEMORY)
-        ⊎ IsCompared asked log.now result handle.new.value out.new }
+        ⊎ IsKeptRun command taken log.now result handle.new.value out.new }
     ensures unchanged { IsUnlessEnded result
         ((handle.new.value ≡ handle.old.value) × (out.new ≡ out.old)) }
 {
@@ -70,7 +69,7 @@ pub extern "C" fn laspidru_log_compare(
     ensures answer { let asked =
         unless (in_use handle.old.value) (comparison_asked settings.now uri.now saved.now) in
         IsAnswerOrNoMemory asked result (λ asked.
-        IsCompared asked log.now result handle.new.value out.new) }
+        IsKeptRun asked.0 asked.1 log.now result handle.new.value out.new) }
     ensures unchanged { IsUnlessEnded result
         ((handle.new.value ≡ handle.old.value) × (out.new ≡ out.old)) }
 {

@@ -14,7 +14,7 @@ none_count = λ i. record {
   utf32 = ap (head (units_in Utf32)) chars-nil i;
 }
 
-line_low : (text : List ℕ) (k : ℕ) → line_at text k ≤ k
+pub line_low : (text : List ℕ) (k : ℕ) → line_at text k ≤ k
 line_low text zero = omega arith
 line_low text (suc k) = omega (arith, (line_step text k).1, line_low text k)
 

@@ -1,9 +1,9 @@
 -- The block that is found for a byte offset or a position, and what it says of the text.
-use Rattle.lsp_buffer.proofs.Prelude.{ℕ, zero, suc, ◌≡◌, ◌+◌, ◌-◌, ◌*◌, ◌<◌, ◌≤◌, ◌⊎◌, false, List, [], ◌++◌, length, take, drop, get_or, Option, option_map, ⊎_elim, inl, inr, refl, sym, ap, ◌∙◌, arith, subst, concat, chars, IsUtf8, IsCharBoundary, cases_lt, append-nil, drop_all, length-append, length-drop, get_or_default, take_at, encodes-chars, length-le-encodes, IsUtf8-from_is_utf8, Position, Encoding, Utf8, Utf16, Utf32, place_of, line_ends, line_at, line_start, splits_crlf, IsPlace, units_in, units_between, exact_position, denoted, line_step, place_one, units_total, Counts, Found, Denoted, Offset, AreBlocks, IsFull, IsTextBuffer, carried, block_ends, counts_of, head_of, HaveRoom, counts_sum, head_in, AreThree, BeginsBefore, IsFound, IsPart, IsPartAt, Reaches, IsAtOrAfter, IsBefore, position_after, position_from, common_steps}
+use Rattle.lsp_buffer.proofs.Prelude.{ℕ, ◌≡◌, ◌+◌, ◌-◌, ◌*◌, ◌<◌, ◌≤◌, ◌⊎◌, false, List, [], ◌++◌, length, take, drop, get_or, Option, option_map, ⊎_elim, inl, inr, refl, sym, ap, ◌∙◌, arith, subst, concat, chars, IsUtf8, IsCharBoundary, cases_lt, append-nil, drop_all, length-append, length-drop, get_or_default, take_at, encodes-chars, length-le-encodes, IsUtf8-from_is_utf8, Position, Encoding, Utf8, Utf16, Utf32, place_of, line_ends, line_at, line_start, splits_crlf, IsPlace, units_in, units_between, exact_position, denoted, place_one, units_total, Counts, Found, Denoted, Offset, AreBlocks, IsFull, IsTextBuffer, carried, block_ends, counts_of, head_of, HaveRoom, counts_sum, head_in, AreThree, BeginsBefore, IsFound, IsPart, IsPartAt, Reaches, IsAtOrAfter, IsBefore, position_after, position_from, common_steps}
 use Rattle.lsp_text.specs.laws.Units.{utf8_bounds, utf16_bounds, utf32_bounds}
 use Rattle.lsp_buffer.specs.declared.find.Target.{Target}
 use Rattle.lsp_buffer.proofs.Blocks.BlockLemmas.{IsSplit, blocks_some, blocks_utf8, full_closes, full_utf8, split, split_text}
-use Rattle.lsp_buffer.proofs.Blocks.CountLemmas.{are_sum, ends_both, have_room, head_both, none_count, room_more, room_some, sum_more, sum_some}
+use Rattle.lsp_buffer.proofs.Blocks.CountLemmas.{are_sum, ends_both, have_room, head_both, line_low, none_count, room_more, room_some, sum_more, sum_some}
 use Rattle.lsp_buffer.proofs.Blocks.CutLemmas.{concat_more}
 use Rattle.lsp_buffer.proofs.Blocks.PartLemmas.{resolved_three, inner_index, exact_three, boundary_in, carried_low, drop_three}
 use Rattle.std.proofs.lemmas.Grind.{common_steps}
@@ -290,10 +290,6 @@ module _ (bytes front block rest : List ℕ) where
       (ap (λ (n : ℕ). position_from n head (exact_position units (chars block) is.inner)) first_is ∙
       (ap (λ (n : ℕ). position_from (line_ends (chars front)) n (exact_position units (chars block) is.inner)) head_is ∙
       sym (exact_three bytes front block rest found.parts units place k is whole)))
-
-  line_low : (text : List ℕ) (k : ℕ) → line_at text k ≤ k
-  line_low text zero = omega arith
-  line_low text (suc k) = omega (arith, (line_step text k).1, line_low text k)
 
   pub exact_low : (encoding : Encoding) (place from first head : ℕ) (p : Position) → IsUtf8 bytes
       → IsPlaceFound bytes front block rest place from → first ≡ line_ends (chars front)

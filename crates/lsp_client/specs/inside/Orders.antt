@@ -1,15 +1,6 @@
 -- What an order sends, and why it is refused, as the store reports it.
-use Rattle.std.specs.Prelude.{ℕ, List, Option, None, Result}
-use Rattle.std.specs.Str.{chars}
-use Rattle.lsp_frame.specs.Limits.{LimitsData}
-use Rattle.lsp_edit.specs.Batch.{ContentChange}
-use Rattle.lsp_message.specs.declared.agreement.SyncKind.{SyncKind}
-use Rattle.lsp_message.specs.Params.{DocumentItem}
+use Rattle.lsp_client.specs.Prelude.{ℕ, List, Option, None, Result, chars, LimitsData, ContentChange, SyncKind, DocumentItem, IsRefusal, body_refusal, else_refused, Command, Refusal, command_refusal, ClientFault}
 use Rattle.lsp_store.specs.declared.fault.StoreFault.{StoreFault}
-use Rattle.lsp_store.specs.Faults.{IsRefusal}
-use Rattle.lsp_store.specs.Message.{body_refusal, else_refused}
-use Rattle.lsp_store.specs.Table.{Command, Refusal, command_refusal}
-use Rattle.lsp_client.specs.declared.fault.ClientFault.{ClientFault}
 use Rattle.lsp_client.specs.Step.{ClientData, Order, Sending, agreement, command_of, command_result, sent_body}
 
 -- Why a command is refused.

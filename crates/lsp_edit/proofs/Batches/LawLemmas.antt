@@ -1,19 +1,13 @@
 -- The laws of batches, put together.
-use Rattle.lsp_edit.proofs.Prelude.{ℕ, ◌≤◌, nat_lt, List, [], ◌∷◌, arith, cases_Bool, len_utf8_bounds, Encoding, units_in, CanonicalLaw, Part, OldPart, NewPart, AreParts, NoneEmpty, common_steps}
-use Rattle.lsp_text.specs.declared.encoding.Encoding.TheVariants.{Utf8, Utf16, Utf32}
+use Rattle.lsp_edit.proofs.Prelude.{ℕ, List, [], ◌∷◌, arith, CanonicalLaw, Part, OldPart, NewPart, AreParts, NoneEmpty}
 use Rattle.lsp_edit.proofs.Canonical.KeepsLemmas.{meaning_keeps}
 use Rattle.lsp_edit.proofs.Canonical.PairLemmas.{pairs_kept}
 use Rattle.lsp_edit.proofs.Canonical.GapLemmas.{ends_exact}
 use Rattle.lsp_edit.proofs.Canonical.RebuiltLemmas.{canonical_makes}
+pub use Rattle.lsp_buffer.proofs.Queries.FoundLemmas.{units_some}
 use Rattle.lsp_edit.proofs.Canonical.CountLemmas.{no_more_changes}
 use Rattle.lsp_edit.proofs.Canonical.WeightLemmas.{no_longer}
 use Rattle.lsp_edit.proofs.Canonical.SameLemmas.{canonical_means, equal_exactly, canonical_again}
-
--- A character has a unit at least.
-pub units_some : (encoding : Encoding) (c : ℕ) → 1 ≤ units_in encoding c
-units_some Utf8 c = (len_utf8_bounds c).0
-units_some Utf16 c = grind (arith, common_steps, nat_lt, cases_Bool)
-units_some Utf32 c = omega arith
 
 pub canonical_law : CanonicalLaw
 canonical_law units some old batch items is = record {

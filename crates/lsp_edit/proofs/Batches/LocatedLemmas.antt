@@ -1,12 +1,12 @@
 -- What text edits leave by indexes is what they leave once they are sorted by their byte offsets.
 -- ---- where edits lie
-use Rattle.lsp_edit.proofs.Prelude.{ℕ, zero, suc, ◌≡◌, ◌+◌, ◌-◌, ◌<◌, ◌≤◌, ◌⊎◌, true, false, ◌==◌, nat_lt, nat_le, List, [], ◌∷◌, ◌++◌, length, map, filter, flat_map, Ok, refl, sym, ap, ap₂, ◌∙◌, subst, arith, ⊎_elim, inl, inr, append-nil, ltb-false, ne_eqb, eq-eqb, Contains, AllByRecursion, IsPermutation, chars, IsUtf8, cases_Bool, cases_eq, cases_lt, map-append, All-from_recursion, recursion_from_All, Contains-append_right, All-permutation, Contains-permutation, IsNonDecreasingBy-from_sort, IsPermutation-map, IsPermutation-sym, list_any-IsPermutation, IsPlace, place_of, numbers_from, place_rises, Placed, TextEdit, TextEditFault, ContentChange, meaning, canonical, Old, Part, index_of, items_of, LocatedEdit, located, new_at, is_taken_out, left_at, items_left, ComesBefore, NoneOverlap, IsBatchOfEdits, EditsOverlap, IsEditsFault, ArePlaced, IsInOrder, AreApart, old_parts, parts_left, AreLeftByEdits, HasFaultyRange, DoOverlap, PlacedOverlap, IsPlacingFault, common_steps}
+use Rattle.lsp_edit.proofs.Prelude.{ℕ, zero, suc, ◌≡◌, ◌+◌, ◌-◌, ◌<◌, ◌≤◌, ◌⊎◌, true, false, ◌==◌, nat_lt, nat_le, List, [], ◌∷◌, ◌++◌, length, map, filter, flat_map, Ok, refl, sym, ap, ap₂, ◌∙◌, subst, arith, ⊎_elim, inl, inr, append-nil, ltb-false, ne_eqb, eq-eqb, Contains, AllByRecursion, IsPermutation, chars, IsUtf8, cases_Bool, cases_eq, cases_lt, map-append, Contains-append_right, Contains-permutation, IsNonDecreasingBy-from_sort, IsPermutation-map, IsPermutation-sym, list_any-IsPermutation, IsPlace, place_of, numbers_from, place_rises, Placed, TextEdit, TextEditFault, ContentChange, meaning, canonical, Old, Part, index_of, items_of, LocatedEdit, located, new_at, is_taken_out, left_at, items_left, ComesBefore, NoneOverlap, IsBatchOfEdits, EditsOverlap, IsEditsFault, ArePlaced, IsInOrder, AreApart, old_parts, parts_left, AreLeftByEdits, HasFaultyRange, DoOverlap, PlacedOverlap, IsPlacingFault, common_steps}
 use Rattle.lsp_edit.specs.declared.text_edits.TextEditFault.TheVariants.{NoMemory}
 use Rattle.lsp_edit.proofs.Composing.EditedLemmas.{index_first}
 use Rattle.lsp_edit.proofs.Deltas.OwnedLemmas.{items_both}
 use Rattle.lsp_edit.proofs.Parts.IndexLemmas.{index_of-place, index_rises}
 use Rattle.lsp_edit.proofs.Parts.PutLemmas.{new_items}
-use Rattle.lsp_edit.proofs.Batches.TextEditLemmas.{Lies, at_index, at_within, end_index, lies_all}
+use Rattle.lsp_edit.proofs.Batches.TextEditLemmas.{Lies, at_first, lie_ordered, at_index, at_within, end_index, lies_all}
 use Rattle.lsp_edit.proofs.Batches.LocatedOrderLemmas.{located_of, located_all, range_fault, AscendByNumber, AscendByStart, ComeInTurn, starts_at, numbers_ascend, unfiltered, filter_ascends, rest_ascends, starts_ascend, starts_stay}
 use Rattle.lsp_edit.proofs.Batches.LocatedRowLemmas.{StandApart, none_overlap, next_to, first_is_in, second_is_in, nothing_between, left_from, at_one, runs_through}
 
@@ -57,22 +57,18 @@ module _ (before : List ℕ) where
     stand_apart p.stop all.0.at_stop ps all.1 apart.1,
   )
 
-  no_place : IsPlace (chars before) 0
-  no_place = (0, omega arith, refl, refl)
-
   -- the same edits, sorted
   module _ (units : ℕ → ℕ) (edits : List TextEdit) (placed ordered : List Placed)
       (at : ArePlaced units (chars before) 0 edits placed) (order : IsInOrder placed ordered) where
     lie_placed : AllByRecursion (Lies before) placed
     lie_placed = lies_all before units 0 edits placed at
 
-    lie_ordered : AllByRecursion (Lies before) ordered
-    lie_ordered = recursion_from_All (Lies before) ordered (All-permutation (Lies before) placed ordered order.same
-        (All-from_recursion (Lies before) placed lie_placed))
+    lie_sorted : AllByRecursion (Lies before) ordered
+    lie_sorted = lie_ordered before units edits placed ordered at order
 
     in_turn : ComeInTurn (all_of ordered)
     in_turn =
-        come_in_turn ordered lie_ordered (starts_ascend ordered
+        come_in_turn ordered lie_sorted (starts_ascend ordered
         (IsNonDecreasingBy-from_sort (λ (p : Placed). p.start) ordered order.sorted))
         (λ n. subst AscendByNumber (sym (starts_stay placed ordered order n))
         (filter_ascends (starts_at n) placed (numbers_ascend units (chars before) 0 edits placed at)))
@@ -110,7 +106,7 @@ module _ (before : List ℕ) where
         (cases_Bool (place_of (chars before) i == p.start))
 
     new_same : (i : ℕ) → i ≤ length (chars before) → new_at (all_of placed) i ≡ new_at (all_of ordered) i
-    new_same i within = grind (arith, common_steps, flat_map, filter_located, lie_placed, starts_stay, lie_ordered)
+    new_same i within = grind (arith, common_steps, flat_map, filter_located, lie_placed, starts_stay, lie_sorted)
 
     taken_same : (i : ℕ) → is_taken_out (all_of placed) i ≡ is_taken_out (all_of ordered) i
     taken_same i = grind (arith, common_steps, list_any-IsPermutation, nat_le, nat_lt, same_edits)
@@ -131,7 +127,7 @@ module _ (before : List ℕ) where
       located_all units (chars before) 0 edits placed at,
       λ first second has_one has_other turn.
           none_overlap (length (chars before)) (index_of (chars before) 0) (all_of ordered)
-          (stand_apart 0 no_place ordered lie_ordered apart) in_turn first second (to_ordered first has_one)
+          (stand_apart 0 (at_first before) ordered lie_sorted apart) in_turn first second (to_ordered first has_one)
           (to_ordered second has_other) turn,
     )
 
@@ -144,7 +140,7 @@ module _ (before : List ℕ) where
         ap all_of over.all ∙ map-append (located_of (chars before)) over.front (over.first ∷ over.second ∷ over.rest) in
         let turn : ComeInTurn (all_of over.front ++ first ∷ second ∷ all_of over.rest) = subst ComeInTurn all in_turn in
         let lie : AllByRecursion (Lies before) (over.front ++ over.first ∷ over.second ∷ over.rest) =
-        subst (AllByRecursion (Lies before)) over.all lie_ordered in
+        subst (AllByRecursion (Lies before)) over.all lie_sorted in
         let both : Lies before over.first × Lies before over.second = lie_both over.front lie in
         record {
           all = all_of placed;
@@ -207,11 +203,11 @@ module _ (before : List ℕ) where
         let len : ℕ = length (chars before) in
         let ordered : List LocatedEdit = all_of left.ordered in
         let lie : AllByRecursion (Lies before) left.ordered =
-        lie_ordered units edits left.placed left.ordered left.at left.order in
+        lie_ordered before units edits left.placed left.ordered left.at left.order in
         let none : index_of (chars before) 0 ≡ 0 = index_first (chars before) in
         let stand : StandApart len 0 ordered =
         subst (λ (n : ℕ). StandApart len n ordered) none
-        (stand_apart 0 no_place left.ordered lie left.apart) in
+        (stand_apart 0 (at_first before) left.ordered lie left.apart) in
         let items : items_of (chars before) parts ≡ items_left (all_of left.placed) len =
         ap (items_of (chars before)) left.are
         ∙ (parts_by_indexes 0 left.ordered lie

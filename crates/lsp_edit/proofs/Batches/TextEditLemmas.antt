@@ -1,5 +1,5 @@
 -- What text edits leave of a text.
-use Rattle.lsp_edit.proofs.Prelude.{ℕ, zero, suc, ◌≡◌, ◌+◌, ◌-◌, ◌<◌, ◌≤◌, ◌⊎◌, true, false, List, [], ◌∷◌, ◌++◌, length, map, take, drop, nat_lt, IsCharBoundary, Ok, Err, refl, sym, ap, ◌∙◌, subst, arith, ⊎_elim, inl, inr, ltb-true, append_assoc, append-nil, take-append-drop, encode_utf8_all, string_bytes, AllByRecursion, chars, is_utf8, IsUtf8, cases_Bool, All-from_recursion, recursion_from_All, All-permutation, encodes-chars, is_utf8-from_IsUtf8, IsUtf8-string_bytes, IsPlace, numbers_from, splits_crlf, splits_none_past, place_boundary, place_end, place_rises, place_within, denoted_whole, EditFault, Placed, TextEdit, TextEditFault, Overlap, ContentChange, meaning, ends_of, canonical, places_at, Item, Old, New, Keeps, Part, AreParts, index_of, items_of, new_parts, fault_of, IsPlaced, ArePlaced, AreApart, old_parts, parts_left, AreLeftByEdits, HasFaultyRange, DoOverlap, common_steps}
+use Rattle.lsp_edit.proofs.Prelude.{ℕ, zero, suc, ◌≡◌, ◌+◌, ◌-◌, ◌<◌, ◌≤◌, ◌⊎◌, true, false, List, [], ◌∷◌, ◌++◌, length, map, take, drop, nat_lt, IsCharBoundary, Ok, Err, refl, sym, ap, ◌∙◌, subst, arith, ⊎_elim, inl, inr, ltb-true, append_assoc, append-nil, take-append-drop, encode_utf8_all, string_bytes, AllByRecursion, chars, is_utf8, IsUtf8, cases_Bool, All-from_recursion, recursion_from_All, All-permutation, encodes-chars, is_utf8-from_IsUtf8, IsUtf8-string_bytes, IsPlace, numbers_from, splits_crlf, splits_none_past, place_boundary, place_end, place_rises, place_within, denoted_whole, EditFault, Placed, TextEdit, TextEditFault, Overlap, ContentChange, meaning, ends_of, canonical, places_at, Item, Old, New, Keeps, Part, AreParts, index_of, items_of, new_parts, fault_of, IsPlaced, ArePlaced, AreApart, old_parts, parts_left, IsInOrder, AreLeftByEdits, HasFaultyRange, DoOverlap, common_steps}
 use Rattle.lsp_edit.proofs.Composing.AppliedLemmas.{AreEnds, ends_told}
 use Rattle.lsp_edit.proofs.Deltas.OwnedLemmas.{are_both, items_both}
 use Rattle.lsp_edit.proofs.Composing.EditedLemmas.{index_first}
@@ -135,6 +135,17 @@ module _ (before : List ℕ) where
   lies_all units number (e ∷ edits) (p ∷ placed) all =
       (lies_one units number e p all.0, lies_all units (suc number) edits placed all.1)
 
+  -- in order of their starts they do, too
+  pub lie_ordered : (units : ℕ → ℕ) (edits : List TextEdit) (placed ordered : List Placed)
+      → ArePlaced units (chars before) 0 edits placed → IsInOrder placed ordered
+      → AllByRecursion (Lies before) ordered
+  lie_ordered units edits placed ordered at order = recursion_from_All (Lies before) ordered (All-permutation
+      (Lies before) placed ordered order.same (All-from_recursion (Lies before) placed
+      (lies_all units 0 edits placed at)))
+
+  pub at_first : IsPlace (chars before) 0
+  at_first = (0, omega arith, refl, refl)
+
   pub at_index : (place : ℕ) (w : IsPlace (chars before) place) → index_of (chars before) place ≡ w.0
   at_index place w = ap (index_of (chars before)) (sym w.3) ∙ index_of-place (chars before) w.0 w.1
 
@@ -225,18 +236,13 @@ module _ (before : List ℕ) (utf8 : IsUtf8 before) where
   module _ (units : ℕ → ℕ) (edits : List TextEdit) (parts : List Part)
       (left : AreLeftByEdits units before edits parts) where
     all_lie : AllByRecursion (Lies before) left.ordered
-    all_lie = recursion_from_All (Lies before) left.ordered (All-permutation (Lies before) left.placed left.ordered
-        left.order.same (All-from_recursion (Lies before) left.placed
-        (lies_all before units 0 edits left.placed left.at)))
-
-    at_first : IsPlace (chars before) 0
-    at_first = (0, omega arith, refl, refl)
+    all_lie = lie_ordered before units edits left.placed left.ordered left.at left.order
 
     pub parts_are : AreParts before parts
-    parts_are = subst (AreParts before) (sym left.are) (left_are 0 left.ordered at_first all_lie)
+    parts_are = subst (AreParts before) (sym left.are) (left_are 0 left.ordered (at_first before) all_lie)
 
     pub items_keep : Keeps (chars before) 0 (items_of (chars before) parts)
-    items_keep = grind (arith, common_steps, index_first, left_keeps, at_first, all_lie)
+    items_keep = grind (arith, common_steps, index_first, left_keeps, (at_first before), all_lie)
 
     pub batch_means : ((c : ℕ) → 1 ≤ units c) → (batch : List ContentChange) → batch ≡ canonical units (chars before)
         (items_of (chars before) parts) → meaning units (chars before) batch ≡ Ok (items_of (chars before) parts)

@@ -1,5 +1,5 @@
 -- What a change makes of the fields of pieces.
-use Rattle.lsp_edit.proofs.Prelude.{ℕ, ◌≡◌, ◌+◌, ◌-◌, ◌<◌, ◌≤◌, true, false, List, [], ◌∷◌, ◌++◌, length, map, take, drop, nat_le, refl, sym, ap, ap₂, ◌∙◌, subst, arith, append_assoc, take-append-drop, encode_utf8_all, IsCharBoundary, ⊎_elim, inl, inr, leb-true, le-leb, Option, Some, None, Result, Ok, Err, string_bytes, replace_range, chars, IsUtf8, cases_Bool, length-map, length-append, map-append, take-map, drop-map, encodes-append, encodes-chars, chars_from_encodes, IsUtf8-from_is_utf8, is_utf8-from_IsUtf8, Range, place_of, denoted, place_rises, place_within, place_boundary, take_place, drop_place, denoted_whole, replaced_length, Change, EditFault, NoMemory, Item, New, character_of, text_of, ContentChange, Fault, InsideStart, InsideStop, Reversed, items_after, in_order, ends_of, replaced, fault_at, IsFaultOfChange, places_at, IsPlaces, Keeps, Part, items_of, bytes_of, AreParts, NoneTouch, new_parts, AreCut, AreOrdered, replaced_parts, ArePieces, Applied, PlainData, content_change, edited_text, edited_bytes, next_number, common_steps}
+use Rattle.lsp_edit.proofs.Prelude.{ℕ, ◌≡◌, ◌+◌, ◌-◌, ◌<◌, ◌≤◌, true, false, List, [], ◌∷◌, ◌++◌, length, map, take, drop, nat_le, refl, sym, ap, ap₂, ◌∙◌, subst, arith, append_assoc, take-append-drop, encode_utf8_all, IsCharBoundary, ⊎_elim, inl, inr, leb-true, le-leb, Option, Some, None, Result, Ok, Err, string_bytes, replace_range, chars, IsUtf8, cases_Bool, length-map, length-append, map-append, take-map, drop-map, encodes-append, encodes-chars, chars_from_encodes, IsUtf8-from_is_utf8, is_utf8-from_IsUtf8, Range, place_of, denoted, place_rises, place_within, place_boundary, take_place, drop_place, denoted_whole, replaced_length, Change, EditFault, NoMemory, Item, New, character_of, text_of, ContentChange, Fault, InsideStart, InsideStop, Reversed, items_after, in_order, ends_of, replaced, fault_at, IsFaultOfChange, places_at, IsPlaces, Keeps, Part, items_of, bytes_of, AreParts, NoneTouch, new_parts, AreCut, AreOrdered, replaced_parts, ArePieces, Applied, PlainData, content_change, HasRange, PiecesData, Span, part_of, parts_of, edited_text, edited_bytes, next_number, common_steps}
 use Rattle.lsp_edit.proofs.Canonical.KeepsLemmas.{after_change_keeps}
 use Rattle.lsp_edit.proofs.Parts.CutLemmas.{text_of-new, part_ordered}
 use Rattle.lsp_edit.proofs.Parts.CutPartsLemmas.{cut_parts, parts_bytes}
@@ -120,14 +120,46 @@ pub record IsNext (units : ℕ → ℕ) (before : List ℕ) (parts : List Part) 
   pub made : items_after units (chars before) (items_of (chars before) parts) change ≡ Ok (items_of (chars before) next)
   pub are : ArePieces before next len (next_number changes)
 
+-- What holds of pieces where a new text replaces the bytes between the ends of a range.
+pub record IsRanged (units : ℕ → ℕ) (range : Range) (before : List ℕ) (parts : List Part) (len changes : ℕ)
+    (new : List ℕ) (start stop : ℕ) : Type 0 where
+  pub start_cut : AreCut parts start
+  pub stop_cut : AreCut parts stop
+  pub order : start ≤ stop
+  pub within : stop ≤ len
+  pub ordered : AreOrdered parts
+  pub bytes : bytes_of before (replaced_parts parts start stop new) ≡ replace_range (bytes_of before parts) start stop new
+  pub start_at : (bytes : List ℕ) → IsUtf8 bytes → bytes ≡ bytes_of before parts → IsCharBoundary bytes start
+  pub stop_at : (bytes : List ℕ) → IsUtf8 bytes → bytes ≡ bytes_of before parts → IsCharBoundary bytes stop
+  pub short : (bytes : List ℕ) → bytes ≡ bytes_of before parts → length (replace_range bytes start stop new)
+      ≤ 2147483648
+  pub next : (spans : List Span) → parts_of spans ≡ replaced_parts parts start stop new
+      → length spans < 18446744073709551616
+      → IsNext units before parts changes (record { range = Some range; text = chars new })
+      (replaced_parts parts start stop new) (len - (stop - start) + length new)
+
+are_ordered : (before : List ℕ) → IsUtf8 before → (parts : List Part) → AreParts before parts → AreOrdered parts
+are_ordered before utf8 [] are = tt
+are_ordered before utf8 (part ∷ parts) are =
+    (part_ordered before utf8 part are.0, are_ordered before utf8 parts are.1)
+
 module _ (units : ℕ → ℕ) (before : List ℕ) (parts : List Part) (len changes : ℕ)
     (are : ArePieces before parts len changes) (new : List ℕ) (utf8 : IsUtf8 new)
     (room : len + length new ≤ 2147483648) where
-  now_long : len ≡ length (encode_utf8_all (text_of (chars before) (items_of (chars before) parts)))
-  now_long = are.long ∙ ap length (parts_bytes before (IsUtf8-from_is_utf8 before are.utf8) parts are.are)
+  abbrev had : List Item
+  had = items_of (chars before) parts
+
+  abbrev now : List ℕ
+  now = text_of (chars before) had
+
+  old_utf8 : IsUtf8 before
+  old_utf8 = IsUtf8-from_is_utf8 before are.utf8
+
+  now_bytes : bytes_of before parts ≡ encode_utf8_all now
+  now_bytes = parts_bytes before old_utf8 parts are.are
 
   next_of : (change : ContentChange) (next : List Part) (next_len : ℕ)
-      → items_after units (chars before) (items_of (chars before) parts) change ≡ Ok (items_of (chars before) next)
+      → items_after units (chars before) had change ≡ Ok (items_of (chars before) next)
       → AreParts before next → NoneTouch next
       → next_len ≡ length (bytes_of before next) → next_len ≤ 2147483648 → length next ≤ length parts + 2
       → length next < 18446744073709551616 → IsNext units before parts changes change next next_len
@@ -137,7 +169,7 @@ module _ (units : ℕ → ℕ) (before : List ℕ) (parts : List Part) (len chan
       utf8 = are.utf8;
       are = next_are;
       apart = next_apart;
-      keeps = after_change_keeps (chars before) units (items_of (chars before) parts) (items_of (chars before) next)
+      keeps = after_change_keeps (chars before) units had (items_of (chars before) next)
           change are.keeps made;
       long = long;
       room = fits;
@@ -154,7 +186,7 @@ module _ (units : ℕ → ℕ) (before : List ℕ) (parts : List Part) (len chan
       let text : text_of (chars before) (items_of (chars before) (new_parts new)) ≡ chars new =
       ap (text_of (chars before)) n.0 ∙ text_of-new (chars before) (chars new) in
       let bytes : bytes_of before (new_parts new) ≡ new =
-      parts_bytes before (IsUtf8-from_is_utf8 before are.utf8) (new_parts new) n.1
+      parts_bytes before old_utf8 (new_parts new) n.1
       ∙ (ap encode_utf8_all text ∙ encodes-chars new utf8) in
       next_of (record { range = None; text = chars new }) (new_parts new) (length new)
       (ap (λ (i : List Item). Ok i) (sym n.0))
@@ -165,113 +197,78 @@ module _ (units : ℕ → ℕ) (before : List ℕ) (parts : List Part) (len chan
       (omega (arith, new_few new))
       small
 
-  pub parts_ordered : AreOrdered parts
-  parts_ordered = ordered parts are.are
-    where
-      ordered : (ps : List Part) → AreParts before ps → AreOrdered ps
-      ordered [] is = tt
-      ordered (part ∷ ps) is = (part_ordered before (IsUtf8-from_is_utf8 before are.utf8) part is.0, ordered ps is.1)
+  module _ (range : Range) (start stop : ℕ) (ends : AreEnds units now range start stop) where
+    low_within : ends.low ≤ length now
+    low_within = omega (arith, ends.order, ends.within)
 
-  module _ (range : Range) (start stop : ℕ)
-      (ends : AreEnds units (text_of (chars before) (items_of (chars before) parts)) range start stop) where
-    items_long : length (text_of (chars before) (items_of (chars before) parts))
-        ≡ length (items_of (chars before) parts)
-    items_long = length-map (items_of (chars before) parts) (character_of (chars before))
+    cut : (index place : ℕ) → index ≤ length now → place_of now index ≡ place → AreCut parts place
+    cut index place within is =
+        subst (AreCut parts) is (cut_parts before old_utf8 parts index are.are
+        (omega (arith, within, length-map had (character_of (chars before))))).cut
 
-    pub start_cut : AreCut parts start
-    start_cut = subst (AreCut parts) ends.start_is (cut_parts before (IsUtf8-from_is_utf8 before are.utf8) parts
-        ends.low are.are (omega (arith, ends.order, ends.within, items_long))).cut
+    boundary : (bytes : List ℕ) → IsUtf8 bytes → bytes ≡ bytes_of before parts → (index place : ℕ)
+        → index ≤ length now → place_of now index ≡ place → IsCharBoundary bytes place
+    boundary bytes bytes_utf8 same index place within is =
+        let now_text : chars bytes ≡ now = sym (chars_from_encodes now bytes bytes_utf8 (sym now_bytes ∙ sym same)) in
+        subst (IsCharBoundary bytes) (ap (λ (t : List ℕ). place_of t index) now_text ∙ is)
+        (place_boundary bytes index bytes_utf8 (omega (arith, ap length now_text, within)))
 
-    pub stop_cut : AreCut parts stop
-    stop_cut = subst (AreCut parts) ends.stop_is (cut_parts before (IsUtf8-from_is_utf8 before are.utf8) parts ends.high
-        are.are (omega (arith, ends.within, items_long))).cut
-
-    pub in_order_places : (start ≤ stop) × (stop ≤ len)
+    in_order_places : (start ≤ stop) × (stop ≤ len)
     in_order_places =
-        let r : place_of (text_of (chars before) (items_of (chars before) parts)) ends.low + (ends.high - ends.low)
-        ≤ place_of (text_of (chars before) (items_of (chars before) parts)) ends.high
-        = place_rises (text_of (chars before) (items_of (chars before) parts)) ends.low ends.high ends.order
-        ends.within in
-        let w : place_of (text_of (chars before) (items_of (chars before) parts)) ends.high
-        ≤ length (encode_utf8_all (text_of (chars before) (items_of (chars before) parts)))
-        = place_within (text_of (chars before) (items_of (chars before) parts)) ends.high ends.within in
-        (omega (arith, ends.start_is, ends.stop_is), omega (arith, ends.stop_is, now_long))
+        let r = place_rises now ends.low ends.high ends.order ends.within in
+        let w = place_within now ends.high ends.within in (
+          omega (arith, r, ends.start_is, ends.stop_is),
+          omega (arith, w, ends.stop_is, are.long, ap length now_bytes),
+        )
 
     both : (items_of (chars before) (replaced_parts parts start stop new)
-        ≡ take ends.low (items_of (chars before) parts)
-        ++ (map New (chars new) ++ drop ends.high (items_of (chars before) parts)))
+        ≡ take ends.low had ++ (map New (chars new) ++ drop ends.high had))
         × AreParts before (replaced_parts parts start stop new)
     both =
         rw (ends.start_is, ends.stop_is) at
-        (replaced_items before (IsUtf8-from_is_utf8 before are.utf8) parts ends.low ends.high new are.are
-        (is_utf8-from_IsUtf8 new utf8) ends.order (omega (arith, ends.within, items_long)))
-
-    items : items_of (chars before) (replaced_parts parts start stop new)
-        ≡ take ends.low (items_of (chars before) parts)
-        ++ (map New (chars new) ++ drop ends.high (items_of (chars before) parts))
-    items = both.0
-
-    are_parts : AreParts before (replaced_parts parts start stop new)
-    are_parts = both.1
-
-    text : text_of (chars before) (items_of (chars before) (replaced_parts parts start stop new))
-        ≡ take ends.low (text_of (chars before) (items_of (chars before) parts))
-        ++ (chars new ++ drop ends.high (text_of (chars before) (items_of (chars before) parts)))
-    text =
-        ap (text_of (chars before)) items
-        ∙ text_put (chars before) (items_of (chars before) parts) (chars new) ends.low ends.high
-
-    now_bytes_are : bytes_of before parts ≡ encode_utf8_all (text_of (chars before) (items_of (chars before) parts))
-    now_bytes_are = parts_bytes before (IsUtf8-from_is_utf8 before are.utf8) parts are.are
+        (replaced_items before old_utf8 parts ends.low ends.high new are.are (is_utf8-from_IsUtf8 new utf8) ends.order
+        (omega (arith, ends.within, length-map had (character_of (chars before)))))
 
     -- the bytes of the text with those between the places replaced
-    pub range_bytes : bytes_of before (replaced_parts parts start stop new) ≡ replace_range (bytes_of before parts)
-        start stop new
+    range_bytes : bytes_of before (replaced_parts parts start stop new)
+        ≡ replace_range (bytes_of before parts) start stop new
     range_bytes =
-        parts_bytes before (IsUtf8-from_is_utf8 before are.utf8) (replaced_parts parts start stop new) are_parts
-        ∙ (ap encode_utf8_all text
-        ∙ (bytes_put (text_of (chars before) (items_of (chars before) parts)) new ends.low ends.high start stop utf8
-        ends.start_is ends.stop_is ∙ ap (λ (bs : List ℕ). replace_range bs start stop new) (sym now_bytes_are)))
-
-    module _ (bytes : List ℕ) (bytes_utf8 : IsUtf8 bytes) (same : bytes ≡ bytes_of before parts) where
-      now_text : chars bytes ≡ text_of (chars before) (items_of (chars before) parts)
-      now_text = sym (chars_from_encodes (text_of (chars before) (items_of (chars before) parts)) bytes bytes_utf8
-          (sym now_bytes_are ∙ sym same))
-
-      pub start_at : IsCharBoundary bytes start
-      start_at =
-          subst (IsCharBoundary bytes) (ap (λ (t : List ℕ). place_of t ends.low) now_text ∙ ends.start_is)
-          (place_boundary bytes ends.low bytes_utf8 (omega (arith, ap length now_text, ends.order, ends.within)))
-
-      pub stop_at : IsCharBoundary bytes stop
-      stop_at =
-          subst (IsCharBoundary bytes) (ap (λ (t : List ℕ). place_of t ends.high) now_text ∙ ends.stop_is)
-          (place_boundary bytes ends.high bytes_utf8 (omega (arith, ap length now_text, ends.within)))
+        parts_bytes before old_utf8 (replaced_parts parts start stop new) both.1
+        ∙ (ap encode_utf8_all (ap (text_of (chars before)) both.0
+        ∙ text_put (chars before) had (chars new) ends.low ends.high)
+        ∙ (bytes_put now new ends.low ends.high start stop utf8 ends.start_is ends.stop_is
+        ∙ ap (λ (bs : List ℕ). replace_range bs start stop new) (sym now_bytes)))
 
     long : len - (stop - start) + length new ≡ length (bytes_of before (replaced_parts parts start stop new))
     long = grind (arith, common_steps, range_bytes, in_order_places, replaced_length)
 
-    pub range_short : (bytes : List ℕ) → bytes ≡ bytes_of before parts → length (replace_range bytes start stop new)
+    range_short : (bytes : List ℕ) → bytes ≡ bytes_of before parts → length (replace_range bytes start stop new)
         ≤ 2147483648
     range_short bytes same = grind (arith, common_steps, range_bytes, in_order_places)
 
-    pub range_next : length (replaced_parts parts start stop new) < 18446744073709551616
-        → IsNext units before parts changes (record { range = Some range; text = chars new })
-        (replaced_parts parts start stop new) (len - (stop - start) + length new)
-    range_next small =
-        next_of (record { range = Some range; text = chars new }) (replaced_parts parts start stop new)
-        (len - (stop - start) + length new)
-        (rw (
-          ends.low_is,
-          ends.high_is,
-          le-leb ends.low ends.high ends.order,
-        ) (ap (λ (i : List Item). Ok i) (sym items)))
-        are_parts
-        (replaced_apart parts start stop new are.apart)
-        long
-        (omega (arith, in_order_places))
-        (replaced_few parts start stop new in_order_places.0)
-        small
+    is_ranged : IsRanged units range before parts len changes new start stop
+    is_ranged = record {
+      start_cut = cut ends.low start low_within ends.start_is;
+      stop_cut = cut ends.high stop ends.within ends.stop_is;
+      order = in_order_places.0;
+      within = in_order_places.1;
+      ordered = are_ordered before old_utf8 parts are.are;
+      bytes = range_bytes;
+      start_at = λ bytes bytes_utf8 same. boundary bytes bytes_utf8 same ends.low start low_within ends.start_is;
+      stop_at = λ bytes bytes_utf8 same. boundary bytes bytes_utf8 same ends.high stop ends.within ends.stop_is;
+      short = range_short;
+      next = λ spans made few.
+          next_of (record { range = Some range; text = chars new }) (replaced_parts parts start stop new)
+          (len - (stop - start) + length new)
+          (rw (ends.low_is, ends.high_is, le-leb ends.low ends.high ends.order)
+          (ap (λ (i : List Item). Ok i) (sym both.0)))
+          both.1
+          (replaced_apart parts start stop new are.apart)
+          long
+          (omega (arith, in_order_places))
+          (replaced_few parts start stop new in_order_places.0)
+          (omega (arith, few, ap length made, length-map spans part_of));
+    }
 
 pub room_told : (before : List ℕ) (parts : List Part) (len changes more : ℕ) (edited : PlainData)
     → ArePieces before parts len changes → seen before parts changes ≡ edited → length (edited_bytes edited) + more
@@ -293,52 +290,18 @@ pub next_holds : (units : ℕ → ℕ) (before : List ℕ) (parts : List Part) (
     → (made : List Part) → made ≡ next → (count : ℕ) → count ≡ next_number changes → ArePieces before made len count
 next_holds units before parts changes change next len is made same count counted = rw (same, counted) is.are
 
--- What was told of a range's places, told of the fields.
-module _ (units : ℕ → ℕ) (range : Range) (before : List ℕ) (parts : List Part) (len changes : ℕ)
-    (are : ArePieces before parts len changes) (edited : PlainData) (view : seen before parts changes ≡ edited) where
-  pub ends_seen : (start stop : ℕ) → Ok (start, stop) ≡ places_at 0 (edited_text edited)
-      (ends_of units (edited_text edited) range)
-      → AreEnds units (text_of (chars before) (items_of (chars before) parts)) range start stop
-  ends_seen start stop found =
-      subst (λ (text : List ℕ). AreEnds units text range start stop) (sym (ap edited_text view))
-      (ends_told units (edited_text edited) range 0 start stop found)
-
-  -- a range whose places were told may be replaced
-  pub record IsRanged (new : List ℕ) (start stop : ℕ) : Type 0 where
-    pub start_cut : AreCut parts start
-    pub stop_cut : AreCut parts stop
-    pub order : start ≤ stop
-    pub within : stop ≤ len
-    pub ordered : AreOrdered parts
-    pub bytes : bytes_of before (replaced_parts parts start stop new) ≡ replace_range (bytes_of before parts) start stop
-        new
-    pub start_at : (bytes : List ℕ) → IsUtf8 bytes → bytes ≡ bytes_of before parts → IsCharBoundary bytes start
-    pub stop_at : (bytes : List ℕ) → IsUtf8 bytes → bytes ≡ bytes_of before parts → IsCharBoundary bytes stop
-    pub short : (bytes : List ℕ) → bytes ≡ bytes_of before parts → length (replace_range bytes start stop new)
-        ≤ 2147483648
-    pub next : length (replaced_parts parts start stop new) < 18446744073709551616
-        → IsNext units before parts changes (record { range = Some range; text = chars new })
-        (replaced_parts parts start stop new) (len - (stop - start) + length new)
-
-  pub ranged : (new : List ℕ) → IsUtf8 new → length (edited_bytes edited) + length new ≤ 2147483648 → (start stop : ℕ)
-      → Ok (start, stop) ≡ places_at 0 (edited_text edited) (ends_of units (edited_text edited) range)
-      → IsRanged new start stop
-  ranged new utf8 room start stop error =
-      let fits : len + length new ≤ 2147483648 = room_told before parts len changes (length new) edited are view room in
-      let ends : AreEnds units (text_of (chars before) (items_of (chars before) parts)) range start stop =
-      ends_seen start stop error in
-      record {
-        start_cut = start_cut units before parts len changes are new utf8 fits range start stop ends;
-        stop_cut = stop_cut units before parts len changes are new utf8 fits range start stop ends;
-        order = (in_order_places units before parts len changes are new utf8 fits range start stop ends).0;
-        within = (in_order_places units before parts len changes are new utf8 fits range start stop ends).1;
-        ordered = parts_ordered units before parts len changes are new utf8 fits;
-        bytes = range_bytes units before parts len changes are new utf8 fits range start stop ends;
-        start_at = start_at units before parts len changes are new utf8 fits range start stop ends;
-        stop_at = stop_at units before parts len changes are new utf8 fits range start stop ends;
-        short = range_short units before parts len changes are new utf8 fits range start stop ends;
-        next = range_next units before parts len changes are new utf8 fits range start stop ends;
-      }
+-- A range whose ends were found in what callers see.
+pub ranged : {before : List ℕ} {parts : List Part} {len changes start stop : ℕ} {whole : PiecesData}
+    → ArePieces before parts len changes → record { edited = seen before parts changes; parts = parts } ≡ whole
+    → (new : List ℕ) → IsUtf8 new → length (edited_bytes whole.edited) + length new ≤ 2147483648
+    → (found : HasRange (edited_text whole.edited) start stop)
+    → IsRanged found.units found.range before parts len changes new start stop
+ranged {before} {parts} {len} {changes} {start} {stop} {whole} are view new utf8 room found =
+    let is = ap (λ (p : PiecesData). p.edited) view in
+    is_ranged found.units before parts len changes are new utf8
+    (room_told before parts len changes (length new) whole.edited are is room) found.range start stop
+    (subst (λ (text : List ℕ). AreEnds found.units text found.range start stop) (sym (ap edited_text is))
+    (ends_told found.units (edited_text whole.edited) found.range 0 start stop found.ends))
 
 pub edit_is : (change : Change) (range : Option Range) (bytes : List ℕ) → change.range ≡ range
     → bytes ≡ string_bytes change.text → record { range = range; text = chars bytes } ≡ content_change change

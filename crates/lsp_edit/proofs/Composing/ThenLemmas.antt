@@ -1,5 +1,5 @@
 -- The fields of pieces that two series of changes make together.
-use Rattle.lsp_edit.proofs.Prelude.{ℕ, ◌≡◌, ◌<◌, List, length, sym, ap, ◌∙◌, subst, arith, encode_utf8_all, chars, IsUtf8, IsUtf8-from_is_utf8, IsCharBoundary-start, plain, text_of, then_items, Keeps, Part, items_of, bytes_of, AreParts, NoneTouch, Ascend, through_parts, AreThrough, ArePieces, PlainData, both_counts, edited_text, common_steps}
+use Rattle.lsp_edit.proofs.Prelude.{ℕ, ◌≡◌, ◌<◌, List, length, sym, ap, ◌∙◌, subst, arith, encode_utf8_all, chars, IsUtf8, IsUtf8-from_is_utf8, IsCharBoundary-start, plain, text_of, then_items, Keeps, Part, items_of, bytes_of, AreParts, NoneTouch, Ascend, through_parts, AreThrough, ArePieces, PlainData, Span, part_of, parts_of, length-map, both_counts, edited_text, common_steps}
 use Rattle.lsp_edit.proofs.Batches.ComposeLemmas.{text_of-then, then-plain, then_keeps}
 use Rattle.lsp_edit.proofs.Parts.CutPartsLemmas.{parts_bytes}
 use Rattle.lsp_edit.proofs.Composing.EditedLemmas.{index_first}
@@ -79,44 +79,51 @@ module _ (before : List ℕ) (parts : List Part) (len changes : ℕ) (mid : List
       error.0 ∙ (ap (then_items (items_of (chars before) parts)) second
       ∙ (then-plain (chars before) (items_of (chars before) parts) ∙ both.are.fresh none))
 
-  module _ (made : List Part) (is : made ≡ through_parts parts more) (small : length made < 18446744073709551616)
-      (count : ℕ) (counted : count ≡ both_counts changes more_changes) where
-    pub then_holds : ArePieces before made more_len count
-    then_holds = record {
-      utf8 = both.are.utf8;
-      are = subst (AreParts before) (sym is) error.1;
-      apart = subst NoneTouch (sym is) (through_apart parts more both.are.apart);
-      keeps = subst (λ (ps : List Part). Keeps (chars before) 0 (items_of (chars before) ps)) (sym is) keeps;
-      long = long ∙ ap (λ (ps : List Part). length (bytes_of before ps)) (sym is);
-      room = both.were.room;
-      few = grind (arith, common_steps, through_few, over_order, over_through);
-      fresh = λ e. ap (λ (ps : List Part). items_of (chars before) ps) is ∙ fresh (omega (arith, counted))
-          (omega (arith, counted));
-    }
+  module _ (spans : List Span) (is : parts_of spans ≡ through_parts parts more)
+      (small : length spans < 18446744073709551616) (count : ℕ) (counted : count ≡ both_counts changes more_changes)
+    where
+      abbrev made : List Part
+      made = parts_of spans
 
-    pub then_told : (first second : PlainData) → seen before parts changes ≡ first → seen mid more more_changes ≡ second
-        → seen before made count ≡ record {
-          before = first.before;
-          items = then_items first.items second.items;
-          changes = both_counts first.changes second.changes;
-        }
-    then_told first second view other =
-        let e : items_of (chars before) made ≡ then_items (items_of (chars before) parts) (items_of (chars mid) more) =
-        ap (λ (ps : List Part). items_of (chars before) ps) is ∙ error.0 in
-        let a : seen before made count ≡ record {
-          before = chars before;
-          items = then_items (items_of (chars before) parts) (items_of (chars mid) more);
-          changes = both_counts changes more_changes;
-        }
-        = λ i. record { before = chars before; items = e i; changes = counted i } in
-        let b : record {
-          before = chars before;
-          items = then_items (items_of (chars before) parts) (items_of (chars mid) more);
-          changes = both_counts changes more_changes;
-        } ≡ record {
-          before = first.before;
-          items = then_items first.items second.items;
-          changes = both_counts first.changes second.changes;
-        }
-        = grind (arith, common_steps) in
-        a ∙ b
+      fits : length made < 18446744073709551616
+      fits = omega (arith, small, length-map spans part_of)
+
+      pub then_holds : ArePieces before made more_len count
+      then_holds = record {
+        utf8 = both.are.utf8;
+        are = subst (AreParts before) (sym is) error.1;
+        apart = subst NoneTouch (sym is) (through_apart parts more both.are.apart);
+        keeps = subst (λ (ps : List Part). Keeps (chars before) 0 (items_of (chars before) ps)) (sym is) keeps;
+        long = long ∙ ap (λ (ps : List Part). length (bytes_of before ps)) (sym is);
+        room = both.were.room;
+        few = grind (arith, common_steps, through_few, over_order, over_through, fits);
+        fresh = λ e. ap (λ (ps : List Part). items_of (chars before) ps) is ∙ fresh (omega (arith, counted))
+            (omega (arith, counted));
+      }
+
+      pub then_told : (first second : PlainData) → seen before parts changes ≡ first → seen mid more more_changes ≡ second
+          → seen before made count ≡ record {
+            before = first.before;
+            items = then_items first.items second.items;
+            changes = both_counts first.changes second.changes;
+          }
+      then_told first second view other =
+          let e : items_of (chars before) made ≡ then_items (items_of (chars before) parts) (items_of (chars mid) more) =
+          ap (λ (ps : List Part). items_of (chars before) ps) is ∙ error.0 in
+          let a : seen before made count ≡ record {
+            before = chars before;
+            items = then_items (items_of (chars before) parts) (items_of (chars mid) more);
+            changes = both_counts changes more_changes;
+          }
+          = λ i. record { before = chars before; items = e i; changes = counted i } in
+          let b : record {
+            before = chars before;
+            items = then_items (items_of (chars before) parts) (items_of (chars mid) more);
+            changes = both_counts changes more_changes;
+          } ≡ record {
+            before = first.before;
+            items = then_items first.items second.items;
+            changes = both_counts first.changes second.changes;
+          }
+          = grind (arith, common_steps) in
+          a ∙ b

@@ -1,5 +1,5 @@
 -- Parts: putting one behind others, and cutting at a place.
-use Rattle.lsp_edit.proofs.Prelude.{ℕ, ◌≡◌, ◌-◌, ◌<◌, ◌≤◌, List, [], ◌∷◌, ◌++◌, refl, sym, ap, ◌∙◌, append_assoc, append-nil, lt-ltb, le-ltb, ne_eqb, map-append, Span, Part, part_of, parts_of, part_len, joined, put_part, front_part, front_parts, back_part, back_parts, IsOrdered, IsCutAt, AreCut}
+use Rattle.lsp_edit.proofs.Prelude.{ℕ, ◌≡◌, ◌-◌, ◌<◌, ◌≤◌, List, [], ◌∷◌, ◌++◌, refl, sym, ap, ◌∙◌, append_assoc, append-nil, lt-ltb, le-ltb, ne_eqb, map-append, Span, Part, part_of, parts_of, part_len, joined, put_part, front_part, front_parts, IsOrdered, IsCutAt, AreCut}
 
 put_behind : (parts : List Part) (last part : Part) → put_part (parts ++ last ∷ []) part ≡ parts ++ joined last part
 put_behind [] last part = refl
@@ -30,9 +30,6 @@ pub record Fronts (made rest : List Part) (left : ℕ) (first parts : List Part)
   pub cut : AreCut rest left
 
 module _ (made rest first parts : List Part) (left place : ℕ) (fronts : Fronts made rest left first parts place) where
-  pub front_all : rest ≡ [] → made ≡ first ++ front_parts parts place
-  front_all e = sym (append-nil made) ∙ (sym (ap (λ (ps : List Part). made ++ front_parts ps left) e) ∙ fronts.made_is)
-
   pub front_none : left ≡ 0 → made ≡ first ++ front_parts parts place
   front_none e =
       sym (append-nil made) ∙ (sym (ap (λ (ps : List Part). made ++ ps) (ap (front_parts rest) e ∙ at_start rest))
@@ -61,26 +58,3 @@ module _ (made rest first parts : List Part) (left place : ℕ) (fronts : Fronts
 
     pub front_ordered : IsOrdered part
     front_ordered = let c : AreCut (part ∷ more) left = rw is at fronts.cut in c.0
-
--- How far parts were passed over on the way to a place: what is left gives the parts behind it.
-pub record Backs (rest : List Part) (left : ℕ) (parts : List Part) (place : ℕ) : Type 0 where
-  pub left_is : back_parts rest left ≡ back_parts parts place
-  pub cut : AreCut rest left
-
-module _ (rest parts : List Part) (left place : ℕ) (backs : Backs rest left parts place) (part : Part)
-    (more : List Part) (is : rest ≡ part ∷ more) where
-  pub back_cut : left < part_len part → (IsCutAt part left) × (back_parts parts place ≡ back_part part left ∷ more)
-  back_cut less =
-      let c : AreCut (part ∷ more) left = rw is at backs.cut in
-      let b : back_parts (part ∷ more) left ≡ back_parts parts place = rw is at backs.left_is in
-      let b2 : back_part part left ∷ more ≡ back_parts parts place = rw (lt-ltb left (part_len part) less) at b in
-      (c.1 less, sym b2)
-
-  pub back_more : part_len part ≤ left → Backs more (left - part_len part) parts place
-  back_more fits =
-      let c : AreCut (part ∷ more) left = rw is at backs.cut in
-      let b : back_parts (part ∷ more) left ≡ back_parts parts place = rw is at backs.left_is in
-      record { left_is = rw (le-ltb left (part_len part) fits) at b; cut = c.2 fits }
-
-  pub back_ordered : IsOrdered part
-  back_ordered = let c : AreCut (part ∷ more) left = rw is at backs.cut in c.0

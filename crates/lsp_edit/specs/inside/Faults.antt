@@ -1,7 +1,5 @@
 -- What only proofs and private contracts use of `Faults`.
-use Rattle.std.specs.Prelude.{ℕ, ◌≡◌, ◌⊎◌, List, Result, Ok, Err}
-use Rattle.lsp_text.specs.declared.position.Range.{Range}
-use Rattle.lsp_edit.specs.declared.fault.EditFault.{EditFault}
+use Rattle.lsp_edit.specs.Prelude.{ℕ, ◌≡◌, ◌⊎◌, List, Result, Ok, Err, Range, EditFault}
 use Rattle.lsp_edit.specs.declared.fault.EditFault.TheVariants.{NoMemory}
 use Rattle.lsp_edit.specs.Batch.{Fault, ends_of}
 use Rattle.lsp_edit.specs.Faults.{fault_at, places_at}

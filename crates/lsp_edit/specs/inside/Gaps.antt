@@ -1,6 +1,5 @@
 -- The change of a gap that is known by byte offsets.
-use Rattle.std.specs.Prelude.{ℕ, if◌then◌else◌, List, [], ◌∷◌}
-use Rattle.std.specs.Str.{chars}
+use Rattle.lsp_edit.specs.Prelude.{ℕ, if◌then◌else◌, List, [], ◌∷◌, chars}
 use Rattle.lsp_edit.specs.Batch.{ContentChange}
 use Rattle.lsp_edit.specs.Canonical.{Gap, is_changed, change_of_gap}
 use Rattle.lsp_edit.specs.Parts.{index_of}

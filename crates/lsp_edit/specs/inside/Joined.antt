@@ -1,6 +1,5 @@
 -- What only proofs and private contracts use of `Joined`.
-use Rattle.std.specs.Prelude.{ℕ, ◌≡◌, List, Ok}
-use Rattle.std.specs.Str.{chars}
+use Rattle.lsp_edit.specs.Prelude.{ℕ, ◌≡◌, List, Ok, chars}
 use Rattle.lsp_edit.specs.Batch.{ContentChange, meaning}
 use Rattle.lsp_edit.specs.Joined.{JoinedData}
 

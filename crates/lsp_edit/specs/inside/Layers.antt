@@ -1,6 +1,5 @@
 -- What only proofs and private contracts use of `Layers`.
-use Rattle.std.specs.Prelude.{ℕ, ◌≡◌, List, Result, Ok}
-use Rattle.std.specs.Str.{IsUtf8, chars}
+use Rattle.lsp_edit.specs.Prelude.{ℕ, ◌≡◌, List, Result, Ok, IsUtf8, chars}
 use Rattle.lsp_edit.specs.Items.{Item}
 use Rattle.lsp_edit.specs.Batch.{Fault}
 use Rattle.lsp_edit.specs.Parts.{Part, AreParts, items_of}

@@ -1,9 +1,6 @@
 -- The text that a batch of changes leaves, for code that doesn't need to know which characters are
 -- old (LSP 3.17, DidChangeTextDocumentParams).
-use Rattle.std.specs.Prelude.{ℕ, suc, ◌≡◌, ◌⊎◌, if◌then◌else◌, nat_le, List, [], ◌∷◌, ◌++◌, take, drop, Option, Some, None, Result, Ok, Err}
-use Rattle.lsp_text.specs.declared.position.Range.{Range}
-use Rattle.lsp_text.specs.Positions.{denoted}
-use Rattle.lsp_edit.specs.declared.fault.EditFault.{EditFault}
+use Rattle.lsp_edit.specs.Prelude.{ℕ, suc, ◌≡◌, ◌⊎◌, if◌then◌else◌, nat_le, List, [], ◌∷◌, ◌++◌, take, drop, Option, Some, None, Result, Ok, Err, Range, denoted, EditFault}
 use Rattle.lsp_edit.specs.declared.fault.EditFault.TheVariants.{NoMemory}
 use Rattle.lsp_edit.specs.Batch.{ContentChange, Fault, InsideStart, InsideStop, Reversed}
 use Rattle.lsp_edit.specs.Delta.{AreEndsIn}

@@ -1,14 +1,10 @@
 -- Text edits with their byte offsets, in the order of their starts. Only proofs and private
 -- contracts use this: `TextEdits` says the same by indexes.
-use Rattle.std.specs.Prelude.{ℕ, suc, ◌≡◌, ◌⊎◌, ◌<◌, ◌≤◌, if◌then◌else◌, nat_lt, List, [], ◌∷◌, ◌++◌, length, string_bytes, Ok, Err}
+use Rattle.lsp_edit.specs.Prelude.{ℕ, suc, ◌≡◌, ◌⊎◌, ◌<◌, ◌≤◌, if◌then◌else◌, nat_lt, List, [], ◌∷◌, ◌++◌, length, string_bytes, Ok, Err, chars, EditFault, TextEdit, TextEditFault, Overlap}
 use Rattle.std.specs.Ordering.{nat_cmp}
 use Rattle.std.specs.List.Sorted.{IsPermutation, IsSortedByKey, IsStableByKey}
-use Rattle.std.specs.Str.{chars}
-use Rattle.lsp_edit.specs.declared.fault.EditFault.{EditFault}
 use Rattle.lsp_edit.specs.declared.text_edits.Placed.{Placed}
-use Rattle.lsp_edit.specs.declared.text_edits.TextEdit.{TextEdit}
-use Rattle.lsp_edit.specs.declared.text_edits.TextEditFault.{TextEditFault}
-use Rattle.lsp_edit.specs.declared.text_edits.TextEditFault.TheVariants.{Overlap, NoMemory}
+use Rattle.lsp_edit.specs.declared.text_edits.TextEditFault.TheVariants.{NoMemory}
 use Rattle.lsp_edit.specs.Faults.{places_at}
 use Rattle.lsp_edit.specs.Batch.{ends_of}
 use Rattle.lsp_edit.specs.Parts.{Part, OldPart, new_parts}

@@ -1,8 +1,5 @@
 -- Laws over every batch that has a meaning, and over its canonical batch.
-use Rattle.std.specs.Prelude.{ℕ, suc, ◌≡◌, ◌≤◌, ◌↔◌, true, false, List, [], ◌∷◌, ◌++◌, length, sum_by, Option, Some, None, Ok}
-use Rattle.lsp_text.specs.declared.position.Range.{Range}
-use Rattle.lsp_text.specs.TextLines.{splits_crlf}
-use Rattle.lsp_text.specs.Positions.{denoted}
+use Rattle.lsp_edit.specs.Prelude.{ℕ, suc, ◌≡◌, ◌≤◌, ◌↔◌, true, false, List, [], ◌∷◌, ◌++◌, length, sum_by, Option, Some, None, Ok, Range, splits_crlf, denoted}
 use Rattle.lsp_edit.specs.Items.{Item, Old, plain, text_of}
 use Rattle.lsp_edit.specs.Batch.{ContentChange, items_after, meaning}
 use Rattle.lsp_edit.specs.Canonical.{DoTheSame, Gap, gaps, is_changed, canonical}

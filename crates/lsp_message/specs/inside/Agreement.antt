@@ -1,12 +1,5 @@
 -- What only private contracts use of `Agreement`: the steps of `offers_of` and `announced_of`.
-use Rattle.std.specs.Prelude.{Bool, false, [], Option, Some, codes}
-use Rattle.serde_json.specs.Data.{Data, Members, no_members}
-use Rattle.serde_json.specs.Find.{get_member}
-use Rattle.lsp_text.specs.declared.encoding.Encoding.TheVariants.{Utf16}
-use Rattle.lsp_message.specs.declared.agreement.Announced.{Announced}
-use Rattle.lsp_message.specs.declared.agreement.Offers.{Offers}
-use Rattle.lsp_message.specs.declared.agreement.SyncKind.{SyncKind}
-use Rattle.lsp_message.specs.declared.agreement.SyncKind.TheVariants.{Off}
+use Rattle.lsp_message.specs.Prelude.{Bool, false, [], Option, Some, codes, Data, Members, no_members, get_member, Utf16, Announced, Offers, SyncKind, Off}
 use Rattle.lsp_message.specs.Values.{◌>>=◌, members_in, texts_in, optional}
 use Rattle.lsp_message.specs.Agreement.{offers_named, sync_in, announced_encoding}
 

@@ -1,16 +1,11 @@
 -- What the code keeps of objects and arrays. In names, `ms` are the members of an object.
-use Rattle.std.specs.Prelude.{◌≡◌, ◌<◌, ℕ, List, ◌∷◌, Bool, true, false, not, Option, Some, None, option_map, option_and_then, is_some, map, codes, ⊤}
-use Rattle.std.specs.Option.{option_map_or}
-use Rattle.json.specs.Token.{Token}
-use Rattle.serde_json.specs.Data.{Data, null, object, Members}
-use Rattle.serde_json.specs.Find.{get_member, as_object, as_array, as_str}
+use Rattle.lsp_message.specs.Prelude.{◌≡◌, ◌<◌, ℕ, List, ◌∷◌, Bool, true, false, not, Option, Some, None, option_map, option_and_then, is_some, map, codes, ⊤, option_map_or, Token, Data, null, object, Members, get_member, as_object, as_array, as_str, Scalar}
 use Rattle.lsp_message.specs.Message.{is_version_two}
 use Rattle.lsp_message.specs.Params.{coordinate_in, version_in, position_in, range_of, content_change_in}
 use Rattle.lsp_message.specs.Seen.{content_change_view}
 use Rattle.lsp_message.specs.Values.{is_null, text_in, member_at, members_in, array_in, each_of}
 use Rattle.lsp_message.specs.declared.reader.object.Object.{Object}
 use Rattle.lsp_message.specs.declared.reader.object.Object.TheVariants as read
-use Rattle.lsp_message.specs.declared.reader.scalar.Scalar.{Scalar}
 use Rattle.lsp_message.specs.declared.reader.position.PositionMembers.{PositionMembers}
 use Rattle.lsp_message.specs.declared.reader.range.RangeMembers.{RangeMembers}
 use Rattle.lsp_message.specs.declared.reader.change.ChangeMembers.{ChangeMembers}

@@ -1,6 +1,5 @@
 -- What only proofs and private contracts use of `Params`.
-use Rattle.std.specs.Prelude.{List, Option, IsSomeAnd}
-use Rattle.serde_json.specs.Data.{Items, Members}
+use Rattle.lsp_message.specs.Prelude.{List, Option, IsSomeAnd, Items, Members}
 use Rattle.lsp_message.specs.Values.{each_of}
 use Rattle.lsp_message.specs.Params.{ContentChangeData, content_change_in, change_by, HasChanges}
 

@@ -1,10 +1,7 @@
 -- The value at the head of tokens, as `serde_json` reads it, and the tokens after it. The suffix
 -- `_at`: read at the head of tokens.
-use Rattle.std.specs.Prelude.{ℕ, List, Option, option_map}
-use Rattle.json.specs.Token.{Token}
+use Rattle.lsp_message.specs.Prelude.{ℕ, List, Option, option_map, Token, Data, Items, Members, of_json, of_items, of_members, converted}
 use Rattle.json.specs.Json.{items, members, value}
-use Rattle.serde_json.specs.Data.{Data, Items, Members}
-use Rattle.serde_json.specs.Read.{of_json, of_items, of_members, converted}
 
 -- A value whose arrays and objects nest at most `depth` deep.
 abbrev pub value_at : ℕ → List Token → Option (Data × List Token)

@@ -1,9 +1,8 @@
 -- What is kept of a value: a text, a whole number or null, and nothing of others.
-use Rattle.std.specs.Prelude.{false}
-use Rattle.serde_json.specs.Data.{Data, null, boolean, number, string, array, object, Num, unsigned, negative, float}
+use Rattle.lsp_message.specs.Prelude.{false, Data, null, boolean, number, array, object, Num, unsigned, negative, float, Scalar}
+use Rattle.serde_json.specs.Data.{string}
 use Rattle.lsp_message.specs.declared.reader.number.Number.{Number}
 use Rattle.lsp_message.specs.declared.reader.number.Number.TheVariants as num
-use Rattle.lsp_message.specs.declared.reader.scalar.Scalar.{Scalar}
 use Rattle.lsp_message.specs.declared.reader.scalar.Scalar.TheVariants as scalar
 
 -- What is kept of a number. A number that isn't whole, or doesn't fit into 64 bits, is kept as a

@@ -1,8 +1,5 @@
 -- What only proofs and private contracts use of `Seen`.
-use Rattle.std.specs.Prelude.{◌≡◌, option_map, Result, Ok, Err}
-use Rattle.lsp_message.specs.declared.message.Message.{Message}
-use Rattle.lsp_message.specs.declared.message.ReadFault.{ReadFault}
-use Rattle.lsp_message.specs.declared.message.ReadFault.TheVariants.{NotJson, NotAMessage, NoMemory}
+use Rattle.lsp_message.specs.Prelude.{◌≡◌, option_map, Result, Ok, Err, Message, ReadFault, NotJson, NotAMessage, NoMemory}
 use Rattle.lsp_message.specs.Message as spec
 use Rattle.lsp_message.specs.Seen.{id_view, message_view}
 

@@ -1,15 +1,9 @@
 -- The tokens of a message's value, as the writer writes them one after another.
-use Rattle.std.specs.Prelude.{◌≡◌, List, [], ◌∷◌, ◌++◌, Option, Some, None, codes, if◌then◌else◌}
+use Rattle.lsp_message.specs.Prelude.{◌≡◌, List, [], ◌∷◌, ◌++◌, Option, Some, None, codes, if◌then◌else◌, Token, Data, Encoding, name_of, Range, Offers}
 use Rattle.json.specs.Token as token
-use Rattle.json.specs.Token.{Token}
 use Rattle.json.specs.Tree.{json_tokens}
 use Rattle.json.specs.Written.{Written}
-use Rattle.serde_json.specs.Data.{Data}
 use Rattle.serde_json.specs.Written.{outline}
-use Rattle.lsp_text.specs.declared.encoding.Encoding.{Encoding}
-use Rattle.lsp_text.specs.Units.{name_of}
-use Rattle.lsp_text.specs.declared.position.Range.{Range}
-use Rattle.lsp_message.specs.declared.agreement.Offers.{Offers}
 use Rattle.lsp_message.specs.Agreement.{is_offered}
 use Rattle.lsp_message.specs.Written.{range_value}
 

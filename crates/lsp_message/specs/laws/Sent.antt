@@ -1,9 +1,7 @@
 -- What the receiver reads a written message as.
-use Rattle.std.specs.Prelude.{◌≡◌, ◌^◌, ◌<◌, true, pos, Some, None, ⊤, codes, FitsSigned, IsUtf8, All, IfSome}
+use Rattle.lsp_message.specs.Prelude.{◌≡◌, ◌^◌, ◌<◌, true, pos, Some, None, ⊤, codes, FitsSigned, All, IfSome, null, object, no_members, Position, Range}
+use Rattle.std.specs.Prelude.{IsUtf8}
 use Rattle.std.specs.Int.{w32, w64}
-use Rattle.serde_json.specs.Data.{null, object, no_members}
-use Rattle.lsp_text.specs.declared.position.Position.{Position}
-use Rattle.lsp_text.specs.declared.position.Range.{Range}
 use Rattle.lsp_message.specs.Agreement.{offers_of, announced_of}
 use Rattle.lsp_message.specs.Message.{IdData, whole, text, given, failed, MessageData, request, notification, response, message, reading}
 use Rattle.lsp_message.specs.Outgoing.{OutgoingData, body_of, initialize, initialized, did_open, did_change, did_close, shutdown, exit, initialize_result, shutdown_result, error_reply}

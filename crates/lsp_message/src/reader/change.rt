@@ -7,7 +7,7 @@ ghost use Rattle.lsp_message.specs.Seen.{content_change_view};
 ghost use Rattle.lsp_message.specs.inside.Reading.{value_at};
 ghost use Rattle.lsp_message.specs.inside.Objects.{IsChangeOf};
 
-use crate::reader::fault::Fault;
+use crate::reader::fault::{Fault, Read};
 use crate::reader::object::{Kept, Object, read_object};
 use crate::reader::range::read_range;
 use crate::reader::scalar::read_text;
@@ -28,12 +28,7 @@ impl<'a> Kept<'a> for ChangeMembers<'a> {
     ghost IsOf = { IsChangeOf };
 
     #[inline(always)]
-    fn read_member(
-        &mut self,
-        reader: &mut Reader<'a>,
-        depth: usize,
-        name: &str,
-    ) -> Result<(), Fault> {
+    fn read_member(&mut self, reader: &mut Reader<'a>, depth: usize, name: &str) -> Read<()> {
         match name {
             "text" => self.text = read_text(reader, depth)?,
             "range" => self.range = read_range(reader, depth)?,
@@ -65,7 +60,7 @@ pub(crate) fn read_change(
     alloc: Global,
     reader: &mut Reader<'_>,
     depth: usize,
-) -> Result<Option<Change>, Fault>
+) -> Read<Option<Change>>
     ensures ok { IfOk result (λ c. (d : Data) × (value_at depth reader.old ≡ Some (d, reader.new))
         × (option_map content_change_view c ≡ content_change_in d)) }
     ensures shorter { OnOk result (length reader.new < length reader.old) }

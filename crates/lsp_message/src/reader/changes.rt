@@ -10,7 +10,7 @@ ghost use Rattle.lsp_message.specs.inside.Reading.{value_at, items_at};
 ghost use Rattle.lsp_message.specs.inside.Objects.{IsArrayOpening};
 
 use crate::reader::change::read_change;
-use crate::reader::fault::Fault;
+use crate::reader::fault::{Fault, Read};
 use crate::reader::skip::skip_value_from;
 use json::{Invalid, Reader, Token};
 use lsp_edit::Change;
@@ -34,11 +34,7 @@ fn open_array(reader: &mut Reader<'_>, depth: usize) -> Result<bool, Invalid>
 }
 
 /// Reads the rest of an array, after its bracket; `None` where an item is no change.
-fn read_items(
-    alloc: Global,
-    reader: &mut Reader<'_>,
-    depth: usize,
-) -> Result<Option<Vec<Change>>, Fault>
+fn read_items(alloc: Global, reader: &mut Reader<'_>, depth: usize) -> Read<Option<Vec<Change>>>
     ensures ok { IfOk result (λ r. (ds : Items)
         × (items_at depth (length reader.old) reader.old ≡ Some (ds, reader.new))
         × (option_map (λ v. map content_change_view v.items) r ≡ each_of content_change_in ds)) }
@@ -66,7 +62,7 @@ pub(crate) fn read_changes(
     alloc: Global,
     reader: &mut Reader<'_>,
     depth: usize,
-) -> Result<Option<Vec<Change>>, Fault>
+) -> Read<Option<Vec<Change>>>
     ensures ok { IfOk result (λ r. (d : Data) × (value_at depth reader.old ≡ Some (d, reader.new))
         × (option_map (λ v. map content_change_view v.items) r
         ≡ option_and_then (each_of content_change_in) (as_array d))) }

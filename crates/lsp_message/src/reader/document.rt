@@ -9,7 +9,7 @@ ghost use Rattle.lsp_message.specs.inside.Reading.{value_at};
 ghost use Rattle.lsp_message.specs.inside.Objects.{IsDocumentOf, IsDocumentIn};
 
 use crate::params::{CloseParams, OpenParams};
-use crate::reader::fault::Fault;
+use crate::reader::fault::{Fault, Read};
 use crate::reader::object::{Kept, Object, read_object};
 use crate::reader::scalar::{read_text, read_version};
 use crate::reader::skip::skip_value;
@@ -29,12 +29,7 @@ impl<'a> Kept<'a> for DocumentMembers<'a> {
     ghost IsOf = { IsDocumentOf };
 
     #[inline(always)]
-    fn read_member(
-        &mut self,
-        reader: &mut Reader<'a>,
-        depth: usize,
-        name: &str,
-    ) -> Result<(), Fault> {
+    fn read_member(&mut self, reader: &mut Reader<'a>, depth: usize, name: &str) -> Read<()> {
         match name {
             "uri" => self.uri = read_text(reader, depth)?,
             "languageId" => self.language = read_text(reader, depth)?,
@@ -94,7 +89,7 @@ impl<'a> DocumentMembers<'a> {
 pub(crate) fn read_document<'a>(
     reader: &mut Reader<'a>,
     depth: usize,
-) -> Result<Option<DocumentMembers<'a>>, Fault>
+) -> Read<Option<DocumentMembers<'a>>>
     ensures ok { IfOk result (λ r. (d : Data) × (value_at depth reader.old ≡ Some (d, reader.new))
         × IsDocumentIn r (as_object d)) }
     ensures shorter { OnOk result (length reader.new < length reader.old) }

@@ -6,6 +6,9 @@ ghost use Rattle.lsp_message.specs.declared.reader.fault.Fault.TheVariants as fa
 use json::Invalid;
 use std::alloc::{AllocError, AllocFailed};
 
+/// What reading a part of a text returns.
+pub(crate) type Read<T> = Result<T, Fault>;
+
 /// Why reading a text stops.
 #[derive(Clone, Copy, Debug, Drop, PartialEq, Eq)]
 pub(crate) enum Fault {

@@ -7,10 +7,12 @@ ghost use Rattle.std.specs.Prelude.{◌≡◌, ℕ, List, option_map, Some, None
 ghost use Rattle.serde_json.specs.Data.{Data};
 ghost use Rattle.serde_json.specs.Read.{read as read_value};
 ghost use Rattle.serde_json.specs.View.{view};
+ghost use Rattle.lsp_message.specs.Message as spec;
 ghost use Rattle.lsp_message.specs.Message.{reading, message_of, not_json};
+ghost use Rattle.lsp_message.specs.Lengths.{notification_params};
 ghost use Rattle.lsp_message.specs.Params.{change_of, ParamsMayAllocate};
-ghost use Rattle.lsp_message.specs.Seen.{id_view, message_view, IsReadFault, incoming_view};
-ghost use Rattle.lsp_message.specs.Incoming.{incoming_of, incoming_by, request_of, notification_of, did_change};
+ghost use Rattle.lsp_message.specs.Seen.{id_view, message_view, IsNoted, IsReadFault, incoming_view};
+ghost use Rattle.lsp_message.specs.Incoming.{incoming_of, incoming_by, request_of, notification_of, other_notification, did_change};
 
 use crate::agreement::{Offers, params_initialize};
 use crate::message::{Id, Message, ReadFault, read};
@@ -20,6 +22,7 @@ use crate::params::{
 use crate::reader::fault::Fault;
 use crate::reader::keystroke::read_keystroke;
 use crate::reader::message::MessageMembers;
+use crate::reader::noted::{Noted, lengths_found};
 use crate::reader::object::{Object, read_object};
 use json::{Reader, Scratch};
 use serde_json::Value;
@@ -95,6 +98,26 @@ impl Incoming {
         read_body(alloc, body, scratch)
     }
 
+    /// Reads what a body asks, as [`Incoming::read`], and what notes of it go by.
+    ///
+    /// A keystroke is read by its bytes. For any other body a tree of its JSON is built.
+    pub fn read_noted(alloc: Global, body: &[u8]) -> Result<(Incoming, Noted), AllocError>
+        ensures ok { IfOk result (λ r. IsNoted (reading body.now) r.0 r.1) }
+        ensures memory { OnErr result (IsUtf8 body.now) }
+    {
+        let Ok(text) = std::str::from_utf8(body) else {
+            return Ok((Incoming::NotJson, Noted::nothing(alloc)));
+        };
+        let Some((params, length)) = read_keystroke(alloc, text)? else {
+            return read_tree(alloc, body);
+        };
+        let noted = Noted {
+            lengths: vec![in alloc; length]?,
+            params: None,
+        };
+        Ok((Incoming::DidChange(Some(params)), noted))
+    }
+
     /// Returns what a message asks, for a caller who has read it. Fails only where memory runs out.
     ///
     /// Linear in the number of changes of a `textDocument/didChange`; texts are moved out of the
@@ -102,11 +125,8 @@ impl Incoming {
     pub fn of(alloc: Global, message: Message) -> Result<Incoming, AllocError>
         ensures { IfOk result (λ m. incoming_view m ≡ incoming_by (message_view message)) }
     {
-        match message {
-            Message::Request { id, method, params } => Ok(request(alloc, id, method, params)),
-            Message::Notification { method, params } => notification(alloc, method, params),
-            Message::Response { id, .. } => Ok(Incoming::Response { id }),
-        }
+        let (incoming, _) = noted_of(alloc, message)?;
+        Ok(incoming)
     }
 }
 
@@ -119,7 +139,10 @@ fn read_body(alloc: Global, body: &[u8], scratch: &mut Scratch) -> Result<Incomi
     };
     match read_text(alloc, text, scratch) {
         Ok(Some(incoming)) => Ok(incoming),
-        Ok(None) => read_tree(alloc, body),
+        Ok(None) => {
+            let (incoming, _) = read_tree(alloc, body)?;
+            Ok(incoming)
+        }
         Err(fault) => unread_text(fault),
     }
 }
@@ -138,19 +161,20 @@ fn unread_text(fault: Fault) -> Result<Incoming, AllocError>
 
 /// Reads a body as a tree of JSON.
 #[inline(never)]
-fn read_tree(alloc: Global, body: &[u8]) -> Result<Incoming, AllocError>
-    ensures { IfOk result (λ m. incoming_view m ≡ incoming_of (reading body.now)) }
+fn read_tree(alloc: Global, body: &[u8]) -> Result<(Incoming, Noted), AllocError>
+    ensures ok { IfOk result (λ r. IsNoted (reading body.now) r.0 r.1) }
 {
     match read(alloc, body) {
-        Ok(message) => Incoming::of(alloc, message),
-        Err(fault) => unread_body(fault),
+        Ok(message) => noted_of(alloc, message),
+        Err(fault) => Ok((unread_body(fault)?, Noted::nothing(alloc))),
     }
 }
 
 /// Turns the fault of a body into what the body asks, or into out of memory.
 fn unread_body(fault: ReadFault) -> Result<Incoming, AllocError>
     ensures ok { IfOk result (λ m. (body : List ℕ) → IsReadFault body fault
-        → incoming_view m ≡ incoming_of (reading body)) }
+        → (incoming_view m ≡ incoming_of (reading body))
+        × (notification_params (reading body) ≡ None)) }
     ensures memory { OnErr result (fault ≡ ReadFault.NoMemory) }
 {
     match fault {
@@ -160,17 +184,34 @@ fn unread_body(fault: ReadFault) -> Result<Incoming, AllocError>
     }
 }
 
+/// Returns what a message asks, and what notes of it go by.
+fn noted_of(alloc: Global, message: Message) -> Result<(Incoming, Noted), AllocError>
+    ensures { IfOk result (λ r. IsNoted (spec.message (message_view message)) r.0 r.1) }
+{
+    match message {
+        Message::Request { id, method, params } => {
+            let incoming = request(alloc, id, method, params);
+            Ok((incoming, Noted::nothing(alloc)))
+        }
+        Message::Notification { method, mut params } => {
+            let lengths = lengths_found(alloc, params.as_ref())?;
+            let incoming = notification(alloc, method, &mut params)?;
+            Ok((incoming, Noted { lengths, params }))
+        }
+        Message::Response { id, .. } => Ok((Incoming::Response { id }, Noted::nothing(alloc))),
+    }
+}
+
 /// Reads a text, a keystroke by its bytes; `None` where it has to be read as a tree.
 fn read_text(alloc: Global, text: &str, scratch: &mut Scratch) -> Result<Option<Incoming>, Fault>
     ensures ok { IfOk result (λ r. IfSome r (λ m. (d : Data) × (read_value text.now ≡ Some d)
         × (incoming_view m ≡ incoming_of (message_of d)))) }
     ensures error { result ≡ Err Fault.NotJson → read_value text.now ≡ None }
 {
-    let found = read_keystroke(alloc, text)?;
-    if found.is_some() {
-        return Ok(found);
+    match read_keystroke(alloc, text)? {
+        Some((params, _)) => Ok(Some(Incoming::DidChange(Some(params)))),
+        None => read_tokens(alloc, text, scratch),
     }
-    read_tokens(alloc, text, scratch)
 }
 
 /// Reads a text by its tokens; `None` where it has to be read as a tree.
@@ -204,19 +245,22 @@ fn request(alloc: Global, id: Id, method: String, params: Option<Value>) -> Inco
     }
 }
 
+/// Returns what a notification asks. The params of one of another method stay.
 fn notification(
     alloc: Global,
     method: String,
-    params: Option<Value>,
+    params: &mut Option<Value>,
 ) -> Result<Incoming, AllocError>
-    ensures { IfOk result (λ m. incoming_view m
-        ≡ notification_of (string_bytes method) (option_map view params)) }
+    ensures asks { IfOk result (λ m. incoming_view m
+        ≡ notification_of (string_bytes method) (option_map view params.old)) }
+    ensures params { IfOk result (λ m. (other : List ℕ)
+        → incoming_view m ≡ other_notification other → params.new ≡ params.old) }
 {
     match method.as_str() {
         "exit" => Ok(Incoming::Exit),
-        "textDocument/didOpen" => Ok(Incoming::DidOpen(params_open(alloc, params).ok())),
-        "textDocument/didChange" => change(alloc, params),
-        "textDocument/didClose" => Ok(Incoming::DidClose(params_close(alloc, params).ok())),
+        "textDocument/didOpen" => Ok(Incoming::DidOpen(params_open(alloc, params.take()).ok())),
+        "textDocument/didChange" => change(alloc, params.take()),
+        "textDocument/didClose" => Ok(Incoming::DidClose(params_close(alloc, params.take()).ok())),
         _ => Ok(Incoming::OtherNotification { method }),
     }
 }

@@ -10,15 +10,14 @@ ghost use Rattle.std.specs.Prelude.{◌≡◌, ◌∷◌, [], Some, IfOk, IfSome
 ghost use Rattle.json.specs.Lex.{lex, between};
 ghost use Rattle.serde_json.specs.Data.{Data};
 ghost use Rattle.serde_json.specs.Read.{read as read_value};
-ghost use Rattle.lsp_message.specs.Incoming.{incoming_of};
+ghost use Rattle.lsp_message.specs.Incoming.{did_change, incoming_of};
 ghost use Rattle.lsp_message.specs.Lengths.{lengths_of};
 ghost use Rattle.lsp_message.specs.Message.{message_of};
-ghost use Rattle.lsp_message.specs.Seen.{change_view, incoming_view};
+ghost use Rattle.lsp_message.specs.Seen.{change_view};
 ghost use Rattle.lsp_message.specs.inside.Lexemes.{in_order, head_lexemes, IsPositionAt, IsRangeAt, IsLengthAt, IsDocumentAt, IsChangesAt, AreParamsAt, IsKeystroke, one_change};
 
 use crate::params::ChangeParams;
 use crate::reader::cursor::Cursor;
-use crate::reader::incoming::Incoming;
 use lsp_edit::Change;
 use lsp_text::{Position, Range};
 use std::alloc::{AllocError, Global};
@@ -238,24 +237,19 @@ impl<'a> Keystroke<'a> {
     }
 }
 
-/// Reads a text as a message with one change in a usual layout; `None` where it is another.
-pub(crate) fn read_keystroke(alloc: Global, text: &str) -> Result<Option<Incoming>, AllocError>
-    ensures { IfOk result (λ r. IfSome r (λ m. (d : Data) × (read_value text.now ≡ Some d)
-        × (incoming_view m ≡ incoming_of (message_of d)))) }
+/// Reads a text as a message with one change in a usual layout, with the `rangeLength` of the
+/// change; `None` where it is another text.
+pub(crate) fn read_keystroke(
+    alloc: Global,
+    text: &str,
+) -> Result<Option<(ChangeParams, Option<u64>)>, AllocError>
+    ensures { IfOk result (λ r. IfSome r (λ k. (d : Data) × (read_value text.now ≡ Some d)
+        × (incoming_of (message_of d) ≡ did_change (Some (change_view k.0)))
+        × (lengths_of (message_of d) ≡ k.1 ∷ []))) }
 {
     let Some(found) = keystroke_of(text) else {
         return Ok(None);
     };
     let params = found.params(alloc)?;
-    Ok(Some(Incoming::DidChange(Some(params))))
-}
-
-/// Returns the `rangeLength` of the change of a text that is a message with one change in a usual
-/// layout; `None` where it is another text.
-pub(crate) fn keystroke_length(text: &str) -> Option<Option<u64>>
-    ensures { IfSome result (λ length. (d : Data) × (read_value text.now ≡ Some d)
-        × (lengths_of (message_of d) ≡ length ∷ [])) }
-{
-    let found = keystroke_of(text)?;
-    Some(found.change.length)
+    Ok(Some((params, found.change.length)))
 }

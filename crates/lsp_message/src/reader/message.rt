@@ -9,7 +9,7 @@ ghost use Rattle.lsp_message.specs.inside.Message.{call_of, answer_of, outcome_o
 ghost use Rattle.lsp_message.specs.inside.Objects.{IsParamsOf, IsMessageOf, IsKeptId, is_failure};
 
 use crate::message::Id;
-use crate::reader::fault::Fault;
+use crate::reader::fault::Read;
 use crate::reader::incoming::Incoming;
 use crate::reader::object::Kept;
 use crate::reader::params::{ParamsMembers, read_params};
@@ -36,12 +36,7 @@ impl<'a> Kept<'a> for MessageMembers<'a> {
     ghost IsOf = { IsMessageOf };
 
     #[inline(always)]
-    fn read_member(
-        &mut self,
-        reader: &mut Reader<'a>,
-        depth: usize,
-        name: &str,
-    ) -> Result<(), Fault> {
+    fn read_member(&mut self, reader: &mut Reader<'a>, depth: usize, name: &str) -> Read<()> {
         match name {
             "jsonrpc" => self.is_version_two = read_scalar(reader, depth)?.is_two(),
             "method" => self.method = Some(read_text(reader, depth)?),

@@ -5,7 +5,7 @@ ghost use Rattle.serde_json.specs.Data.{Data, Members, no_members, put};
 ghost use Rattle.lsp_message.specs.inside.Reading.{value_at, members_at};
 ghost use Rattle.lsp_message.specs.inside.Objects.{IsObject};
 
-use crate::reader::fault::Fault;
+use crate::reader::fault::{Fault, Read};
 use crate::reader::skip::skip_value_from;
 use json::{Invalid, Reader, Token};
 
@@ -15,12 +15,7 @@ pub(crate) trait Kept<'a>: Drop {
     ghost IsOf: { Self → Members → Type 0 };
 
     /// Reads the member of this name. The last of several members of one name counts.
-    fn read_member(
-        &mut self,
-        reader: &mut Reader<'a>,
-        depth: usize,
-        name: &str,
-    ) -> Result<(), Fault>
+    fn read_member(&mut self, reader: &mut Reader<'a>, depth: usize, name: &str) -> Read<()>
         ensures ok { OnOk result ((d : Data) × (value_at depth reader.old ≡ Some (d, reader.new))
             × ((ms : Members) → IsOf self.old ms → IsOf self.new (put name.now d ms))) }
         ensures shorter { OnOk result (length reader.new < length reader.old) }
@@ -43,7 +38,7 @@ pub(crate) fn read_object<'a, K: Kept<'a>>(
     kept: K,
     reader: &mut Reader<'a>,
     depth: usize,
-) -> Result<Object<K>, Fault>
+) -> Read<Object<K>>
     requires { K.IsOf kept no_members }
     ensures ok { IfOk result (λ o. (d : Data) × (value_at depth reader.old ≡ Some (d, reader.new))
         × IsObject K.IsOf o d) }
@@ -68,7 +63,7 @@ pub(crate) fn read_object<'a, K: Kept<'a>>(
 }
 
 /// Reads the rest of an object, after its brace.
-fn read_members<'a, K: Kept<'a>>(kept: K, reader: &mut Reader<'a>, depth: usize) -> Result<K, Fault>
+fn read_members<'a, K: Kept<'a>>(kept: K, reader: &mut Reader<'a>, depth: usize) -> Read<K>
     requires { K.IsOf kept no_members }
     ensures ok { IfOk result (λ kept. (ms : Members)
         × (members_at depth (length reader.old) no_members reader.old ≡ Some (ms, reader.new))

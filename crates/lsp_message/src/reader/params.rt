@@ -12,7 +12,7 @@ ghost use Rattle.lsp_message.specs.inside.Objects.{IsParamsOf, AreParamsMembers}
 use crate::params::{ChangeParams, CloseParams, OpenParams};
 use crate::reader::changes::read_changes;
 use crate::reader::document::{DocumentMembers, read_document};
-use crate::reader::fault::Fault;
+use crate::reader::fault::{Fault, Read};
 use crate::reader::object::{Kept, Object, read_object};
 use crate::reader::skip::skip_value;
 use json::Reader;
@@ -33,12 +33,7 @@ impl<'a> Kept<'a> for ParamsMembers<'a> {
     ghost IsOf = { AreParamsMembers };
 
     #[inline(always)]
-    fn read_member(
-        &mut self,
-        reader: &mut Reader<'a>,
-        depth: usize,
-        name: &str,
-    ) -> Result<(), Fault> {
+    fn read_member(&mut self, reader: &mut Reader<'a>, depth: usize, name: &str) -> Read<()> {
         match name {
             "textDocument" => self.document = read_document(reader, depth)?,
             "contentChanges" => self.changes = read_changes(self.alloc, reader, depth)?,
@@ -118,7 +113,7 @@ pub(crate) fn read_params<'a>(
     alloc: Global,
     reader: &mut Reader<'a>,
     depth: usize,
-) -> Result<ParamsMembers<'a>, Fault>
+) -> Read<ParamsMembers<'a>>
     ensures ok { IfOk result (λ kept. (d : Data)
         × (value_at depth reader.old ≡ Some (d, reader.new)) × IsParamsOf kept (Some d)) }
     ensures shorter { OnOk result (length reader.new < length reader.old) }

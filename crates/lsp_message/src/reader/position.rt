@@ -6,7 +6,7 @@ ghost use Rattle.lsp_message.specs.Params.{position_in};
 ghost use Rattle.lsp_message.specs.inside.Reading.{value_at};
 ghost use Rattle.lsp_message.specs.inside.Objects.{IsPositionOf};
 
-use crate::reader::fault::Fault;
+use crate::reader::fault::{Fault, Read};
 use crate::reader::object::{Kept, Object, read_object};
 use crate::reader::scalar::read_coordinate;
 use crate::reader::skip::skip_value;
@@ -24,12 +24,7 @@ impl<'a> Kept<'a> for PositionMembers {
     ghost IsOf = { IsPositionOf };
 
     #[inline(always)]
-    fn read_member(
-        &mut self,
-        reader: &mut Reader<'a>,
-        depth: usize,
-        name: &str,
-    ) -> Result<(), Fault> {
+    fn read_member(&mut self, reader: &mut Reader<'a>, depth: usize, name: &str) -> Read<()> {
         match name {
             "line" => self.line = read_coordinate(reader, depth)?,
             "character" => self.character = read_coordinate(reader, depth)?,
@@ -51,10 +46,7 @@ impl PositionMembers {
 }
 
 /// Reads a value as a position; `None` where it is none.
-pub(crate) fn read_position(
-    reader: &mut Reader<'_>,
-    depth: usize,
-) -> Result<Option<Position>, Fault>
+pub(crate) fn read_position(reader: &mut Reader<'_>, depth: usize) -> Read<Option<Position>>
     ensures ok { IfOk result (λ p. (d : Data) × (value_at depth reader.old ≡ Some (d, reader.new))
         × (p ≡ position_in (Some d))) }
     ensures shorter { OnOk result (length reader.new < length reader.old) }

@@ -6,7 +6,7 @@ ghost use Rattle.lsp_message.specs.Params.{range_of};
 ghost use Rattle.lsp_message.specs.inside.Reading.{value_at};
 ghost use Rattle.lsp_message.specs.inside.Objects.{IsRangeOf};
 
-use crate::reader::fault::Fault;
+use crate::reader::fault::{Fault, Read};
 use crate::reader::object::{Kept, Object, read_object};
 use crate::reader::position::read_position;
 use crate::reader::skip::skip_value;
@@ -24,12 +24,7 @@ impl<'a> Kept<'a> for RangeMembers {
     ghost IsOf = { IsRangeOf };
 
     #[inline(always)]
-    fn read_member(
-        &mut self,
-        reader: &mut Reader<'a>,
-        depth: usize,
-        name: &str,
-    ) -> Result<(), Fault> {
+    fn read_member(&mut self, reader: &mut Reader<'a>, depth: usize, name: &str) -> Read<()> {
         match name {
             "start" => self.start = read_position(reader, depth)?,
             "end" => self.stop = read_position(reader, depth)?,
@@ -52,10 +47,7 @@ impl RangeMembers {
 
 /// Reads a value as a range: `Some(None)` where it is null, which means the whole text; `None`
 /// where it is neither.
-pub(crate) fn read_range(
-    reader: &mut Reader<'_>,
-    depth: usize,
-) -> Result<Option<Option<Range>>, Fault>
+pub(crate) fn read_range(reader: &mut Reader<'_>, depth: usize) -> Read<Option<Option<Range>>>
     ensures ok { IfOk result (λ r. (d : Data) × (value_at depth reader.old ≡ Some (d, reader.new))
         × (r ≡ range_of (Some d))) }
     ensures shorter { OnOk result (length reader.new < length reader.old) }

@@ -1,11 +1,9 @@
 -- Definitions for the private functions of this crate: the first frame of a queue, the call of an
 -- event, and what is sent as frames.
-use Rattle.std.specs.Prelude.{ℕ, List, [], ◌∷◌, ⊤}
-use Rattle.lsp_server.specs.Answer.{AnswerData, reply, changed, ignored, refused, exits, Sent}
+use Rattle.lsp_pair.specs.Prelude.{ℕ, List, [], ◌∷◌, ⊤, AnswerData, reply, changed, ignored, refused, exits, Call, DeliveredData, Did}
+use Rattle.lsp_server.specs.Answer.{Sent}
 use Rattle.lsp_client.specs.Step as client
-use Rattle.lsp_client.specs.Step.{Call, DeliveredData}
 use Rattle.lsp_server.specs.Step as server
-use Rattle.lsp_pair.specs.declared.event.Did.{Did}
 use Rattle.lsp_pair.specs.declared.event.Did.TheVariants as done
 use Rattle.lsp_pair.specs.Events.{EventData, calls, to_server, to_client}
 use Rattle.lsp_pair.specs.Pair.{PairData}

@@ -1,6 +1,5 @@
 -- The documents of both ends, by the document commands that were sent and delivered.
-use Rattle.std.specs.Prelude.{◌≡◌, List, [], ◌++◌, take}
-use Rattle.lsp_store.specs.Table.{table_of}
+use Rattle.lsp_pair.specs.Prelude.{◌≡◌, List, [], ◌++◌, take, table_of}
 use Rattle.lsp_pair.specs.Events.{Setting, EventData}
 use Rattle.lsp_pair.specs.Pair.{PairData, IsFitting}
 use Rattle.lsp_pair.specs.laws.World.{ClientMessage, commands_in, world_of, client_of}

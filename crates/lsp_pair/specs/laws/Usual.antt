@@ -1,13 +1,8 @@
 -- What happens in the deliveries of a pair, and what both ends agree on.
-use Rattle.std.specs.Prelude.{◌≡◌, Bool, true, false, slice_get, MatchOption, Some, None, ⊤}
+use Rattle.lsp_pair.specs.Prelude.{◌≡◌, Bool, true, false, slice_get, MatchOption, Some, None, ⊤, OutgoingData, encoding_chosen, announced_kind, Agreed, Happened, Server, Client, Nothing}
 use Rattle.lsp_message.specs.Outgoing as outgoing
-use Rattle.lsp_message.specs.Outgoing.{OutgoingData}
-use Rattle.lsp_server.specs.Choice.{encoding_chosen, announced_kind}
-use Rattle.lsp_client.specs.declared.agreed.Agreed.{Agreed}
 use Rattle.lsp_client.specs.declared.phase.Phase.{Phase}
 use Rattle.lsp_client.specs.declared.phase.Phase.TheVariants.{New, Asked, Failed}
-use Rattle.lsp_pair.specs.declared.event.Happened.{Happened}
-use Rattle.lsp_pair.specs.declared.event.Happened.TheVariants.{Server, Client, Nothing}
 use Rattle.lsp_pair.specs.declared.event.Did.TheVariants as done
 use Rattle.lsp_pair.specs.declared.event.Heard.TheVariants as heard
 use Rattle.lsp_pair.specs.Events.{Setting, EventData, calls, to_server, to_client}

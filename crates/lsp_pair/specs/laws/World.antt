@@ -1,28 +1,21 @@
 -- The world of a list of events: what both ends sent, how much of it was delivered, and the state
 -- of each end then. It has no bytes, and one function defines the documents of both ends.
-use Rattle.std.specs.Prelude.{ℕ, ℤ, ◌+◌, List, [], ◌∷◌, ◌++◌, take, map, slice_get, FitsSigned, IsUtf8, Option, Some, None, Result, Ok, Err, ⊤}
+use Rattle.lsp_pair.specs.Prelude.{ℕ, ℤ, ◌+◌, List, [], ◌∷◌, ◌++◌, take, map, slice_get, FitsSigned, IsUtf8, Option, Some, None, Result, Ok, Err, ⊤, message, OutgoingData, Command, opens, changes, closes, table_of, ClientFault, Agreed, Call, orders, Order, Happened, Refused, Server, Client, Nothing}
 use Rattle.std.specs.Int.{w32}
 use Rattle.lsp_text.specs.declared.encoding.Encoding.{Encoding}
 use Rattle.lsp_edit.specs.Batch.{ContentChange}
-use Rattle.lsp_message.specs.Message.{message}
 use Rattle.lsp_message.specs.Outgoing as outgoing
-use Rattle.lsp_message.specs.Outgoing.{OutgoingData}
 use Rattle.lsp_message.specs.laws.Sent.{sent, IsProperDocument}
-use Rattle.lsp_store.specs.Table.{Command, opens, changes, closes, table_of}
 use Rattle.lsp_store.specs.Message.{AreTexts, written_content_change}
 use Rattle.lsp_server.specs.declared.phase.Phase as server_phase
 use Rattle.lsp_server.specs.declared.phase.Phase.TheVariants as server_phases
 use Rattle.lsp_server.specs.Incoming as incoming
 use Rattle.lsp_server.specs.Incoming.{IncomingData}
 use Rattle.lsp_server.specs.Step as server
-use Rattle.lsp_client.specs.declared.fault.ClientFault.{ClientFault}
-use Rattle.lsp_client.specs.declared.agreed.Agreed.{Agreed}
 use Rattle.lsp_client.specs.declared.phase.Phase as client_phase
 use Rattle.lsp_client.specs.declared.phase.Phase.TheVariants as client_phases
 use Rattle.lsp_client.specs.Step as client
-use Rattle.lsp_client.specs.Step.{Call, orders, Order}
-use Rattle.lsp_pair.specs.declared.event.Happened.{Happened}
-use Rattle.lsp_pair.specs.declared.event.Happened.TheVariants.{Sent, Refused, Server, Client, Nothing}
+use Rattle.lsp_pair.specs.declared.event.Happened.TheVariants.{Sent}
 use Rattle.lsp_pair.specs.Events.{Setting, EventData, calls, to_server, to_client, did_of, replies_in, heard_of, messages_in}
 
 -- A message of the client: a document command, with the batch that the caller passed, or a message

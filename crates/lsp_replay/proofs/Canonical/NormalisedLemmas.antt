@@ -6,9 +6,6 @@ use Rattle.lsp_replay.proofs.Records.JudgeLemmas.{judged_held, judged_again}
 
 -- ---- a course, a record at a time
 
-abbrev pub course_by : View (Unit {0}) → Session → Record → List Record → Judged → RecordOutput → RunOutput
-course_by view s r rs j g = followed_by g.out g.end (run_output_in view j.session rs)
-
 -- what is known of a record's judgement and of what it gives tells the course
 pub command_output : (view : View (Unit {0})) (s : Session) (r : Record) (rs : List Record) (j : Judged)
     (out : List ℕ) → judge s r ≡ j → view.record_output tt s r j ≡ writes out

@@ -39,17 +39,6 @@ opened_version : (params : Option Data) → OnSome IsOpenVersion (open_of params
 opened_version params =
     on_then (λ ms. ⊤) IsOpenVersion open_by (λ ms h. open_version ms) (document_in params) (any (document_in params))
 
-changed_version : (params : Option Data) → OnSome IsChangeVersion (change_of params)
-changed_version params =
-    on_then (λ p. ⊤) IsChangeVersion (λ p. change_by p.0 p.1)
-    (λ p h. on_then (λ uri. ⊤) IsChangeVersion _
-    (λ uri i. on_then VersionFits IsChangeVersion _
-    (λ version fits. on_then (λ es. ⊤) IsChangeVersion _ (λ es u. fits) (each_of content_change_in p.1)
-    (any (each_of content_change_in p.1)))
-    (version_in (get_member (codes "version") p.0)) (version_fits (get_member (codes "version") p.0)))
-    (text_in (get_member (codes "uri") p.0)) (any (text_in (get_member (codes "uri") p.0))))
-    (document_and_changes params) (any (document_and_changes params))
-
 abbrev HasVersion : IncomingData → Type 0
 HasVersion (did_open params) = OnSome IsOpenVersion params
 HasVersion (did_change params) = OnSome IsChangeVersion params

@@ -1,5 +1,5 @@
 -- All lines of `trace`.
-use Rattle.lsp_replay.proofs.Prelude.{ℕ, suc, ◌^◌, ◌<◌, List, [], ◌∷◌, refl, arith, All, Json, LimitsData, AreInRange, reading, incoming_of, Record, Details, followed_by, unless_bad, writes, RunOutput, Known, known_after, Session, Verdict, answered, recorded, bad, judge, trace_line, tracing, lines_in, AreJsonLines, IsJsonLine, TraceJsonLaw, trace_value, unless_bad_value, values_from, common_steps}
+use Rattle.lsp_replay.proofs.Prelude.{ℕ, suc, ◌^◌, ◌<◌, List, [], ◌∷◌, refl, arith, All, Json, LimitsData, AreInRange, reading, incoming_of, Record, Details, followed_by, unless_bad, writes, RunOutput, Known, known_after, Session, Verdict, answered, recorded, bad, judge, trace_line, tracing, AreJsonLines, IsJsonLine, TraceJsonLaw, trace_value, unless_bad_value, values_from, common_steps, output_in, lines}
 use Rattle.lsp_replay.proofs.JsonLines.FitLemmas.{IsFit, judged_fits}
 use Rattle.lsp_replay.proofs.JsonLines.LineLemmas.{trace_json}
 
@@ -12,13 +12,15 @@ by_verdict _ r line value c values is more = (line, c.out, refl, is, more)
 
 module _ (limits : LimitsData) (ranges : AreInRange limits) (details : Details) where
   lines_json : (known : Known) (s : Session) (rs : List Record) → All (λ (r : Record). r.head.place < 2 ^ 64) rs
-      → IsFit limits known s → AreJsonLines (lines_in (tracing details) known s rs).out (values_from details known s rs)
+      → IsFit limits known s → AreJsonLines (output_in (lines (tracing details)) known s rs).out
+      (values_from details known s rs)
   lines_json known s [] places fits = refl
   lines_json known s (r ∷ rs) places fits =
       let next = known_after known s r.head r.body (judge s r) in
       by_verdict (judge s r).verdict r (trace_line details known s r (judge s r) (incoming_of (reading r.body)))
       (trace_value details known s r (judge s r) (incoming_of (reading r.body)))
-      (lines_in (tracing details) next (judge s r).session rs) (values_from details next (judge s r).session rs)
+      (output_in (lines (tracing details)) next (judge s r).session rs)
+      (values_from details next (judge s r).session rs)
       (trace_json limits ranges details known s r fits (places 0 r (omega arith)))
       (lines_json next (judge s r).session rs (λ k d l. places (suc k) d (omega arith))
       (judged_fits limits known s r fits))

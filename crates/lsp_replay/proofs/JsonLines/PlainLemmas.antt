@@ -54,7 +54,7 @@ utf8_plain s h = IsUtf8-are_ascii s (ascii_plain s h)
 plain_digit : (d : ℕ) → d < 10 → is_ascii_plain (digit_glyph false d) ≡ true
 plain_digit d l = grind (arith, common_steps, lt-ltb, ne_eqb, le-ltb)
 
-either_plain : (b : Bool) (x y : List ℕ) → IsPlain x → IsPlain y → IsPlain (if b then x else y)
+pub either_plain : (b : Bool) (x y : List ℕ) → IsPlain x → IsPlain y → IsPlain (if b then x else y)
 either_plain true x y h k = h
 either_plain false x y h k = k
 

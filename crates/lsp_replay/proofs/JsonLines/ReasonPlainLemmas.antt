@@ -8,7 +8,7 @@ use Rattle.lsp_server.specs.Codes.{server_refusal_code}
 use Rattle.lsp_server.specs.declared.answer.Refusal.{Refusal}
 use Rattle.lsp_server.specs.declared.answer.Refusal.TheVariants.{InvalidParams as BadParams, Store}
 use Rattle.lsp_replay.specs.declared.notes.Note.TheVariants.{OpenAlready, LoneReturn, OldVersion, NoChanges, WholeText, PastEnd, WrongLength, SameText, OtherSaved}
-use Rattle.lsp_replay.proofs.JsonLines.PlainLemmas.{IsPlain, is_ascii_plain, plain-append, plain_decimal, plain_signed}
+use Rattle.lsp_replay.proofs.JsonLines.PlainLemmas.{IsPlain, either_plain, is_ascii_plain, plain-append, plain_decimal, plain_signed}
 
 -- ---- the word of an answer
 
@@ -59,10 +59,6 @@ plain_edit p (ReversedRange change) =
       plain_end Stop (range_sent p change),
     )
 plain_edit p NoMemoryToEdit = refl
-
-either_plain : (b : Bool) (x y : List ℕ) → IsPlain x → IsPlain y → IsPlain (if b then x else y)
-either_plain true x y h k = h
-either_plain false x y h k = k
 
 plain_idle : (p : Option ChangeData) → IsPlain (idle_words p)
 plain_idle p = either_plain (is_idle p) (codes ", and it has no changes") [] refl refl

@@ -102,19 +102,6 @@ hex_good a b c d =
 unit_scalar : (u : ℕ) → u < 65536 → is_high_surrogate u ≡ false → is_low_surrogate u ≡ false → scalar u ≡ true
 unit_scalar u small high low = grind (arith, nat_tests)
 
-pair_scalar : (high low : ℕ) → is_high_surrogate high ≡ true → is_low_surrogate low ≡ true
-    → scalar (surrogate_pair high low) ≡ true
-pair_scalar high low h l =
-    let p = and_parts (nat_le 0xd800 high) (nat_lt high 0xdc00) h in
-    let q = and_parts (nat_le 0xdc00 low) (nat_lt low 0xe000) l in
-    let a = leb-true _ _ p.0 in
-    let b = ltb-true _ _ p.1 in
-    let c = leb-true _ _ q.0 in
-    let d = ltb-true _ _ q.1 in
-    let above : 65536 ≤ surrogate_pair high low = omega arith in
-    let below : surrogate_pair high low < 1114112 = omega arith in
-    grind (arith, nat_tests)
-
 -- ---- the content, in at most so many bytes
 
 abbrev GoodUpTo : ℕ → Type 0

@@ -19,23 +19,9 @@ use Rattle.lsp_replay.proofs.Squash.JoiningLemmas.{begun_open, is_begun, is_long
 
 -- ---- what a running server answers to a change
 
-step_accepted : (server : ServerData) (p : ChangeData) → server.phase ≡ Running → refusal_of server p ≡ None
-    → (step_on server (did_change (Some p))).answer ≡ changed
-step_accepted server p running may = rw (running, may) refl
-
-step_refused : (server : ServerData) (p : ChangeData) → server.phase ≡ Running → (refusal : Refusal)
-    → refusal_of server p ≡ Some refusal → (step_on server (did_change (Some p))).answer
-    ≡ refused (Store (refusal_fault refusal))
-step_refused server p running refusal is = rw (running, is) refl
-
 is_changed : (a : Answer) → answer_view a ≡ changed → a ≡ Changed
 is_changed Changed e = refl
 is_changed _ e = absurd (cc)
-
--- An answer in place of a plan is a refusal.
-pub answered_some : (server : ServerData) (p : ChangeData) → server.phase ≡ Running → (a : Answer)
-    → IsNotObeyed server (step_on server (did_change (Some p))) a → refusal_of server p ≢ None
-answered_some server p running a why = grind (arith, common_steps, is_changed, step_accepted)
 
 -- What the server planned, as a session sees its server.
 module _ {inside server : ServerData} (same : inside ≡ server) (p : ChangeData) {planned found : PlannedChange}
@@ -68,24 +54,6 @@ module _ (s : Session) (p : ChangeData) (running : s.server.phase ≡ Running) (
       → judge_client s version (did_change (Some p)) ≡ judged (answered (refused (Store (refusal_fault refusal))))
       (record s { messages = one_more s.messages; refusals = one_more s.refusals })
   refused_by version refusal is = rw (running, known, is) refl
-
-  refused_for : (a : Answer) → IsNotObeyed s.server (step_on s.server (did_change (Some p))) a → (r : Option Refusal)
-      → refusal_of s.server p ≡ r → (new : Session)
-      → new ≡ record s { records = one_more s.records; messages = one_more s.messages; refusals = one_more s.refusals }
-      → IsChangeTaken s p (answered (answer_view a)) new
-  refused_for a why None is new new_is = absurd (answered_some s.server p running a why is)
-  refused_for a why (Some refusal) is new new_is = grind (arith, common_steps, step_refused, refused_by)
-
-  pub refused_taken : (a : Answer) → IsNotObeyed s.server (step_on s.server (did_change (Some p))) a → (t : Session)
-      → t ≡ s → (records : ℕ) → records ≡ one_more t.records
-      → (messages : ℕ) → messages ≡ one_more t.messages → (refusals : ℕ) → refusals ≡ one_more t.refusals
-      → IsChangeTaken s p (answered (answer_view a)) (record t {
-        records = records;
-        messages = messages;
-        refusals = refusals;
-      })
-  refused_taken a why t same records records_is messages messages_is refusals refusals_is =
-      grind (arith, common_steps, refused_for)
 
 -- ---- a record that is a change which a running server receives
 
@@ -130,9 +98,6 @@ module _ {s new : Session} {p : ChangeData} {verdict : Verdict} (running : s.ser
     accepted = λ is. (seen, ap (λ (u : Session). u.server) (v.session One) ∙ running_leaves s One p running known may);
     refused = λ is. absurd (is may);
   }
-
-  pub refused_witnessed : refusal_of s.server p ≢ None → Same → IsChangeWitnessed Same HasSeen s new p verdict
-  refused_witnessed some same = record { taken = v; accepted = λ may. absurd (some may); refused = λ is. same }
 
 -- ---- any other record
 
@@ -261,13 +226,6 @@ pub message_is : {T : Type 0} (message : Result T StoreFault) (out : Result (Opt
 message_is (Ok m) out ok error made is = grind (arith, common_steps)
 message_is (Err fault) out ok error made is = grind (arith, common_steps)
 
-module _ {T : Type 0} (Q : Type 0) where
-  pub message_on : (message : Result T StoreFault) (out : Result (Option T) AllocError)
-      → IfOk message (λ m. out ≡ Ok (Some m)) → IfErr message (λ fault. IfOk out (λ m. (fault ≢ NoMemory) × (m ≡ None)))
-      → (made : T) → out ≡ Ok (Some made) → OnOk message Q → Q
-  message_on message out ok error made is q =
-      subst (λ (r : Result T StoreFault). OnOk r Q) (message_is message out ok error made is) q
-
 pub record IsRefusedMessage (Q : StoreFault → Type 0) : Type 0 where
   pub fault : StoreFault
   pub other : fault ≢ NoMemory
@@ -373,12 +331,6 @@ module _ (server : ServerData) (p : ChangeData) {plan : Plan} (q : IsPlanOfChang
         )
 
 module _ (store : StoreData) (plan : Plan) where
-  pub body_appended : (old new : List ℕ) (uri : List ℕ) (version : ℤ) (encoding : Encoding) (batch : List ContentChange)
-      → IsPlanOf store uri version encoding batch plan → IsBodyOfPlan store plan old new
-      → IsAppended store.limits.max_body (Some (canonical_body (units_in encoding) store.table uri version batch))
-      (Some Body) old new
-  body_appended old new uri version encoding batch q body = grind (arith, common_steps)
-
   pub body_too_long : (fault : StoreFault) → fault ≢ NoMemory → IsMessageFault store plan fault
       → (uri : List ℕ) (version : ℤ) (encoding : Encoding) (batch : List ContentChange)
       → IsPlanOf store uri version encoding batch plan

@@ -30,9 +30,6 @@ module _ (units : ℕ → ℕ) (text : List ℕ) (p : Position) where
           let same : offset ≡ place_of text k = cc in
           ap (λ (q : Position). Some q) (exact k whole.within (sym same))
 
-  pub taken_none : None ≡ option_map (place_of text) (denoted units text p) → None ≡ taken_as units text p
-  taken_none is = grind (arith, common_steps)
-
 -- ---- what a change replaces
 
 module _ (units : ℕ → ℕ) (bytes : List ℕ) (range : Range) where
@@ -177,27 +174,8 @@ pub record Noting (terms : Terms) (all : List Note) (index : ℕ) (rest : List C
   pub noted : notes ++ notes_from terms index left (map content_change rest) ≡ all
   pub size : length left ≤ 1073741824
 
-module _ (terms : Terms) (all : List Note) (index : ℕ) (change : Change) (rest more : List Change) (left : List ℕ)
-    (notes next : List Note) (is : rest ≡ change ∷ more) (noting : Noting terms all index rest left notes)
-    (pushed : next ≡ notes ++ change_notes terms (chars left) index (content_change change)) where
-  here : next ++ notes_after (λ (text : List ℕ). notes_from terms (suc index) text (map content_change more))
-      (left_by terms.units left (content_change change)) ≡ all
-  here = grind (arith, common_steps, append_assoc)
-
-  pub noting_on : (text : List ℕ) → left_by terms.units left (content_change change) ≡ Some text
-      → length text ≤ 1073741824 → Noting terms all (index + 1) more text next
-  noting_on text leaves size = grind (arith, common_steps)
-
-  pub noting_ends : left_by terms.units left (content_change change) ≡ None → next ≡ all
-  noting_ends leaves = sym (append-nil next) ∙ (rw leaves at here)
-
 -- ---- in words
 
 -- How far the notes after the first were written.
 abbrev pub Writing : List ℕ → List ℕ → List Note → List ℕ → Type 0
 Writing all between rest buffer = buffer ++ flat_map (λ note. between ++ note_words note) rest ≡ all
-
-pub writing_on : (all between buffer one two : List ℕ) (note : Note) (rest more : List Note) → rest ≡ note ∷ more
-    → Writing all between rest buffer → one ≡ buffer ++ between → two ≡ one ++ note_words note
-    → Writing all between more two
-writing_on all between buffer one two note rest more is writing first second = grind (arith, common_steps, append_assoc)

@@ -1,5 +1,5 @@
 -- The reason of a record, by the change that a running server received: a change that isn't received isn't refused.
-use Rattle.lsp_replay.proofs.Prelude.{◌≡◌, ◌⊎◌, inl, inr, ℕ, Bool, true, false, List, Option, Some, None, refl, sym, ap, ◌∙◌, subst, ⊎_elim, ⊤, ◌&&◌, is_none, if◌then◌else◌, LimitsData, IdData, Reading, reading, ChangeData, Phase, New, Running, Down, Ended, already_ended, changed, dropped, exits, ignored, refused, reply, IncomingData, did_change, incoming_of, Head, Sender, Client, Server, Version, change_in, Listing, Note, Seen, listed_line, is_strict_refusal, Session, Verdict, answered, recorded, bad, encoding_for, is_running, judge_client, judge_from, judge_server, reason_json, body_read, reason_of, judge_at, received_of}
+use Rattle.lsp_replay.proofs.Prelude.{◌≡◌, ◌⊎◌, inl, inr, ℕ, Bool, true, false, List, Option, Some, None, refl, sym, ap, ◌∙◌, subst, ⊎_elim, ⊤, ◌&&◌, is_none, if◌then◌else◌, LimitsData, IdData, reading, ChangeData, Phase, New, Running, Down, Ended, already_ended, changed, dropped, exits, ignored, refused, reply, IncomingData, did_change, incoming_of, Head, Sender, Client, Server, Version, change_in, Listing, Note, Seen, listed_line, is_strict_refusal, Session, Verdict, answered, recorded, bad, encoding_for, is_running, judge_client, judge_from, judge_server, reason_json, body_read, reason_of, judge_at, received_of}
 use Rattle.lsp_replay.proofs.Canonical.CanonicalLogLemmas.{heard_as}
 use Rattle.lsp_replay.proofs.Records.JudgeLemmas.{asks_change}
 
@@ -88,23 +88,23 @@ module _ {X : Type 0} (f : Option ChangeData → Verdict → X)
       ∙ sym (quiet (change_in (incoming_of (reading body))) (judge_at s head body).verdict q))
       (received_at s body head.version head.side)
 
-module _ (listing : Listing) (limits : LimitsData) (number : ℕ) (uri : Option (List ℕ)) (asked : Reading) (seen : Seen)
+module _ (listing : Listing) (limits : LimitsData) (number : ℕ) (uri noted : Option (List ℕ)) (seen : Seen)
     (notes : List Note) where
   quiet_listed : (change : Option ChangeData) (verdict : Verdict) → IsQuiet verdict
-      → listed_line listing limits number uri asked change seen verdict notes
-      ≡ listed_line listing limits number uri asked None seen verdict notes
+      → listed_line listing limits number uri noted change seen verdict notes
+      ≡ listed_line listing limits number uri noted None seen verdict notes
   quiet_listed change recorded q = refl
   quiet_listed change bad q = refl
   quiet_listed change (answered dropped) q = refl
   quiet_listed change _ q = absurd q
 
   pub listed_at : (s : Session) (head : Head) (body : List ℕ)
-      → listed_line listing limits number uri asked (received_of s (body_read head.version head.side body)) seen
+      → listed_line listing limits number uri noted (received_of s (body_read head.version head.side body)) seen
       (judge_at s head body).verdict notes
-      ≡ listed_line listing limits number uri asked (change_in (incoming_of (reading body))) seen
+      ≡ listed_line listing limits number uri noted (change_in (incoming_of (reading body))) seen
       (judge_at s head body).verdict notes
   listed_at =
-      by_received (λ change verdict. listed_line listing limits number uri asked change seen verdict notes) quiet_listed
+      by_received (λ change verdict. listed_line listing limits number uri noted change seen verdict notes) quiet_listed
 
 quiet_strict : (change : Option ChangeData) (verdict : Verdict) → IsQuiet verdict
     → is_strict_refusal change verdict ≡ is_strict_refusal None verdict

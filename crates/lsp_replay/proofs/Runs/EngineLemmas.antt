@@ -18,19 +18,8 @@ pub no_record : (max_body : ℕ) (log : Log) → IsUndecided max_body log → Ha
 no_record max_body log (inl nothing) = empty_rest max_body log nothing
 no_record max_body log (inr cut) = cut.none
 
-cut_only : (max_body : ℕ) (log : Log) → IsUndecided max_body log → (log.rest ≡ [] → ⊥) → IsCut max_body log
-cut_only max_body log (inl nothing) some = absurd (some nothing)
-cut_only max_body log (inr cut) some = cut
-
 module _ (log_rules : LogRules) (run_output : List Record → RunOutput) (received : Option (List ℕ))
     (input : List ℕ) where
-  pub went_cut : RestLaw → (s : Splitter) (now : List Record → RunOutput) (received_now : Option (List ℕ)) → IsReady s
-      → IsQuiet now → (buffered_of s ≡ [] → ⊥)
-      → IsProgress log_rules run_output received input [] s now received_now → Reached log_rules run_output input
-      received received_now (IsCut log_rules.max_body)
-  went_cut rest_law s now received_now ready quiet some w =
-      grind (arith, common_steps, went_so_far, cut_only, append-nil)
-
   pub went_read : RestLaw → (s : Splitter) (now : List Record → RunOutput) (received_now : Option (List ℕ)) → IsReady s
       → IsQuiet now
       → IsProgress log_rules run_output received input [] s now received_now → Reached log_rules run_output input

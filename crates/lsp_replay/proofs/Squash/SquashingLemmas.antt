@@ -214,10 +214,3 @@ pub step_ends : (q : Squashing) (r : Record) (fault : EngineFault) → step_at q
     → squashed_in q.session q.series (r ∷ more) ≡ stopped [] (Err fault)
 step_ends q r fault is more =
     ap (λ (step : Step). followed_by step.out step.end (squashed_in (judge q.session r).session step.series more)) is
-
-pub step_failed : (q : Squashing) (r : Record) (fault : EngineFault) → (fault ≡ NoMemory)
-    ⊎ (IsRecordFault fault × (step_at q r ≡ faulty fault)) → (fault ≡ NoMemory)
-    ⊎ (IsRecordFault fault × ((more : List Record) → squashed_in q.session q.series (r ∷ more) ≡ stopped [] (Err
-    fault)))
-step_failed q r fault (inl memory) = inl memory
-step_failed q r fault (inr ended) = inr (ended.0, step_ends q r fault ended.1)

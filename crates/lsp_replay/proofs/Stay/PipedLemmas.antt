@@ -6,45 +6,6 @@ use Rattle.lsp_replay.proofs.Runs.RunReportLemmas.{Grows, GrowsAll, NoneCut, Set
 
 -- ---- what was read of a record decides whether it stays
 
-stays_of : (s : Session) (waiting : Option IdData) (version : Version) (side : Sender) (body : List ℕ)
-    → stays_read s waiting (body_read version side body) ≡ record_stays s waiting side body
-stays_of s waiting version Client body = refl
-stays_of s waiting version Server body = refl
-
-waiting_of : (waiting : Option IdData) (version : Version) (side : Sender) (body : List ℕ)
-    → waiting_read waiting (body_read version side body) ≡ waiting_after waiting side body
-waiting_of waiting version Client body = refl
-waiting_of waiting version Server body = refl
-
-pub stays_at : (s : Session) (waiting : Option IdData) (head : Head) (body : List ℕ) (read : BodyData)
-    → read ≡ body_read head.version head.side body → stays_read s waiting read ≡ record_stays s waiting head.side body
-stays_at s waiting head body read is = ap (stays_read s waiting) is ∙ stays_of s waiting head.version head.side body
-
-pub waiting_at : (waiting : Option IdData) (head : Head) (body : List ℕ) (read : BodyData)
-    → read ≡ body_read head.version head.side body → waiting_read waiting read ≡ waiting_after waiting head.side body
-waiting_at waiting head body read is = ap (waiting_read waiting) is ∙ waiting_of waiting head.version head.side body
-
--- what is known after a record that stays
-pub selected_kept : (s : Session) (old mid : Selection) (head : Head) (body : List ℕ) (read : BodyData)
-    → read ≡ body_read head.version head.side body → (t : Session) → t ≡ s
-    → (stays : Bool) → stays ≡ stays_read t old.waiting read → mid ≡ record old {
-      waiting = (if stays then waiting_read old.waiting read else old.waiting);
-    } → stays ≡ true
-    → (waiting : Option IdData) → waiting ≡ mid.waiting → (line_due : Bool) → line_due ≡ is_due old head
-    → IsKept s old (record { waiting = waiting; due = false }) head body (record head { line_due = line_due })
-selected_kept s old mid head body read is t same false stays_is mid_is left waiting waiting_is line_due due_is =
-    absurd (let wrong : false ≡ true = left in cc)
-selected_kept s old mid head body read is t same true stays_is mid_is staying waiting waiting_is line_due due_is =
-    record {
-      stays = sym (stays_at s old.waiting head body read is)
-          ∙ sym (ap (λ (u : Session). stays_read u old.waiting read) same) ∙ sym stays_is;
-      selection = ap (λ (w : Option IdData). record {
-        waiting = w;
-        due = false;
-      }) (waiting_is ∙ ap (λ (c : Selection). c.waiting) mid_is ∙ waiting_at old.waiting head body read is);
-      head_is = ap (λ (b : Bool). record head { line_due = b }) due_is;
-    }
-
 -- ---- one record
 
 -- A record that is left out.
@@ -128,15 +89,6 @@ module _ (s : Session) (head : Head) (raw body : List ℕ) where
   left_out (Some c) (Some d) admitted output bytes nothing more =
       goes_without s c d given admitted output bytes nothing more
 
-  -- what was read of a record is read of it under the head that it is written with, too
-  pub read_again : (c d : Option Selection) (written : Head) → IsAdmitted s c d head body (Some written)
-      → (read : BodyData) → read ≡ body_read head.version head.side body
-      → read ≡ body_read written.version written.side body
-  read_again None d written admitted read is =
-      is ∙ ap (λ (h : Head). body_read h.version h.side body) (sym (same_head written head admitted.1))
-  read_again (Some c) None written admitted read is = absurd admitted
-  read_again (Some c) (Some d) written admitted read is = is ∙ sym (version_same s c d head raw body written admitted)
-
   pub printed : (c d : Option Selection) (written : Head) → IsAdmitted s c d head body (Some written) → (t : Session)
       → t ≡ (judge s (record { head = written; raw = raw; body = body })).session
       → (output next : List Record → RunOutput) (bytes : List ℕ) (end : Option Outcome)
@@ -180,38 +132,10 @@ when_err (Err e) follows p = follows e p
 
 -- ---- the end
 
-pub last_due : (c : Option Selection) (output : List Record → RunOutput) (s : Session) (line_due : Bool)
-    → (piped c output s []).last line_due ≡ (output []).last (written_due c line_due)
-last_due None output s line_due = refl
-last_due (Some c) output s line_due = refl
-
-pub last_once : (c : Option Selection) (output : List Record → RunOutput) (s : Session)
-    → (piped (once_written c) output s []).last false ≡ (output []).last false
-last_once None output s = refl
-last_once (Some c) output s = refl
-
 pub same_outcome : (c : Option Selection) (output : List Record → RunOutput) (s : Session)
     → (piped c output s []).outcome ≡ (output []).outcome
 same_outcome None output s = refl
 same_outcome (Some c) output s = refl
-
-pub finished : (c : Option Selection) (output next : List Record → RunOutput) (s t : Session) (line_due due : Bool)
-    → due ≡ written_due c line_due → (bytes : List ℕ) (Falls : Type 0) (end : Option Outcome) → MatchOption end
-    (((output []).last due ≡ bytes ++ (next []).last false) × ((next []).outcome ≡ (output []).outcome) × Falls)
-    (λ outcome. ((output []).last due ≡ bytes) × (outcome ≡ (output []).outcome)) → MatchOption end
-    (((piped c output s []).last line_due ≡ bytes ++ (piped (once_written c) next t []).last false)
-    × ((piped (once_written c) next t []).outcome ≡ (piped c output s []).outcome) × Falls)
-    (λ outcome. ((piped c output s []).last line_due ≡ bytes) × (outcome ≡ (piped c output s []).outcome))
-finished c output next s t line_due due is bytes Falls None ended = (
-  last_due c output s line_due ∙ ap (λ b. (output []).last b) (sym is) ∙ ended.0
-      ∙ ap (λ (bs : List ℕ). bytes ++ bs) (sym (last_once c next t)),
-  same_outcome (once_written c) next t ∙ ended.1 ∙ sym (same_outcome c output s),
-  ended.2,
-)
-finished c output next s t line_due due is bytes Falls (Some outcome) ended = (
-  last_due c output s line_due ∙ ap (λ b. (output []).last b) (sym is) ∙ ended.0,
-  ended.1 ∙ sym (same_outcome c output s),
-)
 
 -- ---- all records
 

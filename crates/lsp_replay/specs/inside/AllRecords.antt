@@ -1,13 +1,5 @@
 -- What only proofs use of `AllRecords`: the same, case by case.
-use Rattle.std.specs.Prelude.{ℕ, ◌≡◌, ◌⊎◌, Bool, true, false, List, [], length, Option, Some, None, Result, Ok, Err}
-use Rattle.std.specs.Io.KnownBytes.{Appends}
-use Rattle.lsp_frame.specs.Faults.{place_after}
-use Rattle.lsp_replay.specs.declared.outcome.Outcome.{Outcome}
-use Rattle.lsp_stream.specs.declared.fault.EngineFault.{EngineFault}
-use Rattle.lsp_stream.specs.declared.fault.EngineFault.TheVariants.{Read, Write, Frame, Truncated, BodyTooLong, NoMemory, TooManyTurns, BadLog}
-use Rattle.lsp_stream.specs.Turns.{AppendsFront, AppendsShort}
-use Rattle.lsp_log.specs.Log.{LogRules, Record, Log, IsCut, IsMalformed, IsBadMark}
-use Rattle.lsp_log.specs.Opening.{IsUnfinished}
+use Rattle.lsp_replay.specs.Prelude.{ℕ, ◌≡◌, ◌⊎◌, Bool, true, false, List, [], length, Option, Some, None, Result, Ok, Err, Appends, place_after, Outcome, EngineFault, Read, Write, Frame, Truncated, BodyTooLong, NoMemory, TooManyTurns, BadLog, AppendsFront, AppendsShort, LogRules, Record, Log, IsCut, IsMalformed, IsBadMark, IsUnfinished}
 use Rattle.lsp_replay.specs.RunOutput.{RunOutput}
 use Rattle.lsp_replay.specs.Engine.{PortState, all_of}
 

@@ -1,14 +1,6 @@
 -- The body of a record, as a session reads it once.
-use Rattle.std.specs.Prelude.{ℕ, ◌≡◌, List, Option, Some, None}
-use Rattle.lsp_log.specs.declared.record.Version.{Version}
-use Rattle.lsp_log.specs.declared.record.Sender.{Sender}
+use Rattle.lsp_replay.specs.Prelude.{ℕ, ◌≡◌, List, Option, Some, None, Version, Sender, reading, ChangeData, Running, IncomingData, did_change, incoming_of, incoming_view, RecordBody}
 use Rattle.lsp_log.specs.declared.record.Sender.TheVariants as side
-use Rattle.lsp_message.specs.Message.{reading}
-use Rattle.lsp_message.specs.Params.{ChangeData}
-use Rattle.lsp_server.specs.declared.phase.Phase.TheVariants.{Running}
-use Rattle.lsp_server.specs.Incoming.{IncomingData, did_change, incoming_of}
-use Rattle.lsp_server.specs.Seen.{incoming_view}
-use Rattle.lsp_replay.specs.declared.session.RecordBody.{RecordBody}
 use Rattle.lsp_replay.specs.declared.session.RecordBody.TheVariants.{Client, Server}
 use Rattle.lsp_replay.specs.Commands.{change_in}
 use Rattle.lsp_replay.specs.Session.{Session, Judged, Verdict, counted, encoding_for, judge_client, judge_server}
@@ -21,7 +13,7 @@ pub data BodyData : Type 0 where
 
 -- A body that was read, as its value.
 abbrev pub body_view : RecordBody → BodyData
-body_view (Client version incoming) = from_client version (incoming_view incoming)
+body_view (Client version incoming noted) = from_client version (incoming_view incoming)
 body_view (Server body) = from_server body.now
 
 -- The body of a record of one side, in a log of a version.

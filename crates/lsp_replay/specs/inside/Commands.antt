@@ -1,6 +1,5 @@
 -- What only proofs and private contracts use of `Commands`.
-use Rattle.std.specs.Prelude.{List}
-use Rattle.lsp_log.specs.Log.{Record}
+use Rattle.lsp_replay.specs.Prelude.{List, Record}
 use Rattle.lsp_replay.specs.Commands.{View, output_in}
 use Rattle.lsp_replay.specs.RunOutput.{RunOutput}
 use Rattle.lsp_replay.specs.Session.{Session}

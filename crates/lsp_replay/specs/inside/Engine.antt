@@ -1,17 +1,7 @@
 -- What only proofs and private contracts use of `Engine`: what an engine wrote and answered, by
 -- some first records of what it read.
-use Rattle.std.specs.Prelude.{ℕ, ◌≡◌, ◌≢◌, ◌⊎◌, ◌<◌, ◌&&◌, not, Bool, true, false, List, [], ◌++◌, length, Option, Some, None, Result, Ok, Err, MatchResult}
-use Rattle.std.specs.Io.KnownBytes.{Consumes, Appends}
-use Rattle.lsp_frame.specs.Faults.{place_after}
+use Rattle.lsp_replay.specs.Prelude.{ℕ, ◌≡◌, ◌≢◌, ◌⊎◌, ◌<◌, ◌&&◌, not, Bool, true, false, List, [], ◌++◌, length, Option, Some, None, Result, Ok, Err, MatchResult, Consumes, Appends, place_after, Outcome, EngineFault, Read, Write, Frame, Truncated, BodyTooLong, NoMemory, TooManyTurns, BadLog, Two, Ports, AppendsFront, AppendsShort, StaysFlushed, LogRules, Record, Log, IsVersion, IsReadAs, IsCut, IsMalformed, IsBadMark, IsUnfinished}
 use Rattle.lsp_replay.specs.declared.engine.InputRules.{InputRules}
-use Rattle.lsp_replay.specs.declared.outcome.Outcome.{Outcome}
-use Rattle.lsp_stream.specs.declared.fault.EngineFault.{EngineFault}
-use Rattle.lsp_stream.specs.declared.fault.EngineFault.TheVariants.{Read, Write, Frame, Truncated, BodyTooLong, NoMemory, TooManyTurns, BadLog}
-use Rattle.lsp_log.specs.declared.record.Version.TheVariants.{Two}
-use Rattle.lsp_stream.specs.Ports.{Ports}
-use Rattle.lsp_stream.specs.Turns.{AppendsFront, AppendsShort, StaysFlushed}
-use Rattle.lsp_log.specs.Log.{LogRules, Record, Log, IsVersion, IsReadAs, IsCut, IsMalformed, IsBadMark}
-use Rattle.lsp_log.specs.Opening.{IsUnfinished}
 use Rattle.lsp_replay.specs.RunOutput.{RunOutput}
 use Rattle.lsp_replay.specs.Engine.{Called, FewCalls, NonePassedOver, PortState, last_of, state_of}
 

@@ -1,29 +1,16 @@
 -- The facts of a record, what is known after it, and its lines by them.
-use Rattle.std.specs.Prelude.{ℕ, ◌≡◌, Bool, false, ◌&&◌, ◌||◌, ◌∷◌, ◌++◌, if◌then◌else◌, List, [], Option, Some, None, codes, decimal, option_map}
-use Rattle.std.specs.String.{string_bytes}
-use Rattle.lsp_frame.specs.Limits.{LimitsData}
-use Rattle.lsp_log.specs.declared.record.Head.{Head}
+use Rattle.lsp_replay.specs.Prelude.{ℕ, ◌≡◌, Bool, false, ◌&&◌, ◌||◌, ◌∷◌, ◌++◌, if◌then◌else◌, List, [], Option, Some, None, codes, decimal, option_map, string_bytes, LimitsData, Head, Reading, reading, ChangeData, change_view, incoming_of, ServerData, Details, Taken, Appended, Listing, Note, notification_params}
 use Rattle.lsp_log.specs.declared.record.Sender.TheVariants.{Client}
-use Rattle.lsp_message.specs.Message.{Reading, reading}
-use Rattle.lsp_message.specs.Params.{ChangeData}
-use Rattle.lsp_message.specs.Seen.{change_view}
-use Rattle.lsp_server.specs.Incoming.{incoming_of}
-use Rattle.lsp_server.specs.Step.{ServerData}
-use Rattle.lsp_replay.specs.declared.commands.traced.Details.{Details}
 use Rattle.lsp_replay.specs.declared.facts.About.{About}
 use Rattle.lsp_replay.specs.declared.facts.Facts.{Facts}
-use Rattle.lsp_replay.specs.declared.session.Taken.{Taken}
-use Rattle.lsp_replay.specs.declared.session.canonical.Appended.{Appended}
 use Rattle.lsp_replay.specs.declared.session.canonical.Appended.TheVariants.{Body}
 use Rattle.lsp_replay.specs.declared.session.canonical.Canonical.{Canonical}
 use Rattle.lsp_replay.specs.Commands.{verdict_word}
-use Rattle.lsp_replay.specs.declared.commands.explained.Listing.{Listing}
 use Rattle.lsp_replay.specs.Counts.{counts_after, rare_notes}
-use Rattle.lsp_replay.specs.Explained.{Seen, listed_line}
+use Rattle.lsp_replay.specs.Explained.{Seen, listed_line, noted_uri, saved_in}
 use Rattle.lsp_replay.specs.Lines.{Known, is_renamed, is_strict_refusal, last_in, uri_of}
 use Rattle.lsp_replay.specs.Mentions.{is_mention, mentioned}
 use Rattle.lsp_replay.specs.Notes.{notes_if, notes_of}
-use Rattle.lsp_replay.specs.declared.notes.Note.{Note}
 use Rattle.lsp_replay.specs.Reasons.{reason_words, renamed_words}
 use Rattle.lsp_replay.specs.Session.{Session, Verdict, answered, has_changed, is_change, is_refused}
 use Rattle.lsp_replay.specs.Trace.{body_json, document_after, last_members, notes_json, text_json, version_json}
@@ -43,10 +30,15 @@ abbrev pub is_change_read : BodyData → Bool
 is_change_read (from_client version m) = is_change m
 is_change_read (from_server body) = false
 
+abbrev pub saved_read : BodyData → Reading → Option (List ℕ)
+saved_read (from_client version m) body = saved_in Client m (notification_params body)
+saved_read (from_server bytes) body = None
+
 pub record IsAbout (s : ServerData) (ranged : Bool) (body : Reading) (read : BodyData)
     (about : About) :
     Type 0 where
   pub uri : option_map string_bytes about.uri ≡ uri_read read
+  pub saved : option_map string_bytes about.saved ≡ saved_read read body
   pub is_change : about.is_change ≡ is_change_read read
   pub notes : about.notes.items ≡ notes_on_read s ranged body read
 
@@ -58,6 +50,7 @@ pub record IsLearned (known : Known) (n : ℕ) (about : About) (taken : Taken) (
   pub number : facts.number ≡ n
   pub verdict : facts.verdict ≡ taken.verdict
   pub uri : facts.uri ≡ about.uri
+  pub saved : facts.saved ≡ about.saved
   pub change : facts.change ≡ taken.change
   pub renamed : facts.renamed
       ≡ is_renamed known (option_map string_bytes about.uri) (verdict_view taken.verdict)
@@ -87,6 +80,8 @@ pub record AreFacts (known : Known) (s : Session) (head : Head) (body : List ℕ
   pub number : facts.number ≡ (judge_at s head body).session.records
   pub verdict : verdict_view facts.verdict ≡ (judge_at s head body).verdict
   pub uri : option_map string_bytes facts.uri ≡ uri_of head.side (incoming_of (reading body))
+  pub saved : option_map string_bytes facts.saved
+      ≡ saved_in head.side (incoming_of (reading body)) (notification_params (reading body))
   pub change : option_map change_view facts.change
       ≡ received_of s (body_read head.version head.side body)
   pub renamed : facts.renamed ≡ is_renamed known
@@ -108,10 +103,15 @@ seen_by facts = record { renamed = facts.renamed; last = facts.last }
 abbrev pub listed_by : Listing → Facts → List Note
 listed_by listing facts = if listing.all then facts.notes.items else facts.rare.items
 
+-- The document that notes are about.
+abbrev pub noted_by : Facts → Option (List ℕ)
+noted_by facts =
+    noted_uri (option_map string_bytes facts.uri) (option_map string_bytes facts.saved)
+
 -- A line of `check --explain`, if the record has one.
-abbrev pub explained_by : Listing → LimitsData → Facts → Reading → List ℕ
-explained_by listing limits facts body =
-    listed_line listing limits facts.number (option_map string_bytes facts.uri) body
+abbrev pub explained_by : Listing → LimitsData → Facts → List ℕ
+explained_by listing limits facts =
+    listed_line listing limits facts.number (option_map string_bytes facts.uri) (noted_by facts)
     (option_map change_view facts.change) (seen_by facts) (verdict_view facts.verdict)
     (listed_by listing facts)
 

@@ -1,13 +1,6 @@
 -- How a record is written with squash, and which batches are open after it.
-use Rattle.std.specs.Prelude.{ℕ, ◌≡◌, ◌≤◌, ◌<◌, ⊤, true, false, List, length, map, Option, Some, None}
-use Rattle.std.specs.Str.{bytes_eq}
-use Rattle.lsp_frame.specs.Frame.{frame}
-use Rattle.lsp_message.specs.Params.{DocumentItem, ChangeData}
-use Rattle.lsp_store.specs.Squash.{SquashData, HasReached, squash_of}
-use Rattle.lsp_store.specs.Table.{Refusal, after_change, change_refusal, entry_at}
-use Rattle.lsp_text.specs.Units.{units_in}
-use Rattle.lsp_server.specs.Answer.{changed}
-use Rattle.lsp_server.specs.Step.{ServerData, content_change_from_data, session_encoding}
+use Rattle.lsp_replay.specs.Prelude.{ℕ, ◌≡◌, ◌≤◌, ◌<◌, ⊤, true, false, List, length, map, Option, Some, None, bytes_eq, frame, DocumentItem, ChangeData, SquashData, HasReached, squash_of, after_change, change_refusal, entry_at, units_in, changed, ServerData, content_change_from_data, session_encoding}
+use Rattle.lsp_store.specs.Table.{Refusal}
 use Rattle.lsp_replay.specs.declared.session.joining.Writing.{Writing}
 use Rattle.lsp_replay.specs.declared.session.joining.Writing.TheVariants.{TooLong, Continues, Begins}
 use Rattle.lsp_replay.specs.Commands.{canonical_if, canonical_change_body}

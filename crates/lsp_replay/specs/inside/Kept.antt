@@ -1,9 +1,5 @@
 -- The text that is kept of a document that is closed.
-use Rattle.std.specs.Prelude.{ℕ, List, Option, Some, None, option_map, if◌then◌else◌}
-use Rattle.std.specs.Str.{bytes_eq}
-use Rattle.lsp_message.specs.Params.{DocumentItem}
-use Rattle.lsp_server.specs.Incoming.{IncomingData, did_close}
-use Rattle.lsp_store.specs.Table.{entry_at}
+use Rattle.lsp_replay.specs.Prelude.{ℕ, List, Option, Some, None, option_map, if◌then◌else◌, bytes_eq, DocumentItem, IncomingData, did_close, entry_at}
 use Rattle.lsp_replay.specs.inside.Bodies.{BodyData, from_client}
 
 -- The text of the document with this URI, if it is open.

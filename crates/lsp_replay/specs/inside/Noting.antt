@@ -1,9 +1,5 @@
 -- What there is to note of a record that was read.
-use Rattle.std.specs.Prelude.{Bool, List, []}
-use Rattle.lsp_text.specs.Units.{units_in}
-use Rattle.lsp_message.specs.Message.{Reading}
-use Rattle.lsp_server.specs.Step.{ServerData}
-use Rattle.lsp_replay.specs.declared.notes.Note.{Note}
+use Rattle.lsp_replay.specs.Prelude.{Bool, List, [], units_in, Reading, ServerData, Note, lengths_of, notification_params}
 use Rattle.lsp_replay.specs.declared.notes.changes.Terms.{Terms}
 use Rattle.lsp_replay.specs.Notes as spec
 use Rattle.lsp_replay.specs.Notes.{notes_on}
@@ -19,5 +15,6 @@ terms_view terms = record {
 
 -- By what was read of a body. A server's record has no notes.
 abbrev pub notes_on_read : ServerData → Bool → Reading → BodyData → List Note
-notes_on_read s ranged body (from_client version m) = notes_on s ranged body m
+notes_on_read s ranged body (from_client version m)
+    = notes_on s ranged (lengths_of body) (notification_params body) m
 notes_on_read s ranged body (from_server bytes) = []

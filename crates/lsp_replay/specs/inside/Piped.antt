@@ -1,7 +1,5 @@
 -- What a command writes of the records that stay, if some are left out.
-use Rattle.std.specs.Prelude.{ℕ, ◌≡◌, ◌||◌, Bool, false, List, Option, Some, None}
-use Rattle.lsp_log.specs.declared.record.Head.{Head}
-use Rattle.lsp_log.specs.Log.{Record}
+use Rattle.lsp_replay.specs.Prelude.{ℕ, ◌≡◌, ◌||◌, Bool, false, List, Option, Some, None, Head, Record}
 use Rattle.lsp_replay.specs.Documents.{Selection, kept_in, output_of_kept}
 use Rattle.lsp_replay.specs.RunOutput.{RunOutput}
 use Rattle.lsp_replay.specs.Session.{Session}

@@ -1,9 +1,6 @@
 -- What becomes of a record whose body a session has read.
-use Rattle.std.specs.Prelude.{ℕ, ◌≡◌, Bool, true, false, ◌||◌, if◌then◌else◌, List, Option, Some, None}
-use Rattle.lsp_log.specs.declared.record.Head.{Head}
-use Rattle.lsp_message.specs.Message.{IdData, reading}
-use Rattle.lsp_server.specs.Incoming.{IncomingData, initialize, other_request, shutdown}
-use Rattle.lsp_replay.specs.declared.session.RecordBody.{RecordBody}
+use Rattle.lsp_replay.specs.Prelude.{ℕ, ◌≡◌, Bool, true, false, ◌||◌, if◌then◌else◌, List, Option, Some, None, ⊤, Head, IdData, reading, IsNoted, IncomingData, initialize, other_request, shutdown, RecordBody}
+use Rattle.lsp_replay.specs.declared.session.RecordBody.TheVariants.{Client}
 use Rattle.lsp_replay.specs.Documents.{Selection, after_kept, after_left_out, is_answer_to, is_due, message_stays, record_stays, waiting_for}
 use Rattle.lsp_replay.specs.Session.{Session, same_id}
 use Rattle.lsp_replay.specs.inside.Bodies.{BodyData, body_read, body_view, from_client, from_server}
@@ -11,6 +8,11 @@ use Rattle.lsp_replay.specs.inside.Bodies.{BodyData, body_read, body_view, from_
 -- This was read of a record's body.
 abbrev pub IsReadOf : Head → List ℕ → RecordBody → Type 0
 IsReadOf head body read = body_view read ≡ body_read head.version head.side body
+
+-- What notes go by was read with a client's body, if notes are wanted.
+abbrev pub IsNotedOf : Bool → List ℕ → RecordBody → Type 0
+IsNotedOf true body (Client version incoming noted) = IsNoted (reading body) incoming noted
+IsNotedOf notes body read = ⊤
 
 -- ---- which records stay
 

@@ -1,9 +1,5 @@
 -- What only proofs and private contracts use of `Run`.
-use Rattle.std.specs.Prelude.{not, ◌&&◌, Option, Result}
-use Rattle.lsp_stream.specs.declared.fault.EngineFault.{EngineFault}
-use Rattle.lsp_stream.specs.Ports.{Ports}
-use Rattle.lsp_replay.specs.declared.commands.Settings.{Settings}
-use Rattle.lsp_replay.specs.declared.outcome.Outcome.{Outcome}
+use Rattle.lsp_replay.specs.Prelude.{not, ◌&&◌, Option, Result, EngineFault, Ports, Settings, Outcome}
 use Rattle.lsp_replay.specs.Commands.{log_config}
 use Rattle.lsp_replay.specs.Documents.{Selection}
 use Rattle.lsp_replay.specs.Engine.{state_of}

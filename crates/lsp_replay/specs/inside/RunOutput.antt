@@ -1,9 +1,5 @@
 -- What only proofs and private contracts use of `RunOutput`.
-use Rattle.std.specs.Prelude.{ℕ, ◌≡◌, List, [], drop, Option, Some, None, Ok}
-use Rattle.lsp_log.specs.Log.{Record}
-use Rattle.lsp_replay.specs.declared.outcome.Outcome.{Outcome}
-use Rattle.lsp_stream.specs.declared.fault.EngineFault.{EngineFault}
-use Rattle.lsp_stream.specs.declared.fault.EngineFault.TheVariants.{Read, Write, Frame, Truncated, BodyTooLong, NoMemory, TooManyTurns, BadLog}
+use Rattle.lsp_replay.specs.Prelude.{ℕ, ◌≡◌, List, [], drop, Option, Some, None, Ok, Record, Outcome, EngineFault, Read, Write, Frame, Truncated, BodyTooLong, NoMemory, TooManyTurns, BadLog}
 use Rattle.lsp_replay.specs.declared.handler.Output.{Output}
 use Rattle.lsp_replay.specs.declared.handler.Output.TheVariants as output
 use Rattle.lsp_replay.specs.RunOutput.{RunOutput, written_first, stopped}

@@ -1,6 +1,5 @@
 -- What only proofs and private contracts use of `Session`.
-use Rattle.std.specs.Prelude.{ℕ, List}
-use Rattle.lsp_log.specs.declared.record.Head.{Head}
+use Rattle.lsp_replay.specs.Prelude.{ℕ, List, Head}
 use Rattle.lsp_replay.specs.Session.{Session, Judged, counted, judge_from}
 
 -- The judgement of a record with this head and body.

@@ -1,21 +1,8 @@
 -- What `normalise` writes with squash, as the code makes it: of an open series the bytes are kept
 -- that are written if its one message is refused. That it is the same is shown in
 -- `proofs/Squash/SeriesLemmas.antt`.
-use Rattle.std.specs.Prelude.{ℕ, ◌≡◌, ◌++◌, if◌then◌else◌, nat_lt, length, map, List, [], Option, Some, None, Result, Err}
-use Rattle.std.specs.Str.{bytes_eq}
-use Rattle.lsp_frame.specs.Frame.{frame}
-use Rattle.lsp_message.specs.Message.{reading}
-use Rattle.lsp_message.specs.Params.{DocumentItem, ChangeData}
-use Rattle.lsp_store.specs.Squash.{SquashData, squash_of, squash_after, squash_frame, squash_refusal}
-use Rattle.lsp_store.specs.Table.{Refusal, entry_at}
-use Rattle.lsp_server.specs.Incoming.{incoming_of}
-use Rattle.lsp_server.specs.Step.{ServerData, session_encoding, content_change_from_data}
-use Rattle.lsp_server.specs.Answer.{changed}
-use Rattle.lsp_replay.specs.declared.commands.Settings.{Settings}
-use Rattle.lsp_replay.specs.declared.outcome.Outcome.{Outcome}
-use Rattle.lsp_stream.specs.declared.fault.EngineFault.{EngineFault}
-use Rattle.lsp_stream.specs.declared.fault.EngineFault.TheVariants.{BadLog, BodyTooLong}
-use Rattle.lsp_log.specs.Log.{Record}
+use Rattle.lsp_replay.specs.Prelude.{ℕ, ◌≡◌, ◌++◌, if◌then◌else◌, nat_lt, length, map, List, [], Option, Some, None, Result, Err, bytes_eq, frame, reading, DocumentItem, ChangeData, SquashData, squash_of, squash_after, squash_frame, squash_refusal, entry_at, incoming_of, ServerData, session_encoding, content_change_from_data, changed, Settings, Outcome, EngineFault, BadLog, BodyTooLong, Record}
+use Rattle.lsp_store.specs.Table.{Refusal}
 use Rattle.lsp_replay.specs.RunOutput.{RunOutput}
 use Rattle.lsp_replay.specs.Commands.{View, output_in, front_of, change_in, canonical_change_body, line_if, log_config}
 use Rattle.lsp_replay.specs.Session.{Session, Verdict, answered, bad, Judged, judge, opened, session_outcome}

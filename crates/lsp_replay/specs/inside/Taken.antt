@@ -1,13 +1,5 @@
 -- What became of a record whose body was read.
-use Rattle.std.specs.Prelude.{ℕ, ◌≡◌, ◌≢◌, ◌&&◌, Bool, if◌then◌else◌, is_none, List, Option, Some, None, option_map}
-use Rattle.lsp_log.specs.declared.record.Head.{Head}
-use Rattle.lsp_message.specs.Message.{reading}
-use Rattle.lsp_message.specs.Params.{ChangeData}
-use Rattle.lsp_message.specs.Seen.{change_view}
-use Rattle.lsp_server.specs.Answer.{changed}
-use Rattle.lsp_server.specs.Incoming.{incoming_of}
-use Rattle.lsp_server.specs.Step.{ServerData}
-use Rattle.lsp_replay.specs.declared.session.Taken.{Taken}
+use Rattle.lsp_replay.specs.Prelude.{ℕ, ◌≡◌, ◌≢◌, ◌&&◌, Bool, if◌then◌else◌, is_none, List, Option, Some, None, option_map, Head, reading, ChangeData, change_view, changed, incoming_of, ServerData, Taken}
 use Rattle.lsp_replay.specs.Commands.{change_in}
 use Rattle.lsp_replay.specs.Notes.{ranged_for}
 use Rattle.lsp_replay.specs.Session.{Session, Verdict, answered, is_running}

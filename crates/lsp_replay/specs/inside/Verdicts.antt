@@ -1,9 +1,7 @@
 -- The values of the types of `src/session.rt` and `src/session/` in the definitions.
-use Rattle.std.specs.Prelude.{ℕ, ◌≡◌, ◌<◌, ◌≤◌, List, ◌++◌, length, Option, Some, None}
-use Rattle.lsp_server.specs.Seen.{answer_view}
+use Rattle.lsp_replay.specs.Prelude.{ℕ, ◌≡◌, ◌<◌, ◌≤◌, List, ◌++◌, length, Option, Some, None, answer_view, Appended}
 use Rattle.lsp_replay.specs.declared.session.Verdict.{Verdict}
 use Rattle.lsp_replay.specs.declared.session.Verdict.TheVariants.{Answered, Recorded, Bad}
-use Rattle.lsp_replay.specs.declared.session.canonical.Appended.{Appended}
 use Rattle.lsp_replay.specs.declared.session.canonical.Appended.TheVariants as appended
 use Rattle.lsp_replay.specs.Session as spec
 

@@ -1,8 +1,5 @@
 -- What holds of the records that stay, and of what is written of them.
-use Rattle.std.specs.Prelude.{ℕ, ◌≡◌, List, [], None}
-use Rattle.lsp_frame.specs.Limits.{AreInRange}
-use Rattle.lsp_log.specs.Log.{Record, Log, IsReadAs}
-use Rattle.lsp_replay.specs.declared.commands.Settings.{Settings}
+use Rattle.lsp_replay.specs.Prelude.{ℕ, ◌≡◌, List, [], None, AreInRange, Record, Log, IsReadAs, Settings}
 use Rattle.lsp_replay.specs.Commands.{as_log, canonical_log}
 use Rattle.lsp_replay.specs.Engine.{all_of}
 use Rattle.lsp_replay.specs.Documents.{KeepsDocuments, documents}

@@ -2,19 +2,10 @@
 --
 -- `document` is how Rattle's crate `json` reads JSON (RFC 8259): members are in the order of the
 -- text, and a number is its digits.
-use Rattle.std.specs.Prelude.{ℕ, ℤ, ◌≡◌, ◌<◌, ◌^◌, Bool, ◌&&◌, if◌then◌else◌, List, [], ◌∷◌, ◌++◌, map, Option, Some, None, option_map, option_and_then, All, IsUtf8, codes, decimal}
-use Rattle.std.specs.Fmt.{signed_decimal}
+use Rattle.lsp_replay.specs.Prelude.{ℕ, ℤ, ◌≡◌, ◌<◌, ◌^◌, Bool, ◌&&◌, if◌then◌else◌, List, [], ◌∷◌, ◌++◌, map, Option, Some, None, option_map, option_and_then, All, IsUtf8, codes, decimal, signed_decimal, LimitsData, AreInRange, IdData, whole, text, reading, DocumentItem, IncomingData, incoming_of, Record, Settings, Details, Note}
 use Rattle.json.specs.Json.{Json, number, string, array, object, Members, no_members, member, document}
 use Rattle.json.specs.Value.{items_of}
-use Rattle.lsp_frame.specs.Limits.{LimitsData, AreInRange}
-use Rattle.lsp_message.specs.Message.{IdData, whole, text, reading}
-use Rattle.lsp_message.specs.Params.{DocumentItem}
 use Rattle.lsp_message.specs.laws.Sent.{IsProperDocument}
-use Rattle.lsp_server.specs.Incoming.{IncomingData, incoming_of}
-use Rattle.lsp_log.specs.Log.{Record}
-use Rattle.lsp_replay.specs.declared.commands.Settings.{Settings}
-use Rattle.lsp_replay.specs.declared.commands.traced.Details.{Details}
-use Rattle.lsp_replay.specs.declared.notes.Note.{Note}
 use Rattle.lsp_replay.specs.Commands.{canonical_of_record, change_in, document_line, log_config, verdict_word}
 use Rattle.lsp_replay.specs.Lines.{Known, is_renamed, known_after, last_in, nothing_known, uri_of}
 use Rattle.lsp_replay.specs.Notes.{note_words, notes_of}

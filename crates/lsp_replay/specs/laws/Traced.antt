@@ -1,11 +1,5 @@
 -- `trace` beside `check` and `replay`: the same numbers and words, and the same last texts.
-use Rattle.std.specs.Prelude.{ℕ, ◌≡◌, Bool, true, false, ◌&&◌, ◌∷◌, ◌++◌, if◌then◌else◌, List, [], Option, Some, None, option_map, codes, decimal, flat_map}
-use Rattle.std.specs.Str.{bytes_eq}
-use Rattle.lsp_message.specs.Params.{DocumentItem}
-use Rattle.lsp_store.specs.Table.{entry_at}
-use Rattle.lsp_log.specs.Log.{Record}
-use Rattle.lsp_replay.specs.declared.commands.Settings.{Settings}
-use Rattle.lsp_replay.specs.declared.commands.traced.Details.{Details}
+use Rattle.lsp_replay.specs.Prelude.{ℕ, ◌≡◌, Bool, true, false, ◌&&◌, ◌∷◌, ◌++◌, if◌then◌else◌, List, [], Option, Some, None, option_map, codes, decimal, flat_map, bytes_eq, DocumentItem, entry_at, Record, Settings, Details}
 use Rattle.lsp_replay.specs.RunOutput.{RunOutput}
 use Rattle.lsp_replay.specs.Commands.{report, report_from, verdicts}
 use Rattle.lsp_replay.specs.Trace.{json_string, member, traced}

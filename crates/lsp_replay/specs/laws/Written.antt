@@ -1,12 +1,5 @@
 -- What holds of every log, and of the logs that the commands write of it.
-use Rattle.std.specs.Prelude.{ℕ, ◌≡◌, ◌≤◌, Bool, List, [], ◌∷◌, length, Option, None}
-use Rattle.std.specs.Io.KnownBytes.{Consumes, Appends}
-use Rattle.lsp_frame.specs.Frame.{frame}
-use Rattle.lsp_frame.specs.Limits.{AreInRange}
-use Rattle.lsp_server.specs.Answer.{reply}
-use Rattle.lsp_replay.specs.declared.commands.Settings.{Settings}
-use Rattle.lsp_replay.specs.declared.outcome.Outcome.{Outcome}
-use Rattle.lsp_log.specs.Log.{Record, Log, IsReadAs}
+use Rattle.lsp_replay.specs.Prelude.{ℕ, ◌≡◌, ◌≤◌, Bool, List, [], ◌∷◌, length, Option, None, Consumes, Appends, frame, AreInRange, reply, Settings, Outcome, Record, Log, IsReadAs}
 use Rattle.lsp_replay.specs.Engine.{all_of}
 use Rattle.lsp_replay.specs.Commands.{report, canonical_log, converted, as_log, as_converted, log_config}
 use Rattle.lsp_replay.specs.Session.{Session, Verdict, answered, judge, opened}

@@ -64,9 +64,9 @@ impl Settings {
 /// A kind of note that about one of a hundred records has that change documents is a habit: it is
 /// on few lines. `listing` has each note on its line, or leaves lines out.
 ///
-/// Errors and memory are those of [`check`](crate::check), with the URIs of 64 documents more. The
-/// body of a change is read once more. The notes of a change of a range cost what the change costs,
-/// those of several changes also a step for each block of the text.
+/// Errors and memory are those of [`check`](crate::check), with the URIs of 64 documents more. A
+/// body that is no keystroke is read as a tree of its JSON. The notes of a change of a range cost
+/// what the change costs, those of several changes also a step for each block of the text.
 pub fn explain<R: Source, W: Sink>(
     alloc: Global,
     reader: &mut R,

@@ -48,9 +48,9 @@ impl Settings {
 /// as the record is complete. The status is 1 if something was refused, else 0.
 ///
 /// Errors and memory are those of [`check`](crate::check), with the URIs of 64 documents more. Each
-/// body of the server's is read too, and the body of a change once more. The notes of a change of a
-/// range cost what the change costs, those of several changes a copy of the text. With `texts` a
-/// record costs what its document's text has.
+/// body of the server's is read too. A body that is no keystroke is read as a tree of its JSON. The
+/// notes of a change of a range cost what the change costs, those of several changes a copy of the
+/// text. With `texts` a record costs what its document's text has.
 pub fn trace<R: Source, W: Sink>(
     alloc: Global,
     reader: &mut R,

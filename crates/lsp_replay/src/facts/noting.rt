@@ -1,14 +1,17 @@
 //! What is suspicious of a message on the documents before it.
 
-ghost use Rattle.std.specs.Prelude.{◌≡◌, ◌++◌, IfOk, OnOk, string_bytes};
+ghost use Rattle.std.specs.Prelude.{◌≡◌, ◌++◌, IfOk, OnOk, option_map, List, string_bytes, true, ℕ};
+ghost use Rattle.serde_json.specs.View.{view};
 ghost use Rattle.lsp_message.specs.Message.{reading};
 ghost use Rattle.lsp_message.specs.Seen.{change_view};
 ghost use Rattle.lsp_server.specs.Seen.{incoming_view};
 ghost use Rattle.lsp_store.specs.Table.{entry_at};
+ghost use Rattle.lsp_replay.specs.Explained.{saved_in};
 ghost use Rattle.lsp_replay.specs.Notes.{changing_notes, notes_if, notes_on, opening_notes};
 ghost use Rattle.lsp_replay.specs.Notes.{return_notes, saving_notes, terms_in, version_notes};
 ghost use Rattle.lsp_replay.specs.inside.Bodies.{body_view};
 ghost use Rattle.lsp_replay.specs.inside.Facts.{IsAbout};
+ghost use Rattle.lsp_replay.specs.inside.Reads.{IsNotedOf};
 ghost use Rattle.lsp_replay.specs.inside.Verdicts.{verdict_view};
 
 use crate::facts::About;
@@ -16,12 +19,13 @@ use crate::facts::asked::{copied_text, is_change, uri_of};
 use crate::notes::Note;
 use crate::notes::changes::{Terms, push_batch_notes};
 use crate::notes::returns::{has_feed, has_lone_return};
-use crate::notes::saved::{notification_params, push_saved_note};
+use crate::notes::saved::{push_saved_note, saved_uri};
 use crate::session::{RecordBody, Verdict};
 use lsp_log::Sender;
-use lsp_message::{ChangeParams, OpenParams, range_lengths};
+use lsp_message::{ChangeParams, Noted, OpenParams};
 use lsp_server::{Answer, Incoming, Server};
 use lsp_text::Encoding;
+use serde_json::Value;
 use std::alloc::{AllocError, Global};
 
 /// Returns what a record is about that was read. A server's record is about no document.
@@ -29,46 +33,58 @@ pub(super) fn about_of(
     alloc: Global,
     server: &Server,
     ranged: bool,
-    body: &[u8],
     read: &RecordBody<'_>,
 ) -> Result<About, AllocError>
-    ensures { IfOk result (IsAbout server.now ranged (reading body.now) (body_view read.now)) }
+    ensures { IfOk result (λ about. (body : List ℕ) → IsNotedOf true body read.now
+        → IsAbout server.now ranged (reading body) (body_view read.now) about) }
 {
-    let RecordBody::Client(_, incoming) = read else {
+    let RecordBody::Client(_, incoming, noted) = read else {
         return Ok(About {
             uri: None,
+            saved: None,
             is_change: false,
             notes: Vec::new(alloc),
         });
     };
     Ok(About {
         uri: copied_text(alloc, uri_of(Sender::Client, incoming))?,
+        saved: copied_text(alloc, saved_in(incoming, noted))?,
         is_change: is_change(incoming),
-        notes: notes_on(alloc, server, ranged, body, incoming)?,
+        notes: notes_on(alloc, server, ranged, incoming, noted)?,
     })
 }
 
-/// Returns what there is to note of a message, unless it is refused. The body of a change is read
-/// once more, for its lengths, and that of a `didSave`, for its text.
+/// Returns the URI of the document whose text was saved, of a message that isn't about the
+/// documents.
+fn saved_in<'a>(incoming: &Incoming, noted: &'a Noted) -> Option<&'a str>
+    ensures { option_map (λ uri. uri.now) result ≡ saved_in Sender.Client
+        (incoming_view incoming.now) (option_map view noted.now.params) }
+{
+    match incoming {
+        Incoming::OtherNotification { .. } => saved_uri(noted.params.as_ref()),
+        _ => None,
+    }
+}
+
+/// Returns what there is to note of a message, unless it is refused.
 fn notes_on(
     alloc: Global,
     server: &Server,
     ranged: bool,
-    body: &[u8],
     incoming: &Incoming,
+    noted: &Noted,
 ) -> Result<Vec<Note>, AllocError>
-    ensures { IfOk result (λ notes. notes.items
-        ≡ notes_on server.now ranged (reading body.now) (incoming_view incoming.now)) }
+    ensures { IfOk result (λ notes. notes.items ≡ notes_on server.now ranged noted.now.lengths.items
+        (option_map view noted.now.params) (incoming_view incoming.now)) }
 {
     match incoming {
         Incoming::DidOpen(Some(params)) => opening_notes(alloc, server, params),
-        Incoming::DidChange(Some(params)) => changing_notes(alloc, server, ranged, body, params),
-        Incoming::OtherNotification { method } => saving_notes(
-            alloc,
-            server,
-            method.as_str(),
-            body,
-        ),
+        Incoming::DidChange(Some(params)) => {
+            changing_notes(alloc, server, ranged, &noted.lengths, params)
+        }
+        Incoming::OtherNotification { method } => {
+            saving_notes(alloc, server, method, noted.params.as_ref())
+        }
         _ => Ok(Vec::new(alloc)),
     }
 }
@@ -108,21 +124,20 @@ fn changing_notes(
     alloc: Global,
     server: &Server,
     ranged: bool,
-    body: &[u8],
+    lengths: &[Option<u64>],
     params: &ChangeParams,
 ) -> Result<Vec<Note>, AllocError>
     ensures { IfOk result (λ notes. notes.items
-        ≡ changing_notes (terms_in server.now ranged (reading body.now)) (change_view params.now)
+        ≡ changing_notes (terms_in server.now ranged lengths.now) (change_view params.now)
         (entry_at server.now.table (string_bytes params.now.uri))) }
 {
     let mut notes = Vec::new(alloc);
     let Some(document) = server.store().get(&params.uri) else {
         return Ok(notes);
     };
-    let lengths = range_lengths(alloc, body)?;
     let terms = Terms {
         encoding: server.encoding().unwrap_or(Encoding::Utf16),
-        lengths: lengths.as_slice(),
+        lengths,
         ranged,
     };
     push_version_note(&mut notes, params.version, document.version())?;
@@ -130,20 +145,19 @@ fn changing_notes(
     Ok(notes)
 }
 
-/// Notes a text that was saved and isn't its document's. Only the body of a `didSave` is read.
+/// Notes a text that was saved and isn't its document's.
 fn saving_notes(
     alloc: Global,
     server: &Server,
     method: &str,
-    body: &[u8],
+    params: Option<&Value>,
 ) -> Result<Vec<Note>, AllocError>
-    ensures { IfOk result (λ notes. notes.items
-        ≡ saving_notes server.now.table method.now (reading body.now)) }
+    ensures { IfOk result (λ notes. notes.items ≡ saving_notes server.now.table method.now
+        (option_map (λ params. view params.now) params.entry)) }
 {
     let mut notes = Vec::new(alloc);
     if method == "textDocument/didSave" {
-        let params = notification_params(alloc, body)?;
-        push_saved_note(alloc, &mut notes, server.store(), params.as_ref())?;
+        push_saved_note(alloc, &mut notes, server.store(), params)?;
     }
     Ok(notes)
 }

@@ -4,28 +4,13 @@
 ghost use Rattle.std.specs.Prelude.{◌≡◌, ◌++◌, ◌<◌, IfOk, OnOk, drop, length, option_and_then, option_map, slice_index, suc};
 ghost use Rattle.serde_json.specs.View.{view};
 ghost use Rattle.line_diff.specs.Lines.{ends_line};
-ghost use Rattle.lsp_message.specs.Message.{reading};
 ghost use Rattle.lsp_store.specs.Table.{entry_at};
-ghost use Rattle.lsp_replay.specs.Notes.{differing_line, notification_params, saved_notes, saved_text, saved_uri};
+ghost use Rattle.lsp_replay.specs.Notes.{differing_line, saved_notes, saved_text, saved_uri};
 
 use crate::notes::Note;
-use lsp_message::{Message, ReadFault, read};
 use lsp_store::{Document, Store};
 use serde_json::Value;
 use std::alloc::{AllocError, Global};
-
-/// Returns the params of a body, if it is a notification with some.
-pub fn notification_params(alloc: Global, body: &[u8]) -> Result<Option<Value>, AllocError>
-    ensures { IfOk result
-        (λ params. option_map view params ≡ notification_params (reading body.now)) }
-{
-    match read(alloc, body) {
-        Ok(Message::Notification { params, .. }) => Ok(params),
-        Ok(_) => Ok(None),
-        Err(ReadFault::NoMemory) => Err(AllocError),
-        Err(_) => Ok(None),
-    }
-}
 
 /// Returns the URI of the document that params name.
 pub fn saved_uri(params: Option<&Value>) -> Option<&str>

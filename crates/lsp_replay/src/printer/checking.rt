@@ -26,7 +26,7 @@ impl Printer for Check {
 
     ghost reached = { λ check. check.session };
 
-    ghost parts = { λ check. 0 };
+    const NOTES: bool = false;
 
     ghost quiet = { λ _. record { silent = refl; unstopped = refl } };
 

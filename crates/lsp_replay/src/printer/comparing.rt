@@ -3,10 +3,11 @@
 ghost use Rattle.std.specs.Prelude.{◌≡◌, refl, IfOk, OnOk, option_map, string_bytes};
 ghost use Rattle.line_diff.specs.Compared.{equality};
 ghost use Rattle.lsp_store.specs.Table.{entry_at};
-ghost use Rattle.lsp_replay.specs.Compared.{compared_outcome, learned, taken_if};
+ghost use Rattle.lsp_replay.specs.Commands.{output_in};
+ghost use Rattle.lsp_replay.specs.Compared.{compared_outcome, comparing, learned, taken_if};
 ghost use Rattle.lsp_replay.specs.Session.{session_outcome};
 ghost use Rattle.lsp_replay.specs.inside.Bodies.{body_view};
-ghost use Rattle.lsp_replay.specs.inside.Compared.{compared_in, ending_read, splices_read};
+ghost use Rattle.lsp_replay.specs.inside.Compared.{ending_read, splices_read};
 ghost use Rattle.lsp_replay.specs.inside.Verdicts.{verdict_view};
 
 mod splices;
@@ -36,7 +37,7 @@ impl Compare {
         ensures { IfOk result (λ uri. option_map string_bytes uri
             ≡ ending_read self.now.comparison.ending (body_view read.now)) }
     {
-        let RecordBody::Client(_, incoming) = read else {
+        let RecordBody::Client(_, incoming, _) = read else {
             return Ok(None);
         };
         match uri_of(Sender::Client, incoming) {
@@ -53,7 +54,7 @@ impl Compare {
             (body_view read.now)) }
     {
         match read {
-            RecordBody::Client(_, Incoming::DidChange(Some(params)))
+            RecordBody::Client(_, Incoming::DidChange(Some(params)), _)
                 if self.comparison.is_of(&params.uri) => {
                 let splices = splices_on(self.alloc, self.session.server(), params)?;
                 Ok(Some(splices))
@@ -123,11 +124,11 @@ impl Compare {
 }
 
 impl Printer for Compare {
-    ghost run_output = { λ compare. compared_in compare.comparison compare.session };
+    ghost run_output = { λ compare. output_in comparing compare.comparison compare.session };
 
     ghost reached = { λ compare. compare.session };
 
-    ghost parts = { λ compare. 0 };
+    const NOTES: bool = false;
 
     ghost quiet = { λ _. record { silent = refl; unstopped = refl } };
 

@@ -34,7 +34,7 @@ impl Printer for Convert {
 
     ghost reached = { λ convert. convert.session };
 
-    ghost parts = { λ convert. 0 };
+    const NOTES: bool = false;
 
     ghost quiet = { λ _. record { silent = refl; unstopped = refl } };
 

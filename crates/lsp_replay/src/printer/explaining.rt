@@ -1,15 +1,15 @@
 //! `check` with reasons: what a server answers to each record of a log, why it was refused, and
 //! what is suspicious of it.
 
-ghost use Rattle.std.specs.Prelude.{◌≡◌, ◌++◌, refl, OnOk, codes, decimal, flat_map, option_map, string_bytes};
-ghost use Rattle.lsp_message.specs.Message.{reading};
+ghost use Rattle.std.specs.Prelude.{◌≡◌, ◌++◌, refl, OnOk, codes, decimal, flat_map, option_map, string_bytes, true};
 ghost use Rattle.lsp_message.specs.Seen.{change_view};
+ghost use Rattle.lsp_replay.specs.Commands.{output_in};
 ghost use Rattle.lsp_replay.specs.Counts.{counts_words};
+ghost use Rattle.lsp_replay.specs.Lines.{lines};
 ghost use Rattle.lsp_replay.specs.Tallies.{tally_words};
 ghost use Rattle.lsp_replay.specs.Explained.{advice, closing_lines, document_words, explaining, explanation, first_advice};
-ghost use Rattle.lsp_replay.specs.Explained.{habit_advice, is_listed, lenient_advice, line_with, noted_uri, remark, see_words};
-ghost use Rattle.lsp_replay.specs.inside.Lines.{lines_in};
-ghost use Rattle.lsp_replay.specs.inside.Facts.{explained_by, listed_by, seen_by};
+ghost use Rattle.lsp_replay.specs.Explained.{habit_advice, is_listed, lenient_advice, line_with, remark, see_words};
+ghost use Rattle.lsp_replay.specs.inside.Facts.{explained_by, listed_by, noted_by, seen_by};
 ghost use Rattle.lsp_replay.specs.inside.Verdicts.{verdict_view};
 
 use crate::commands::Listing;
@@ -19,7 +19,6 @@ use crate::facts::{Facts, Known, has_notes};
 use crate::handler::{Finished, Given, Output, Printed};
 use crate::members::{push_json_string, push_number, push_words};
 use crate::notes::Note;
-use crate::notes::saved::{notification_params, saved_uri};
 use crate::printer::Printer;
 use crate::printer::checking::push_verdict;
 use crate::printer::noted::push_notes;
@@ -57,11 +56,13 @@ impl Explain {
 
 impl Printer for Explain {
     ghost run_output = { λ explain.
-        lines_in (explaining explain.listing) explain.known explain.session };
+        output_in (lines (explaining explain.listing)) explain.known explain.session };
 
     ghost reached = { λ explain. explain.session };
 
-    ghost parts = { λ explain. 0 };
+    ghost NOTES = { true };
+
+    const NOTES: bool = true;
 
     ghost quiet = { λ _. record { silent = refl; unstopped = refl } };
 
@@ -75,7 +76,7 @@ impl Printer for Explain {
             .known
             .take(&mut self.session, item, read, &mut witness)?;
         let limits = self.session.server().store().limits();
-        push_facts(self.alloc, buffer, self.listing, limits, &facts, item.body)?;
+        push_facts(self.alloc, buffer, self.listing, limits, &facts)?;
         Ok(Given::more(Output::Bytes))
     }
 
@@ -92,16 +93,15 @@ fn push_facts(
     listing: Listing,
     limits: Limits,
     facts: &Facts,
-    body: &[u8],
 ) -> Result<(), AllocError>
-    ensures { OnOk result (buffer.new.items ≡ buffer.old.items
-        ++ explained_by listing limits facts.now (reading body.now)) }
+    ensures { OnOk result
+        (buffer.new.items ≡ buffer.old.items ++ explained_by listing limits facts.now) }
 {
     let notes = listed_notes(listing, facts);
     if !is_listed(listing, &facts.verdict, notes) {
         return Ok(());
     }
-    push_line(alloc, buffer, limits, facts, body, notes)
+    push_line(alloc, buffer, limits, facts, notes)
 }
 
 /// Returns the notes on the line of a record: those that are no habits, or each.
@@ -128,19 +128,18 @@ fn push_line(
     buffer: &mut Vec<u8>,
     limits: Limits,
     facts: &Facts,
-    body: &[u8],
     notes: &[Note],
 ) -> Result<(), AllocError>
     ensures { OnOk result (buffer.new.items ≡ buffer.old.items
         ++ line_with limits facts.now.number (option_map string_bytes facts.now.uri)
-        (reading body.now) (option_map change_view facts.now.change) (seen_by facts.now)
+        (noted_by facts.now) (option_map change_view facts.now.change) (seen_by facts.now)
         (verdict_view facts.now.verdict) notes.now) }
 {
     push_number(buffer, facts.number)?;
     buffer.extend_from_slice(b" ")?;
     push_verdict(buffer, &facts.verdict)?;
     push_explanation(alloc, buffer, limits, facts)?;
-    push_remark(alloc, buffer, facts.uri.as_deref(), body, notes)?;
+    push_remark(alloc, buffer, facts.noted(), notes)?;
     buffer.extend_from_slice(b"\n")
 }
 
@@ -169,43 +168,25 @@ fn push_explanation(
     push_see(buffer, facts.last)
 }
 
-/// Writes what is suspicious of a record, if something is.
+/// Writes what is suspicious of a record, and of which document, if something is.
 fn push_remark(
     alloc: Global,
     buffer: &mut Vec<u8>,
     uri: Option<&str>,
-    body: &[u8],
     notes: &[Note],
 ) -> Result<(), AllocError>
-    ensures { OnOk result (buffer.new.items ≡ buffer.old.items ++ remark
-        (noted_uri (option_map (λ uri. uri.now) uri.entry) (reading body.now)) notes.now) }
+    ensures { OnOk result (buffer.new.items ≡ buffer.old.items
+        ++ remark (option_map (λ uri. uri.now) uri.entry) notes.now) }
 {
     if notes.is_empty() {
         return Ok(());
     }
-    push_noted_document(alloc, buffer, uri, body)?;
+    push_document(alloc, buffer, uri)?;
     buffer.extend_from_slice(b": ")?;
     push_notes(buffer, "; ", notes)
 }
 
-/// Writes the document that notes are about. The body is read for that of a text that was saved.
-fn push_noted_document(
-    alloc: Global,
-    buffer: &mut Vec<u8>,
-    uri: Option<&str>,
-    body: &[u8],
-) -> Result<(), AllocError>
-    ensures { OnOk result (buffer.new.items ≡ buffer.old.items ++ document_words
-        (noted_uri (option_map (λ uri. uri.now) uri.entry) (reading body.now))) }
-{
-    if uri.is_some() {
-        return push_document(alloc, buffer, uri);
-    }
-    let params = notification_params(alloc, body)?;
-    push_document(alloc, buffer, saved_uri(params.as_ref()))
-}
-
-/// Writes the document that a record is about.
+/// Writes the document that a record or its notes are about.
 fn push_document(alloc: Global, buffer: &mut Vec<u8>, uri: Option<&str>) -> Result<(), AllocError>
     ensures { OnOk result (buffer.new.items ≡ buffer.old.items
         ++ document_words (option_map (λ uri. uri.now) uri.entry)) }

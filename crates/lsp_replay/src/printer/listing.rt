@@ -1,7 +1,8 @@
 //! Which message opened each document of a log first.
 
 ghost use Rattle.std.specs.Prelude.{refl};
-ghost use Rattle.lsp_replay.specs.inside.Openings.{listed_in};
+ghost use Rattle.lsp_replay.specs.Commands.{output_in};
+ghost use Rattle.lsp_replay.specs.Openings.{listing_openings};
 
 use crate::handler::{Finished, Given, Output, Printed};
 use crate::openings::Openings;
@@ -20,11 +21,11 @@ pub struct ListOpenings {
 }
 
 impl Printer for ListOpenings {
-    ghost run_output = { λ list. listed_in list.openings list.session };
+    ghost run_output = { λ list. output_in listing_openings list.openings list.session };
 
     ghost reached = { λ list. list.session };
 
-    ghost parts = { λ list. 0 };
+    const NOTES: bool = false;
 
     ghost quiet = { λ _. record { silent = refl; unstopped = refl } };
 

@@ -32,7 +32,7 @@ impl Printer for Normalise {
 
     ghost reached = { λ normalise. normalise.session };
 
-    ghost parts = { λ normalise. 0 };
+    const NOTES: bool = false;
 
     ghost quiet = { λ _. record { silent = refl; unstopped = refl } };
 

@@ -2,9 +2,9 @@
 
 ghost use Rattle.std.specs.Prelude.{◌≡◌, ◌++◌, refl, IfOk, OnOk};
 ghost use Rattle.lsp_replay.specs.Session.{session_outcome};
-ghost use Rattle.lsp_replay.specs.Commands.{report_from};
-ghost use Rattle.lsp_replay.specs.Parts.{is_last, part_bytes, part_data, part_outcome};
-ghost use Rattle.lsp_replay.specs.inside.Parts.{found_now, replayed_in, text_now};
+ghost use Rattle.lsp_replay.specs.Commands.{output_in, report_from};
+ghost use Rattle.lsp_replay.specs.Parts.{is_last, part_bytes, part_data, part_outcome, replaying_part};
+ghost use Rattle.lsp_replay.specs.inside.Parts.{found_now, text_now};
 
 pub(crate) mod chosen;
 
@@ -69,11 +69,11 @@ impl ReplayPart {
 
 impl Printer for ReplayPart {
     ghost run_output = { λ replay.
-        replayed_in (part_data replay.part) (found_now replay) replay.session };
+        output_in (replaying_part (part_data replay.part)) (found_now replay) replay.session };
 
     ghost reached = { λ replay. replay.session };
 
-    ghost parts = { λ replay. 0 };
+    const NOTES: bool = false;
 
     ghost quiet = { λ _. record { silent = refl; unstopped = refl } };
 

@@ -25,6 +25,8 @@ impl Printer for Replay {
 
     ghost reached = { λ replay. replay.session };
 
+    const NOTES: bool = false;
+
     ghost parts = { λ replay. length replay.session.server.table - replay.next };
 
     ghost quiet = { λ _. record { silent = refl; unstopped = refl } };

@@ -66,7 +66,7 @@ impl Printer for Serve {
 
     ghost reached = { λ serve. serve.session };
 
-    ghost parts = { λ serve. 0 };
+    const NOTES: bool = false;
 
     ghost quiet = { λ _. record { silent = refl; unstopped = refl } };
 

@@ -175,7 +175,7 @@ impl Printer for Squashing {
 
     ghost reached = { λ squashing. squashing.session };
 
-    ghost parts = { λ squashing. 0 };
+    const NOTES: bool = false;
 
     ghost quiet = { λ _. record { silent = refl; unstopped = refl } };
 

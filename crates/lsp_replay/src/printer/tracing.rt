@@ -2,15 +2,16 @@
 //!
 //! `first` writes the members that say what a record is, `values` the others.
 
-ghost use Rattle.std.specs.Prelude.{◌≡◌, ◌++◌, ◌&&◌, IfOk, refl, OnOk, codes, decimal, option_map};
+ghost use Rattle.std.specs.Prelude.{◌≡◌, ◌++◌, ◌&&◌, IfOk, refl, OnOk, codes, decimal, option_map, true};
 ghost use Rattle.lsp_message.specs.Message.{reading};
 ghost use Rattle.lsp_message.specs.Seen.{change_view};
 ghost use Rattle.lsp_server.specs.Incoming.{incoming_of};
 ghost use Rattle.lsp_stream.specs.Ports as ports;
 ghost use Rattle.lsp_replay.specs.inside.Facts.{members_by, reason_of};
-ghost use Rattle.lsp_replay.specs.inside.Lines.{lines_in};
 ghost use Rattle.lsp_replay.specs.inside.Reads.{IsReadOf};
 ghost use Rattle.lsp_replay.specs.inside.Verdicts.{verdict_view};
+ghost use Rattle.lsp_replay.specs.Commands.{output_in};
+ghost use Rattle.lsp_replay.specs.Lines.{lines};
 ghost use Rattle.lsp_replay.specs.Session.{has_changed};
 ghost use Rattle.lsp_replay.specs.Trace.{document_after, first_members, is_json, member, notes_json, tracing};
 
@@ -67,7 +68,7 @@ impl Trace {
     {
         let number = one_more(self.session.records());
         match read {
-            RecordBody::Client(_, incoming) => {
+            RecordBody::Client(_, incoming, _) => {
                 push_first(self.alloc, buffer, number, head, incoming)?;
                 Ok(is_json(incoming))
             }
@@ -123,11 +124,14 @@ impl Trace {
 }
 
 impl Printer for Trace {
-    ghost run_output = { λ trace. lines_in (tracing trace.details) trace.known trace.session };
+    ghost run_output = { λ trace.
+        output_in (lines (tracing trace.details)) trace.known trace.session };
 
     ghost reached = { λ trace. trace.session };
 
-    ghost parts = { λ trace. 0 };
+    ghost NOTES = { true };
+
+    const NOTES: bool = true;
 
     ghost quiet = { λ _. record { silent = refl; unstopped = refl } };
 

@@ -27,7 +27,7 @@ impl Session {
         ensures ranged { IfOk result (IsHeard self.old (body_view read.entry)) }
     {
         let taken = match read {
-            RecordBody::Client(version, incoming) => Taken {
+            RecordBody::Client(version, incoming, _noted) => Taken {
                 verdict: self.answer(version, incoming)?,
                 change: None,
                 ranged: None,

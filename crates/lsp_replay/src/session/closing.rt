@@ -23,7 +23,7 @@ impl Session {
         let Some(uri) = uri else {
             return Ok(None);
         };
-        let RecordBody::Client(_, incoming) = read else {
+        let RecordBody::Client(_, incoming, _) = read else {
             return Ok(None);
         };
         let Incoming::DidClose(params) = incoming else {

@@ -29,7 +29,7 @@ fn uri_opened(incoming: &Incoming) -> Option<&str>
 pub fn opened_uri(alloc: Global, read: &RecordBody<'_>) -> Result<Option<String>, AllocError>
     ensures { IfOk result (λ uri. option_map string_bytes uri ≡ open_read (body_view read.now)) }
 {
-    let RecordBody::Client(_, incoming) = read else {
+    let RecordBody::Client(_, incoming, _) = read else {
         return Ok(None);
     };
     copied_text(alloc, uri_opened(incoming))

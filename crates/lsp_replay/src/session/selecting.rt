@@ -97,7 +97,10 @@ impl Selection {
             }) }
     {
         match read {
-            RecordBody::Client(_, incoming) => self.message_stays(session.server.phase(), incoming),
+            RecordBody::Client(_, incoming, _) => self.message_stays(
+                session.server.phase(),
+                incoming,
+            ),
             RecordBody::Server(body) => self.answer_stays(session, body),
         }
     }

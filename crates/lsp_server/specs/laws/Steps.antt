@@ -1,14 +1,7 @@
 -- What holds of every step, in the protocol's terms.
-use Rattle.std.specs.Prelude.{ℕ, ◌≡◌, ◌≢◌, ◌≤◌, true, List, Option, Some, None}
+use Rattle.lsp_server.specs.Prelude.{ℕ, ◌≡◌, ◌≢◌, ◌≤◌, true, List, Option, Some, None, Offers, is_offered, IdData, OutcomeData, request, notification, message, Reading, OutgoingData, initialize_result, shutdown_result, error_reply, Encoding, Negotiated, Phase, New, Running, Down, Ended}
 use Rattle.serde_json.specs.Data.{Data}
-use Rattle.lsp_message.specs.declared.agreement.Offers.{Offers}
-use Rattle.lsp_message.specs.Agreement.{is_offered}
-use Rattle.lsp_message.specs.Message.{IdData, OutcomeData, request, notification, response, message, Reading}
-use Rattle.lsp_message.specs.Outgoing.{OutgoingData, initialize_result, shutdown_result, error_reply}
-use Rattle.lsp_text.specs.declared.encoding.Encoding.{Encoding}
-use Rattle.lsp_server.specs.declared.config.EncodingChoice.TheVariants.{Negotiated}
-use Rattle.lsp_server.specs.declared.phase.Phase.{Phase}
-use Rattle.lsp_server.specs.declared.phase.Phase.TheVariants.{New, Running, Down, Ended}
+use Rattle.lsp_message.specs.Message.{response}
 use Rattle.lsp_server.specs.Answer.{AnswerData, reply, changed, dropped, ignored, already_ended, refused, exits}
 use Rattle.lsp_server.specs.Choice.{encoding_chosen}
 use Rattle.lsp_server.specs.Step.{ServerData, step}

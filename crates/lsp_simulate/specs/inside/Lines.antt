@@ -1,8 +1,6 @@
 -- The lines of the input while they are taken.
-use Rattle.std.specs.Prelude.{ℕ, ◌≡◌, ◌+◌, ◌-◌, ◌*◌, Bool, true, false, List, [], ◌∷◌, take, drop, Option, None, Some, is_some, if◌then◌else◌, Vec, ⊤}
+use Rattle.lsp_simulate.specs.Prelude.{ℕ, ◌≡◌, ◌+◌, ◌-◌, ◌*◌, Bool, true, false, List, [], ◌∷◌, take, drop, Option, None, Some, is_some, if◌then◌else◌, Vec, ⊤, prepend_known, ReaderState}
 use Rattle.std.specs.declared.alloc.Global.{Global}
-use Rattle.std.specs.Io.KnownBytes.{prepend_known}
-use Rattle.lsp_stream.specs.Ports.{ReaderState}
 use Rattle.lsp_simulate.specs.declared.lines.InputLines.{InputLines}
 use Rattle.lsp_simulate.specs.Session.{lines_from}
 

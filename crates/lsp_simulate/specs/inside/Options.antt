@@ -1,7 +1,6 @@
 -- The program while it is put together.
-use Rattle.std.specs.Prelude.{[], true, codes}
+use Rattle.lsp_simulate.specs.Prelude.{[], true, codes, new_shape}
 use Rattle.clap.specs.Words.{App}
-use Rattle.clap.specs.Simple.{new_shape}
 
 -- The program without its options.
 abbrev pub top_app : App

@@ -1,17 +1,6 @@
 -- A session on its way.
-use Rattle.std.specs.Prelude.{ℕ, ◌≡◌, ◌⊎◌, ◌++◌, ◌∷◌, [], false, List, length, Option, Result, Ok, Err}
-use Rattle.std.specs.Io.KnownBytes.{Appends}
-use Rattle.lsp_stream.specs.declared.fault.EngineFault.{EngineFault}
+use Rattle.lsp_simulate.specs.Prelude.{ℕ, ◌≡◌, ◌⊎◌, ◌++◌, ◌∷◌, [], false, List, length, Option, Result, Ok, Err, Appends, EngineFault, WriterState, AppendsFront, Spends, allowed_turns, DocumentItem, Happened, EventData, PairData, IsFitting, IsStep, new_pair, Setting, RunFault}
 use Rattle.lsp_stream.specs.declared.fault.EngineFault.TheVariants.{NoMemory, TooManyTurns, Write}
-use Rattle.lsp_stream.specs.Ports.{WriterState}
-use Rattle.lsp_stream.specs.Turns.{AppendsFront, Spends}
-use Rattle.lsp_program.specs.Output.{allowed_turns}
-use Rattle.lsp_message.specs.Params.{DocumentItem}
-use Rattle.lsp_pair.specs.declared.event.Happened.{Happened}
-use Rattle.lsp_pair.specs.Events.{EventData}
-use Rattle.lsp_pair.specs.Pair.{PairData, IsFitting, IsStep, new_pair}
-use Rattle.lsp_simulate.specs.declared.command_line.Setting.{Setting}
-use Rattle.lsp_simulate.specs.declared.run.RunFault.{RunFault}
 use Rattle.lsp_simulate.specs.declared.run.RunFault.TheVariants as run
 use Rattle.lsp_simulate.specs.inside.Lines.{Passed}
 use Rattle.lsp_simulate.specs.Session.{AppendsLines, AreSteps, AreWholeLines, PairStep, document_lines, next_line_number, pair_setting, step_line, step_lines}

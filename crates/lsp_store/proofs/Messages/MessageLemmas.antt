@@ -29,19 +29,12 @@ pub body_written : (uri given : List ℕ) (version error : ℤ) (changes : List 
 unfolding change_body
 body_written uri given version error changes same is = rw (same, is, written_same changes) refl
 
--- what is appended, and what is written into an empty buffer
+-- what is appended
 pub body_pushed : (old new uri : List ℕ) (version error : ℤ) (changes : List Change)
     → new ≡ old ++ body_of (seen.did_change_of uri error changes) → error ≡ version
     → new ≡ old ++ change_body uri version (map content_change changes)
 body_pushed old new uri version error changes is same =
     is ∙ ap (λ body. old ++ body) (body_written uri uri version error changes refl same)
-
-pub body_begun : (old new uri : List ℕ) (version error : ℤ) (changes : List Change) → old ≡ []
-    → new ≡ old ++ body_of (seen.did_change_of uri error changes) → error ≡ version
-    → new ≡ change_body uri version (map content_change changes)
-body_begun old new uri version error changes none is same =
-    body_pushed old new uri version error changes is same
-    ∙ ap (λ front. front ++ change_body uri version (map content_change changes)) none
 
 pub encode_refused : (limits : LimitsData) (body : List ℕ) (fault : EncodeFault)
     → IsEncodeFault limits.max_body (length body) fault → IsRefusal (body_refusal limits body)
@@ -139,6 +132,32 @@ pub accepted_from : (limits : LimitsData) (units : ℕ → ℕ) (entry : Documen
     → Accepts limits units entry version batch → entry_refusal limits units entry version batch ≡ None
 accepted_from limits units entry version batch a = grind (arith, common_steps, nat_lt, or_from, le-ltb)
 
+-- The canonical batch has no more bytes than the text that it leaves, and is accepted where that text is.
+module _ (limits : LimitsData) (units : ℕ → ℕ) (entry : DocumentItem) (version : ℤ) (batch : List ContentChange)
+    (items : List Item) (law : IsCanonical units (chars entry.text) batch items) where
+  weighs : batch_bytes (canonical units (chars entry.text) items) ≤ length (bytes_left entry.text items)
+  weighs =
+      let texts : batch_bytes (canonical units (chars entry.text) items)
+      ≤ sum_by (λ change. sum_by len_utf8 change.text) (canonical units (chars entry.text) items) =
+      sum_by-le-sum_by (λ (e : ContentChange). length (encode_utf8_all e.text))
+      (λ (e : ContentChange). sum_by len_utf8 e.text) (canonical units (chars entry.text) items)
+      (λ (e : ContentChange). omega (arith, bytes_sum e.text)) in
+      omega (arith, texts, law.short len_utf8, bytes_sum (text_of (chars entry.text) items))
+
+  pub canonical_accepted : is_stale limits version entry.version ≡ false
+      → length (canonical units (chars entry.text) items) ≤ limits.max_changes
+      → length (bytes_left entry.text items) ≤ limits.max_text → length (bytes_left entry.text items) ≤ 1073741824
+      → entry_refusal limits units entry version (canonical units (chars entry.text) items) ≡ None
+  canonical_accepted newer few short small =
+      accepted_from limits units entry version (canonical units (chars entry.text) items) (record {
+        newer = newer;
+        few = few;
+        fits = omega (arith, weighs, small);
+        items = items;
+        means = law.means;
+        short = short;
+      })
+
 -- what a batch leaves is told by what it makes of the document
 pub leaves_same : (units : ℕ → ℕ) (table : List DocumentItem) (uri : List ℕ) (version : ℤ)
     (batch other : List ContentChange)
@@ -189,32 +208,10 @@ module _ (limits : LimitsData) (encoding : Encoding) (table : List DocumentItem)
       is = batch_at batch accepts.items accepts.means;
     }
 
-    settled_fits : length (bytes_left entry.text accepts.items) ≤ 1073741824
-        → batch_bytes (canonical (units_in encoding) (chars entry.text) accepts.items) ≤ greatest_batch
-    settled_fits small =
-        let weigh : batch_bytes (canonical (units_in encoding) (chars entry.text) accepts.items)
-        ≤ sum_by (λ change. sum_by len_utf8 change.text) (canonical (units_in encoding) (chars entry.text)
-        accepts.items)
-        = sum_by-le-sum_by (λ (e : ContentChange). length (encode_utf8_all e.text)) (λ
-        (e : ContentChange). sum_by len_utf8 e.text)
-        (canonical (units_in encoding) (chars entry.text) accepts.items) (λ (e : ContentChange). omega (
-          arith,
-          bytes_sum e.text,
-        )) in
-        omega (arith, weigh, law.short len_utf8, bytes_sum (text_of (chars entry.text) accepts.items), small)
-
     settled_may : length (bytes_left entry.text accepts.items) ≤ 1073741824 → entry_refusal limits (units_in encoding)
         entry version (canonical (units_in encoding) (chars entry.text) accepts.items) ≡ None
-    settled_may small =
-        accepted_from limits (units_in encoding) entry version (canonical (units_in encoding) (chars entry.text)
-        accepts.items) (record {
-          newer = accepts.newer;
-          few = omega (arith, law.few, accepts.few);
-          fits = settled_fits small;
-          items = accepts.items;
-          means = law.means;
-          short = accepts.short;
-        })
+    settled_may small = canonical_accepted limits (units_in encoding) entry version batch accepts.items law
+        accepts.newer (omega (arith, law.few, accepts.few)) accepts.short small
 
     pub settled_accepted : limits.max_text ≤ 1073741824 → entry_refusal limits (units_in encoding) entry version
         (canonical (units_in encoding) (chars entry.text) accepts.items) ≡ None

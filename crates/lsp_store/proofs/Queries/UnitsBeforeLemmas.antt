@@ -1,16 +1,10 @@
 -- The units of a whole text before a byte offset.
-use Rattle.lsp_store.proofs.Prelude.{ℕ, suc, ◌≡◌, ◌+◌, ◌-◌, ◌<◌, ◌≤◌, ◌↔◌, ◌==◌, List, [], ◌∷◌, ◌++◌, length, take, get_or, sum_by, Some, None, IsUtf8, encode_utf8, encode_utf8_all, refl, sym, ap, ◌∙◌, subst, arith, ⊎_elim, eq-eqb, length-append, append-nil, len_utf8, chars, IsCharBoundary, cases_eq, cases_lt, ne_eqb, append_assoc, take_all, take_at, sum_by-cons, sum_by_push, IsUtf8-take, chars-nil, chars_from_encodes, chars_past_char, encodes-append, encodes-chars, length-encode, Encoding, Utf8, Utf16, Utf32, utf8_bounds, utf16_bounds, utf32_bounds, units_in, units_between, HasUnitsBefore, HasPassed, IsPassed, IsTooFew, common_steps}
+use Rattle.lsp_store.proofs.Prelude.{ℕ, suc, ◌≡◌, ◌+◌, ◌-◌, ◌<◌, ◌≤◌, ◌↔◌, ◌==◌, List, [], ◌∷◌, ◌++◌, length, take, get_or, sum_by, Some, None, IsUtf8, encode_utf8, encode_utf8_all, refl, sym, ap, ◌∙◌, subst, arith, ⊎_elim, eq-eqb, length-append, append-nil, len_utf8, chars, IsCharBoundary, cases_eq, cases_lt, ne_eqb, append_assoc, take_all, take_at, sum_by-cons, sum_by_push, IsUtf8-take, chars-nil, chars_from_encodes, chars_past_char, encodes-append, encodes-chars, length-encode, Encoding, units_in, units_between, HasUnitsBefore, HasPassed, IsPassed, IsTooFew, common_steps}
 use Rattle.std.specs.Bool.{then_some}
 use Rattle.lsp_text.specs.Text.{place_of}
 use Rattle.lsp_text.proofs.PlainLemmas.{units_total}
 use Rattle.lsp_text.proofs.Positions.PlaceLemmas.{index_at, place_boundary, place_one, take_place}
 use Rattle.lsp_text.proofs.Counting.UnitLemmas.{units_more, units_rise, units_same}
-
--- A character has at least one unit.
-pub some_units : (encoding : Encoding) (c : ℕ) → 1 ≤ units_in encoding c
-some_units Utf8 c = (utf8_bounds c).0
-some_units Utf16 c = (utf16_bounds c).0
-some_units Utf32 c = (utf32_bounds c).0
 
 pub units_from_start : (units : ℕ → ℕ) (text : List ℕ) (k : ℕ) → units_between units text 0 k
     ≡ sum_by units (take k text)

@@ -3,17 +3,17 @@
 //! A message is written from borrowed texts, and `lsp_frame::put_header` puts its header before
 //! it.
 
-ghost use Rattle.std.specs.Prelude.{◌≡◌, ◌<◌, ◌≤◌, ◌↔◌, ◌+◌, ◌-◌, ◌++◌, if◌then◌else◌, nat_lt, List, None, Some, Err, IfErr, IfOk, OnErr, OnOk, length, map, string_bytes, take, ℕ, ℤ};
+ghost use Rattle.std.specs.Prelude.{◌≡◌, ◌<◌, ◌≤◌, ◌↔◌, ◌+◌, ◌-◌, ◌++◌, List, None, Err, IfErr, IfOk, OnErr, OnOk, length, map, string_bytes, take, ℕ, ℤ};
 ghost use Rattle.lsp_frame.specs.Frame.{frame};
 ghost use Rattle.lsp_text.specs.Units.{units_in};
 ghost use Rattle.lsp_edit.specs.Batch.{ContentChange};
 ghost use Rattle.lsp_edit.specs.Edited.{content_change};
-ghost use Rattle.lsp_store.specs.declared.fault.StoreFault.TheVariants.{BodyTooLong, NoMemory, TooManyChanges};
+ghost use Rattle.lsp_store.specs.declared.fault.StoreFault.TheVariants.{BodyTooLong, NoMemory};
 ghost use Rattle.lsp_store.specs.Faults.{IsRefusal};
 ghost use Rattle.lsp_store.specs.Opened.{ChangeMayAllocate, OneMayAllocate};
 ghost use Rattle.lsp_edit.specs.Delta.{bytes_after};
 ghost use Rattle.lsp_store.specs.Plan.{IsBodyOfPlan, IsMessageFault, IsMessageOfPlan, IsPlanOf, IsPlanOn};
-ghost use Rattle.lsp_store.specs.Table.{change_refusal, too_many_changes};
+ghost use Rattle.lsp_store.specs.Table.{change_refusal};
 ghost use Rattle.lsp_store.specs.Message.{AreTexts, DoAlike, IsCanonicalOn, IsReadAgain, IsCanonicalOf};
 ghost use Rattle.lsp_store.specs.Message.{body_refusal, canonical_batch, canonical_body, canonical_frame, change_body, message_refusal};
 
@@ -26,23 +26,15 @@ use lsp_message::push_change;
 use lsp_text::Encoding;
 use std::alloc::{AllocError, Global};
 
-/// Refuses a batch with more changes than the limit allows. Takes no memory.
-fn check_batch_length(limits: &Limits, changes: &[Change]) -> Result<(), StoreFault>
-    ensures ok { OnOk result (length changes.now ≤ limits.now.max_changes) }
-    ensures error { IfErr result (λ fault. (fault ≡ TooManyChanges)
-        × (limits.now.max_changes < length changes.now)) }
-{
-    if changes.len() > limits.max_changes() {
-        return Err(StoreFault::TooManyChanges);
-    }
-    Ok(())
-}
-
 /// Most messages fit into this many bytes.
 const USUAL_LENGTH: usize = 256;
 
-/// Returns the frame of the `textDocument/didChange` of a batch.
-fn change_frame(
+/// Returns the frame of the `textDocument/didChange` of a batch (LSP 3.17,
+/// DidChangeTextDocument).
+///
+/// Refuses with [`StoreFault::BodyTooLong`] where the body has more than `max_body` bytes; and with
+/// [`StoreFault::NoMemory`]. Costs the message's bytes.
+pub fn change_frame(
     alloc: Global,
     limits: &Limits,
     uri: &str,
@@ -60,34 +52,8 @@ fn change_frame(
         (change_body uri.now version (map content_change changes.items)))) }
 {
     let mut body = Vec::with_capacity(alloc, USUAL_LENGTH)?;
-    push_change(&mut body, uri, version, &changes)?;
-    body_frame(alloc, limits, &body)
-}
-
-/// Returns the frame of the `textDocument/didChange` of a batch. Refuses with
-/// [`StoreFault::TooManyChanges`] before it takes memory, then as [`change_frame`] does.
-pub fn batch_frame(
-    alloc: Global,
-    limits: &Limits,
-    uri: &str,
-    version: i32,
-    changes: Vec<Change>,
-) -> Result<Vec<u8>, StoreFault>
-    ensures framed { IfOk result
-        (λ bytes. bytes.items
-        ≡ frame (change_body uri.now version (map content_change changes.items))) }
-    ensures few { OnOk result (length changes.items ≤ limits.now.max_changes) }
-    ensures within { OnOk result
-        (body_refusal limits.now
-        (change_body uri.now version (map content_change changes.items)) ≡ None) }
-    ensures error { IfErr result (IsRefusal
-        (if nat_lt limits.now.max_changes (length (map content_change changes.items)) then
-        Some too_many_changes else
-        body_refusal limits.now (change_body uri.now version (map content_change changes.items)))) }
-    ensures memory { result ≡ Err NoMemory → length changes.items ≤ limits.now.max_changes }
-{
-    check_batch_length(limits, &changes)?;
-    change_frame(alloc, limits, uri, version, changes)
+    push_body(&mut body, limits, uri, version, changes)?;
+    Ok(encode(alloc, limits, &body)?)
 }
 
 /// Appends the body of the `textDocument/didChange` of a batch, unless it is too long.
@@ -128,16 +94,6 @@ fn keep_within(bytes: &mut Vec<u8>, start: usize, limits: &Limits) -> Result<(),
         return Err(StoreFault::BodyTooLong { len });
     }
     Ok(())
-}
-
-/// Returns the frame of a body. Refuses with [`StoreFault::BodyTooLong`] before it takes memory.
-fn body_frame(alloc: Global, limits: &Limits, body: &[u8]) -> Result<Vec<u8>, StoreFault>
-    ensures framed { IfOk result (λ bytes. bytes.items ≡ frame body.now) }
-    ensures within { OnOk result (body_refusal limits.now body.now ≡ None) }
-    ensures error { IfErr result (IsRefusal (body_refusal limits.now body.now)) }
-    ensures memory { result ≡ Err NoMemory → body_refusal limits.now body.now ≡ None }
-{
-    Ok(encode(alloc, limits, body)?)
 }
 
 impl Store {

@@ -4,17 +4,8 @@ use Rattle.std.proofs.Math.Utf8.{encode}
 use Rattle.std.proofs.lemmas.Grind.{common_steps}
 
 -- a byte inside a character has no units
-utf16_none : (b : ℕ) → 128 ≤ b → b < 192 → lead_units_utf16 b ≡ 0
-utf16_none b low high = grind (arith, nat_tests)
-
 utf32_none : (b : ℕ) → 128 ≤ b → b < 192 → lead_units_utf32 b ≡ 0
 utf32_none b low high = grind (arith, nat_tests)
-
-utf16_two : (b : ℕ) → 240 ≤ b → lead_units_utf16 b ≡ 2
-utf16_two b low = grind (arith, nat_tests)
-
-utf16_one : (b : ℕ) → 192 ≤ b → b < 240 → lead_units_utf16 b ≡ 1
-utf16_one b low high = grind (arith, nat_tests)
 
 utf16_ascii : (b : ℕ) → b < 128 → lead_units_utf16 b ≡ 1
 utf16_ascii b low = grind (arith, nat_tests)
@@ -27,9 +18,6 @@ utf32_ascii b low = grind (arith, nat_tests)
 
 units_utf16_one : (c : ℕ) → c < 65536 → units_in Utf16 c ≡ 1
 units_utf16_one c h = grind (arith, nat_tests)
-
-units_utf16_two : (c : ℕ) → 65536 ≤ c → units_in Utf16 c ≡ 2
-units_utf16_two c h = grind (arith, nat_tests)
 
 pub utf16_first : (c : ℕ) → FirstHas lead_units_utf16 (encode c) (units_in Utf16 c)
 unfolding encode

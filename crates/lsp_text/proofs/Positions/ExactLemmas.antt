@@ -1,5 +1,5 @@
 -- The exact position of a place, by the line starts and the bytes of its line.
-use Rattle.lsp_text.proofs.Prelude.{◌≡◌, ℕ, zero, suc, ◌-◌, ◌≤◌, ◌<◌, List, [], ◌∷◌, length, slice_index, sum_by, Some, option_map, refl, sym, ap, ◌∙◌, arith, ⊎_elim, subst, len_utf8, chars, IsUtf8, cases_lt, length-take, length-drop, sum_by-cons, encodes-chars, length-le-encodes, Position, place_of, line_at, line_ends, line_start, AreLinesOf, IsPlace, AreStarts, IsLineOf, units_between, exact_position, denoted, common_steps}
+use Rattle.lsp_text.proofs.Prelude.{◌≡◌, ℕ, zero, suc, ◌≤◌, ◌<◌, List, [], ◌∷◌, length, slice_index, sum_by, Some, option_map, refl, sym, ap, ◌∙◌, arith, ⊎_elim, subst, len_utf8, chars, IsUtf8, cases_lt, length-take, length-drop, sum_by-cons, encodes-chars, length-le-encodes, Position, place_of, line_at, line_ends, line_start, AreLinesOf, IsPlace, AreStarts, IsLineOf, units_between, exact_position, denoted, common_steps}
 use Rattle.lsp_text.proofs.TextLines.LineLemmas.{line_rises, line_step, reached, in_content_line, line_has_start}
 use Rattle.lsp_text.proofs.Positions.PlaceLemmas.{place_order, place_rises, place_within}
 use Rattle.lsp_text.proofs.TextLines.StartLemmas.{starts_of_text}

@@ -1,5 +1,5 @@
 -- The place that a position denotes, by the bytes of its line.
-use Rattle.lsp_text.proofs.Prelude.{◌≡◌, ℕ, suc, ◌+◌, ◌-◌, ◌≤◌, ◌<◌, ◌==◌, cond, List, [], ◌∷◌, ◌++◌, length, take, drop, Option, Some, None, option_map, ltb as nat_lt, refl, sym, ap, ◌∙◌, arith, lt-ltb, encode_utf8_all, len_utf8, chars, IsCharBoundary, IsUtf8, encode, take-append-drop, length-append, append-nil, length-take, length-drop, encodes-append, encodes-chars, chars_from_encodes, IsUtf8-between, length-encode, Position, place_of, line_ends, line_start, line_stop, denoted, IsPlace, line_place, common_steps}
+use Rattle.lsp_text.proofs.Prelude.{◌≡◌, ℕ, ◌+◌, ◌-◌, ◌≤◌, ◌<◌, List, [], ◌∷◌, ◌++◌, length, take, drop, Option, Some, None, option_map, refl, sym, ap, ◌∙◌, arith, lt-ltb, encode_utf8_all, chars, IsCharBoundary, IsUtf8, encode, take-append-drop, length-append, append-nil, length-take, length-drop, encodes-append, encodes-chars, chars_from_encodes, IsUtf8-between, length-encode, Position, place_of, line_ends, line_start, line_stop, denoted, IsPlace, line_place, common_steps}
 use Rattle.lsp_text.proofs.Positions.PositionLemmas.{denoted_whole}
 use Rattle.lsp_text.proofs.Positions.BoundaryLemmas.{boundary_from}
 use Rattle.lsp_text.proofs.Positions.InLineLemmas.{index_in_line, denoted_in_line}
@@ -22,12 +22,6 @@ pub chars_part : (bytes : List ℕ) (j k : ℕ) → IsUtf8 bytes → j ≤ k →
     → chars (part bytes (place_of (chars bytes) j) (place_of (chars bytes) k)) ≡ take (k - j) (drop j (chars bytes))
 chars_part bytes j k utf8 order within =
     grind (arith, common_steps, part_place, encodes-chars, chars_from_encodes, part_utf8)
-
-map_len : (units : ℕ → ℕ) (x c : ℕ) (f g : ℕ → ℕ) (o : Option ℕ) (p : Option ℕ) → p ≡ option_map g o
-    → ((n : ℕ) → f (suc n) ≡ len_utf8 x + g n) → f 0 ≡ 0 →
-    cond (c == 0) (Some 0) (cond (nat_lt c (units x)) None (option_map (λ n. len_utf8 x + n) p))
-    ≡ option_map f (cond (c == 0) (Some 0) (cond (nat_lt c (units x)) None (option_map suc o)))
-map_len units x c f g o p same next start = grind (arith, common_steps, nat_lt)
 
 -- The place in a line is that of its index, whatever stands behind the line.
 line_place_is : (units : ℕ → ℕ) (cs rest_after : List ℕ) (c : ℕ) → line_place units cs c

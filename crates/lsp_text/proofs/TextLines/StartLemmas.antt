@@ -61,13 +61,6 @@ pub encode_high : (c : ℕ) → 128 ≤ c → AllHigh (encode c)
 unfolding encode
 encode_high c h = grind (arith, common_steps, cond_both, ltb)
 
-high_first : (bs rest : List ℕ) → AllHigh bs → 0 < length bs → 128 ≤ get_or (bs ++ rest) 0 0
-high_first [] rest all some = absurd (omega arith)
-high_first (b ∷ bs) rest all some = all.0
-
-not_line_feed : (a b : ℕ) → 128 ≤ a → 128 ≤ b → (a == 10) ≡ (b == 10)
-not_line_feed a b h g = grind (arith, nat_tests)
-
 -- the first byte is a line feed exactly if the first character is
 pub first_line_feed : (cs : List ℕ) → (slice_index (encode_utf8_all cs) 0 == 10) ≡ (slice_index cs 0 == 10)
 first_line_feed [] = refl

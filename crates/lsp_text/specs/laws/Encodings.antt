@@ -1,7 +1,5 @@
 -- Laws over the names of encodings, the units of characters, and the default.
-use Rattle.std.specs.Prelude.{ℕ, ◌≡◌, ◌≤◌, ◌↔◌, List, Some}
-use Rattle.lsp_text.specs.declared.encoding.Encoding.{Encoding}
-use Rattle.lsp_text.specs.declared.encoding.Encoding.TheVariants.{Utf16}
+use Rattle.lsp_text.specs.Prelude.{ℕ, ◌≡◌, ◌≤◌, ◌↔◌, List, Some, Encoding, Utf16}
 use Rattle.lsp_text.specs.contracts.encoding.EncodingDefault.TheImpl as encoding_default
 use Rattle.lsp_text.specs.Units.{units_in, name_of, encoding_named}
 

@@ -1,7 +1,6 @@
 -- Laws over positions. `units` says how many units a character has.
-use Rattle.std.specs.Prelude.{ℕ, ◌≡◌, ◌≤◌, ◌<◌, false, List, length, take, Some}
+use Rattle.lsp_text.specs.Prelude.{ℕ, ◌≡◌, ◌≤◌, ◌<◌, false, List, length, take, Some, Position}
 use Rattle.std.specs.Ordering.{nat_cmp, on, then_cmp}
-use Rattle.lsp_text.specs.declared.position.Position.{Position}
 use Rattle.lsp_text.specs.contracts.position.PositionOrd.TheImpl as position_ord
 use Rattle.lsp_text.specs.Text.{place_of}
 use Rattle.lsp_text.specs.TextLines.{splits_crlf, line_at, line_ends, line_start, line_stop}

@@ -1,11 +1,7 @@
 -- Bounds on the units of a character in each encoding.
-use Rattle.std.specs.Prelude.{ℕ, ◌≤◌}
-use Rattle.std.proofs.Common.{arith}
-use Rattle.std.specs.Char.{len_utf8}
-use Rattle.std.proofs.lemmas.Bool.Decides.{nat_tests}
+use Rattle.lsp_text.specs.Prelude.{ℕ, ◌≤◌, arith, len_utf8, nat_tests, Utf8, Utf16, Utf32}
 use Rattle.std.proofs.lemmas.Str.{len_utf8_bounds}
 use Rattle.lsp_text.specs.Units.{units_in}
-use Rattle.lsp_text.specs.declared.encoding.Encoding.TheVariants.{Utf8, Utf16, Utf32}
 
 -- A character has at least one unit, and no more units than bytes.
 pub utf8_bounds : (c : ℕ) → (1 ≤ units_in Utf8 c) × (units_in Utf8 c ≤ len_utf8 c)

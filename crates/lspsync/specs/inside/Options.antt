@@ -1,10 +1,8 @@
 -- The program while it is put together.
-use Rattle.std.specs.Prelude.{◌≡◌, ◌∷◌, [], true, false, List, codes, map}
-use Rattle.clap.specs.Words.{App, Shape, app_of, with_subcommand}
-use Rattle.clap.specs.Simple.{new_shape}
+use Rattle.lspsync.specs.Prelude.{◌≡◌, ◌∷◌, [], true, false, List, codes, map, Shape, app_of, with_subcommand, new_shape, rule_by}
+use Rattle.clap.specs.Words.{App}
 use Rattle.clap.specs.declared.builder.command.Command.{Command}
 use Rattle.clap.specs.declared.builder.command.Command.TheViews.{out-Command as fields_of}
-use Rattle.lsp_program.specs.Arguments.{rule_by}
 use Rattle.lsp_program.specs.declared.arguments.OptionNames.{OptionNames}
 use Rattle.lspsync.specs.CommandLine.{command_shape}
 use Rattle.lspsync.specs.declared.command_line.help.Page.{Page}

@@ -3,7 +3,7 @@
 ghost use Rattle.std.specs.Prelude.{◌≡◌, map};
 ghost use Rattle.lsp_program.specs.Arguments.{rule_by};
 ghost use Rattle.lsp_program.specs.declared.arguments.OptionNames.{OptionNames};
-ghost use Rattle.lspsync.specs.CommandLine.{limit_rules, program_app};
+ghost use Rattle.lspsync.specs.CommandLine.{common_rules, program_app};
 ghost use Rattle.lspsync.specs.inside.Options.{shape_by};
 
 use crate::command_line::texts::{
@@ -46,7 +46,7 @@ pub fn pages() -> &'static [Page]
 
 /// Returns the options that all commands have. Their defaults are those of `Limits::default()`.
 pub fn limits() -> &'static [Argument]
-    ensures { (names : OptionNames) → map (rule_by names) result.now ≡ limit_rules }
+    ensures { (names : OptionNames) → map (rule_by names) result.now ≡ common_rules }
 {
     LIMITS.as_slice()
 }

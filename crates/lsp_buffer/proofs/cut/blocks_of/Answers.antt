@@ -15,20 +15,9 @@ loop-cut-preserved c =
           c.in_ok-push.ensures.items c.loop-cut.invariant.1),
     )
 
-pub returns-clause-text : goal.returns-clause-text
-returns-clause-text c =
-    (cut_all c.args.text.now c.loop-cut.rest.now c.loop-cut.blocks.items c.push-2.new.self.items
+pub returns : goal.returns
+returns c =
+    let all = cut_all c.args.text.now c.loop-cut.rest.now c.loop-cut.blocks.items c.push-2.new.self.items
     c.in_ok-from_str-2.field-0 c.loop-cut.invariant.0 c.in_ok-from_str-2.ensures c.in_ok-push-2.ensures.items
-    c.loop-cut.invariant.1).whole
-
-pub returns-clause-blocks : goal.returns-clause-blocks
-returns-clause-blocks c =
-    (cut_all c.args.text.now c.loop-cut.rest.now c.loop-cut.blocks.items c.push-2.new.self.items
-    c.in_ok-from_str-2.field-0 c.loop-cut.invariant.0 c.in_ok-from_str-2.ensures c.in_ok-push-2.ensures.items
-    c.loop-cut.invariant.1).are
-
-pub returns-clause-full : goal.returns-clause-full
-returns-clause-full c =
-    (cut_all c.args.text.now c.loop-cut.rest.now c.loop-cut.blocks.items c.push-2.new.self.items
-    c.in_ok-from_str-2.field-0 c.loop-cut.invariant.0 c.in_ok-from_str-2.ensures c.in_ok-push-2.ensures.items
-    c.loop-cut.invariant.1).full
+    c.loop-cut.invariant.1 in
+    record { text = all.whole; blocks = all.are; full = all.full }

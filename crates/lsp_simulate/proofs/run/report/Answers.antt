@@ -1,5 +1,5 @@
 use Rattle.lsp_simulate.proofs.Prelude.{List, ℕ, ◌++◌, codes, ap, sym, ◌∙◌, subst, IsPrinted, run_fault_text}
-use Rattle.lsp_simulate.proofs.LineLemmas.{fault_pieces}
+use Rattle.lsp_program.proofs.PieceLemmas.{fault_pieces}
 use Rattle.lsp_simulate.proofs.run.report.Goals as goal
 
 pub returns : goal.returns

@@ -1,4 +1,4 @@
-use Rattle.lsp_text.proofs.Prelude.{◌≡◌, suc, true, false, sym, ◌∙◌, length, find, arith, is_in_content, units_in, common_steps}
+use Rattle.lsp_text.proofs.Prelude.{◌≡◌, suc, true, sym, ◌∙◌, length, find, arith, is_in_content, units_in, common_steps}
 use Rattle.lsp_text.proofs.PlainLemmas.{row_on, find_here, find_on, has_units, has_them, has_others, denoted_found}
 use Rattle.lsp_text.proofs.plain.denoted.Goals.{else-is_in_content-via-then-is_in_content+else-units_between-character-2, else-is_in_content-via-else-is_in_content}
 use Rattle.lsp_text.proofs.plain.denoted.Goals as goal

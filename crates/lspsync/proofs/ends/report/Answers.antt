@@ -1,5 +1,5 @@
 use Rattle.lspsync.proofs.Prelude.{List, ℕ, ◌++◌, codes, ap, sym, ◌∙◌, subst, IsPrinted, fault_text}
-use Rattle.lspsync.proofs.EndLemmas.{fault_pieces}
+use Rattle.lsp_program.proofs.PieceLemmas.{fault_pieces}
 use Rattle.lspsync.proofs.ends.report.Goals as goal
 
 pub returns : goal.returns

@@ -1,6 +1,6 @@
 //! The `rangeLength` of changes, by their bytes and by a tree.
 
-use lsp_message::range_lengths;
+use lsp_message::Incoming;
 use lsp_samples::again;
 use std::alloc::{AllocError, Global};
 use std::test::Fail;
@@ -39,8 +39,8 @@ static ROWS: [Row; 5] = [
 /// Returns whether a body's changes have the lengths of its row. Out of memory is counted, and the
 /// call made again.
 fn is_read(alloc: Global, row: &Row, refused: &mut usize) -> Result<bool, AllocError> {
-    let lengths = again!(refused, AllocError, range_lengths(alloc, row.body))?;
-    Ok(lengths.as_slice() == row.lengths)
+    let (_, noted) = again!(refused, AllocError, Incoming::read_noted(alloc, row.body))?;
+    Ok(noted.lengths.as_slice() == row.lengths)
 }
 
 #[test]

@@ -8,21 +8,19 @@ position-inner-requires c =
     inner_part c.args.self.now c.part_at.result.block.now c.part_at.result.before c.args.offset
     c.part_at.ensures c.requires
 
-pub position_from-requires-clause-line : goal.position_from-requires-clause-line
-position_from-requires-clause-line c = omega (
-  arith,
-  (exact_few c.args.self.now c.part_at.result.block.now c.part_at.result.before c.args.offset c.part_at.ensures
-      c.args.encoding c.head.result c.position-inner.result c.head.ensures c.requires c.position-inner.ensures).0,
-  c.part_at.ensures.at.size,
-)
-
-pub position_from-requires-clause-character : goal.position_from-requires-clause-character
-position_from-requires-clause-character c = omega (
-  arith,
-  (exact_few c.args.self.now c.part_at.result.block.now c.part_at.result.before c.args.offset c.part_at.ensures
-      c.args.encoding c.head.result c.position-inner.result c.head.ensures c.requires c.position-inner.ensures).1,
-  c.part_at.ensures.at.size,
-)
+pub position_from-requires : goal.position_from-requires
+position_from-requires c =
+    let few = exact_few c.args.self.now c.part_at.result.block.now c.part_at.result.before c.args.offset
+    c.part_at.ensures c.args.encoding c.head.result c.position-inner.result c.head.ensures c.requires
+    c.position-inner.ensures in
+    record {
+      line = omega (arith, few.0, c.part_at.ensures.at.size);
+      character = omega (
+        arith,
+        few.1,
+        c.part_at.ensures.at.size,
+      );
+    }
 
 pub returns-clause-exact : goal.returns-clause-exact
 returns-clause-exact c = λ k within k_at.

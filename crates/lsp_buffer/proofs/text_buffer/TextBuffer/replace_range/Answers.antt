@@ -26,8 +26,8 @@ is_long : (text after new : List ℕ) (start stop len : ℕ) → after ≡ repla
 is_long text after new start stop len is order at_end same =
     omega (arith, ap length is, replaced_length text new start stop order at_end.0)
 
-pub recount-requires-clause-are : goal.recount-requires-clause-are
-recount-requires-clause-are c =
+pub recount-requires : goal.recount-requires
+recount-requires c =
     let blocks = c.self.inside.blocks.items in
     let range = c.range_of-range.result in
     let new = c.args.new.now in
@@ -35,38 +35,22 @@ recount-requires-clause-are c =
     c.self.view_is c.range_of-range.ensures c.requires.room in
     let inside : StaysInside blocks range new =
     subst (λ bs. StaysInside bs range new) c.deref-3.ensures.value (c.stays_inside.ensures.0 c.if-stays_inside.true) in
-    put_are blocks range new change inside c.index_mut.result.now c.index_mut.ensures.value c.replace_range.new.self
-    c.deref-then-stays_inside.result.now c.in_ok-replace_range.ensures.changed c.deref-then-stays_inside.ensures.value
-    c.utf8.new
-
-pub recount-requires-clause-size : goal.recount-requires-clause-size
-recount-requires-clause-size c =
-    let blocks = c.self.inside.blocks.items in
-    let range = c.range_of-range.result in
-    let new = c.args.new.now in
-    let change = is_change blocks c.deref.result.now c.args.self.now c.args.start c.args.end range new c.deref.ensures.value
-    c.self.view_is c.range_of-range.ensures c.requires.room in
-    let inside : StaysInside blocks range new =
-    subst (λ bs. StaysInside bs range new) c.deref-3.ensures.value (c.stays_inside.ensures.0 c.if-stays_inside.true) in
-    put_size blocks range new change inside c.index_mut.result.now c.index_mut.ensures.value c.replace_range.new.self
-    c.deref-then-stays_inside.result.now c.in_ok-replace_range.ensures.changed c.deref-then-stays_inside.ensures.value
-
-pub recount-requires-clause-other : goal.recount-requires-clause-other
-recount-requires-clause-other c =
-    let blocks = c.self.inside.blocks.items in
-    let range = c.range_of-range.result in
-    let new = c.args.new.now in
-    let change = is_change blocks c.deref.result.now c.args.self.now c.args.start c.args.end range new c.deref.ensures.value
-    c.self.view_is c.range_of-range.ensures c.requires.room in
-    let inside : StaysInside blocks range new =
-    grind (arith, common_steps, c.deref-3.ensures.value, c.stays_inside.ensures.0, c.if-stays_inside.true) in (
-      c.index_mut.result.now,
-      subst (λ (bs : List (List ℕ)). AreGroups bs c.deref_mut.result.now)
-          (sym (put_back blocks range new change inside c.index_mut.result.now c.index_mut.ensures.value
+    record {
+      are = put_are blocks range new change inside c.index_mut.result.now c.index_mut.ensures.value
           c.replace_range.new.self c.deref-then-stays_inside.result.now c.in_ok-replace_range.ensures.changed
-          c.deref-then-stays_inside.ensures.value))
-          (grind (arith, common_steps, c.deref_mut.ensures.value, c.self.invariant.0.groups_are)),
-    )
+          c.deref-then-stays_inside.ensures.value c.utf8.new;
+      size = put_size blocks range new change inside c.index_mut.result.now c.index_mut.ensures.value
+          c.replace_range.new.self c.deref-then-stays_inside.result.now c.in_ok-replace_range.ensures.changed
+          c.deref-then-stays_inside.ensures.value;
+      other = (
+        c.index_mut.result.now,
+        subst (λ (bs : List (List ℕ)). AreGroups bs c.deref_mut.result.now)
+            (sym (put_back blocks range new change inside c.index_mut.result.now c.index_mut.ensures.value
+            c.replace_range.new.self c.deref-then-stays_inside.result.now c.in_ok-replace_range.ensures.changed
+            c.deref-then-stays_inside.ensures.value))
+            (grind (arith, common_steps, c.deref_mut.ensures.value, c.self.invariant.0.groups_are)),
+      );
+    }
 
 -- The bytes are the changed text, whichever way.
 text_is : (c : goal.After-self-2-1) → concat c.if-stays_inside.self-inside.blocks.items

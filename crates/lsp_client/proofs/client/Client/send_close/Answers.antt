@@ -1,5 +1,5 @@
-use Rattle.lsp_client.proofs.Prelude.{◌≡◌, ◌∙◌, ap, sym, None, err_from_is_err_and, frame, entry_at, command_refusal, ClientData, agreement}
-use Rattle.lsp_client.proofs.SentLemmas.{order_sent, close_sent, long_refused, body_within, may_close}
+use Rattle.lsp_client.proofs.Prelude.{◌≡◌, ◌∙◌, ap, sym, None, err_from_is_err_and, entry_at, command_refusal, ClientData, agreement}
+use Rattle.lsp_client.proofs.SentLemmas.{order_sent, close_sent, long_refused, body_framed, may_close}
 use Rattle.lsp_store.specs.Table as documents
 use Rattle.lsp_client.proofs.client.Client.send_close.Goals as goal
 
@@ -24,5 +24,5 @@ returns-clause-ok c =
     order_sent c.self.inside.offers c.self.inside.phase c.self.inside.agreed c.self.inside.store c.close.new.self s
     (agreement s).kind (documents.closes c.args.uri.now) _
     c.self.view_is c.in_ok-close.ensures.taken
-    (body_within c.limits.result s.limits _ _ limits body c.in_ok-frame.ensures.within)
-    (c.in_ok-frame.ensures.ok ∙ ap frame body)
+    (body_framed s (agreement s).kind (documents.closes c.args.uri.now) c.limits.result _ _ limits body
+    c.in_ok-frame.ensures.within c.in_ok-frame.ensures.ok)

@@ -1,7 +1,8 @@
-use Rattle.lsp_client.proofs.Prelude.{◌≡◌, ◌∙◌, ap, sym, None, string_bytes, rules, w32, to_z, of_z, inr, refl, to_z-of_z, err_from_is_err_and, frame, DocumentItem, Takes, Command, command_refusal, ClientData, agreement}
+use Rattle.lsp_client.proofs.Prelude.{◌≡◌, ◌∙◌, ap, sym, None, string_bytes, rules, w32, to_z, of_z, inr, refl, to_z-of_z, err_from_is_err_and, DocumentItem, Takes, Command, command_refusal, ClientData, agreement}
 use Rattle.lsp_message.specs.declared.params.OpenParams.{OpenParams}
-use Rattle.lsp_client.proofs.OrderLemmas.{refused_first, some_same}
-use Rattle.lsp_client.proofs.SentLemmas.{order_sent, open_sent, long_refused, body_within}
+use Rattle.lsp_client.proofs.OrderLemmas.{some_same}
+use Rattle.lsp_store.proofs.Messages.MessageLemmas.{first_told}
+use Rattle.lsp_client.proofs.SentLemmas.{order_sent, open_sent, long_refused, body_framed}
 use Rattle.lsp_store.specs.Table as documents
 use Rattle.lsp_client.proofs.client.Client.send_open.Goals as goal
 
@@ -16,7 +17,7 @@ returns-in_err-check_open-clause-error c =
     } in
     let p = err_from_is_err_and c.from_residual.result c.from_residual.ensures.1 in
     rw (p.1, p.2)
-    (refused_first (command_refusal s.limits s.table (documents.opens entry)) _ _
+    (first_told (command_refusal s.limits s.table (documents.opens entry)) _ _
     (inr (rw (
       c.deref.ensures,
       c.deref-2.ensures,
@@ -74,8 +75,8 @@ returns-clause-ok c =
     order_sent c.self.inside.offers c.self.inside.phase c.self.inside.agreed c.self.inside.store c.open.new.self s
     (agreement s).kind command _
     c.self.view_is taken
-    (body_within c.limits.result s.limits _ _ limits body (rw version at c.in_ok-frame.ensures.within))
-    ((rw version at c.in_ok-frame.ensures.ok) ∙ ap frame body)
+    (body_framed s (agreement s).kind command c.limits.result _ _ limits body
+    (rw version at c.in_ok-frame.ensures.within) (rw version at c.in_ok-frame.ensures.ok))
 
 pub returns-in_err-frame-clause-memory : goal.returns-in_err-frame-clause-memory
 returns-in_err-frame-clause-memory c = λ e.

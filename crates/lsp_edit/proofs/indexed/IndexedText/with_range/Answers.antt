@@ -12,50 +12,29 @@ returns-in_err-start-clause-error c =
     c.utf8.new _
     (places_seen (units_in c.args.encoding) c.args.number c.args.range _ _ _ c.text.ensures c.in_err-start.ensures))
 
-pub replace_range-requires-clause-order : goal.replace_range-requires-clause-order
-replace_range-requires-clause-order c =
-    let found = places_seen (units_in c.args.encoding) c.args.number c.args.range _ _ _ c.text.ensures
-    c.in_ok-start.ensures in
+pub replace_range-requires : goal.replace_range-requires
+replace_range-requires c =
     let r = is_ranged (units_in c.args.encoding) c.args.number c.args.self c.len.ensures.utf8 c.args.range
-    c.args.new.now c.utf8.new c.in_ok-start.start c.in_ok-start.stop found in
-    r.order
-
-pub replace_range-requires-clause-at_start : goal.replace_range-requires-clause-at_start
-replace_range-requires-clause-at_start c =
-    let found = places_seen (units_in c.args.encoding) c.args.number c.args.range _ _ _ c.text.ensures
-    c.in_ok-start.ensures in
-    let r = is_ranged (units_in c.args.encoding) c.args.number c.args.self c.len.ensures.utf8 c.args.range
-    c.args.new.now c.utf8.new c.in_ok-start.start c.in_ok-start.stop found in
-    subst (λ (bs : List ℕ). IsCharBoundary bs c.in_ok-start.start) (sym c.self.view_is) r.at_start
-
-pub replace_range-requires-clause-at_end : goal.replace_range-requires-clause-at_end
-replace_range-requires-clause-at_end c =
-    let found = places_seen (units_in c.args.encoding) c.args.number c.args.range _ _ _ c.text.ensures
-    c.in_ok-start.ensures in
-    let r = is_ranged (units_in c.args.encoding) c.args.number c.args.self c.len.ensures.utf8 c.args.range
-    c.args.new.now c.utf8.new c.in_ok-start.start c.in_ok-start.stop found in
-    subst (λ (bs : List ℕ). IsCharBoundary bs c.in_ok-start.stop) (sym c.self.view_is) r.at_stop
-
-pub replace_range-requires-clause-room : goal.replace_range-requires-clause-room
-replace_range-requires-clause-room c =
-    let found = places_seen (units_in c.args.encoding) c.args.number c.args.range _ _ _ c.text.ensures
-    c.in_ok-start.ensures in
-    let r = is_ranged (units_in c.args.encoding) c.args.number c.args.self c.len.ensures.utf8 c.args.range
-    c.args.new.now c.utf8.new c.in_ok-start.start c.in_ok-start.stop found in
-    omega (
-      arith,
-      ap (λ (bs : List ℕ). length (replace_range bs c.in_ok-start.start c.in_ok-start.stop c.args.new.now))
-          c.self.view_is,
-      r.longer,
-      c.requires,
-    )
+    c.args.new.now c.utf8.new c.in_ok-start.start c.in_ok-start.stop
+    (places_seen (units_in c.args.encoding) c.args.number c.args.range _ _ _ c.text.ensures c.in_ok-start.ensures) in
+    record {
+      order = r.order;
+      at_start = subst (λ (bs : List ℕ). IsCharBoundary bs c.in_ok-start.start) (sym c.self.view_is) r.at_start;
+      at_end = subst (λ (bs : List ℕ). IsCharBoundary bs c.in_ok-start.stop) (sym c.self.view_is) r.at_stop;
+      room = omega (
+        arith,
+        ap (λ (bs : List ℕ). length (replace_range bs c.in_ok-start.start c.in_ok-start.stop c.args.new.now))
+            c.self.view_is,
+        r.longer,
+        c.requires,
+      );
+    }
 
 pub returns-clause-ok : goal.returns-clause-ok
 returns-clause-ok c =
-    let found = places_seen (units_in c.args.encoding) c.args.number c.args.range _ _ _ c.text.ensures
-    c.in_ok-start.ensures in
     let r = is_ranged (units_in c.args.encoding) c.args.number c.args.self c.len.ensures.utf8 c.args.range
-    c.args.new.now c.utf8.new c.in_ok-start.start c.in_ok-start.stop found in
+    c.args.new.now c.utf8.new c.in_ok-start.start c.in_ok-start.stop
+    (places_seen (units_in c.args.encoding) c.args.number c.args.range _ _ _ c.text.ensures c.in_ok-start.ensures) in
     let bytes : c.replace_range.new.self ≡ replace_range c.args.self c.in_ok-start.start c.in_ok-start.stop
     c.args.new.now
     = c.in_ok-replace_range.ensures.changed
@@ -64,10 +43,9 @@ returns-clause-ok c =
 
 pub returns-clause-longer : goal.returns-clause-longer
 returns-clause-longer c =
-    let found = places_seen (units_in c.args.encoding) c.args.number c.args.range _ _ _ c.text.ensures
-    c.in_ok-start.ensures in
     let r = is_ranged (units_in c.args.encoding) c.args.number c.args.self c.len.ensures.utf8 c.args.range
-    c.args.new.now c.utf8.new c.in_ok-start.start c.in_ok-start.stop found in
+    c.args.new.now c.utf8.new c.in_ok-start.start c.in_ok-start.stop
+    (places_seen (units_in c.args.encoding) c.args.number c.args.range _ _ _ c.text.ensures c.in_ok-start.ensures) in
     let bytes : c.replace_range.new.self ≡ replace_range c.args.self c.in_ok-start.start c.in_ok-start.stop
     c.args.new.now
     = c.in_ok-replace_range.ensures.changed

@@ -10,19 +10,15 @@ loop-layer-init c =
     c.whole-whole.ensures.utf8 c.text-text.ensures c.self.view_is c.self.invariant
     (ap parts_of (c.in_ok-spans.ensures.items ∙ c.as_slice.ensures) ∙ c.whole-whole.ensures.parts))
 
-pub spans_through-requires-clause-through : goal.spans_through-requires-clause-through
-spans_through-requires-clause-through c =
-    rw (c.deref.ensures.value, c.deref-in-loop-layer.ensures.value, c.in_ok-next.ensures, c.layer-item.is)
-    (folded_through c.args.self.now.before (parts_of c.loop-layer.spans.items) _ _ c.args.self.now.items
-    (rw (rows_rest c.deref-layer-items.result.now c.loop-layer.layer-index c.layer-item.result
-    c.loop-layer-test.true) at c.loop-layer.invariant))
-
-pub spans_through-requires-clause-order : goal.spans_through-requires-clause-order
-spans_through-requires-clause-order c =
-    rw (c.deref-in-loop-layer.ensures.value, c.in_ok-next.ensures, c.layer-item.is)
-    (folded_order c.args.self.now.before (parts_of c.loop-layer.spans.items) _ _ c.args.self.now.items
-    (rw (rows_rest c.deref-layer-items.result.now c.loop-layer.layer-index c.layer-item.result
-    c.loop-layer-test.true) at c.loop-layer.invariant))
+pub spans_through-requires : goal.spans_through-requires
+spans_through-requires c =
+    let folded = rw (rows_rest c.deref-layer-items.result.now c.loop-layer.layer-index c.layer-item.result
+    c.loop-layer-test.true) at c.loop-layer.invariant in record {
+      through = rw (c.deref.ensures.value, c.deref-in-loop-layer.ensures.value, c.in_ok-next.ensures, c.layer-item.is)
+          (folded_through c.args.self.now.before (parts_of c.loop-layer.spans.items) _ _ c.args.self.now.items folded);
+      order = rw (c.deref-in-loop-layer.ensures.value, c.in_ok-next.ensures, c.layer-item.is)
+          (folded_order c.args.self.now.before (parts_of c.loop-layer.spans.items) _ _ c.args.self.now.items folded);
+    }
 
 pub loop-layer-preserved : goal.loop-layer-preserved
 loop-layer-preserved c =

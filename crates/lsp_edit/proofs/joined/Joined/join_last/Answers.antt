@@ -2,23 +2,18 @@ use Rattle.lsp_edit.proofs.Prelude.{◌∙◌, arith, chars, plain}
 use Rattle.lsp_edit.proofs.Deltas.OwnedLemmas.{last_all, last_same, last_through, last_order, two_last}
 use Rattle.lsp_edit.proofs.joined.Joined.join_last.Goals as goal
 
-pub then-requires-clause-through : goal.then-requires-clause-through
-then-requires-clause-through c =
-    last_through (chars c.self.inside.before) (plain (chars c.self.inside.before)) c.self.inside.layers.items _
-    c.index-first.result.now c.index-second.result.now
-    (two_last c.self.inside.layers.items c.len-len.result c.index-first.result.now c.index-second.result.now
+pub then-requires : goal.then-requires
+then-requires c =
+    let before = chars c.self.inside.before in
+    let two = two_last c.self.inside.layers.items c.len-len.result c.index-first.result.now c.index-second.result.now
     (omega (arith, c.if-len-lt2.false)) (omega (arith, c.len-len.ensures, c.self.inside.layers.ok))
-    c.index-first.ensures c.index-second.ensures)
-    c.self.invariant
-
-pub then-requires-clause-order : goal.then-requires-clause-order
-then-requires-clause-order c =
-    last_order (chars c.self.inside.before) (plain (chars c.self.inside.before)) c.self.inside.layers.items _
-    c.index-first.result.now c.index-second.result.now
-    (two_last c.self.inside.layers.items c.len-len.result c.index-first.result.now c.index-second.result.now
-    (omega (arith, c.if-len-lt2.false)) (omega (arith, c.len-len.ensures, c.self.inside.layers.ok))
-    c.index-first.ensures c.index-second.ensures)
-    c.self.invariant
+    c.index-first.ensures c.index-second.ensures in
+    record {
+      through = last_through before (plain before) c.self.inside.layers.items _ c.index-first.result.now
+          c.index-second.result.now two c.self.invariant;
+      order = last_order before (plain before) c.self.inside.layers.items _ c.index-first.result.now
+          c.index-second.result.now two c.self.invariant;
+    }
 
 pub invariant_of-self : goal.invariant_of-self
 invariant_of-self c =

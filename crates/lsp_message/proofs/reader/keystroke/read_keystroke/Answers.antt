@@ -7,4 +7,4 @@ returns c =
     let found = c.in-Some.found in
     let read = keystroke_read c.args.text.now found.document.uri.now found.document.version found.change.range
     found.change.length found.change.text.now c.in-Some.ensures in
-    (read.0, read.1, ap (λ p. did_change (Some p)) c.in_ok-params.ensures ∙ sym read.2)
+    (read.0, read.1, read.2 ∙ ap (λ p. did_change (Some p)) (sym c.in_ok-params.ensures), read.3)

@@ -6,7 +6,8 @@ use Rattle.lsp_replay.proofs.pipeline.PipelineHandler.handle.Goals as goal
 
 pub returns-clause-ok : goal.returns-clause-ok
 returns-clause-ok g c =
-    let admitted = rw c.in-Some.is at (c.in_ok-head.ensures.admitted c.args.item.now.body.now c.in_ok-read.ensures) in
+    let admitted = rw c.in-Some.is at
+    (c.in_ok-head.ensures.admitted c.args.item.now.body.now c.in_ok-read.ensures.read) in
     when_ok c.print.result
     (λ session given step.
     printed (g.P.Printer.reached c.args.self.now.printer) c.args.item.now.head c.args.item.now.raw.now
@@ -18,7 +19,8 @@ returns-clause-ok g c =
 
 pub returns-clause-error : goal.returns-clause-error
 returns-clause-error g c =
-    let admitted = rw c.in-Some.is at (c.in_ok-head.ensures.admitted c.args.item.now.body.now c.in_ok-read.ensures) in
+    let admitted = rw c.in-Some.is at
+    (c.in_ok-head.ensures.admitted c.args.item.now.body.now c.in_ok-read.ensures.read) in
     when_err c.print.result
     (λ fault is.
     failed (g.P.Printer.reached c.args.self.now.printer) c.args.item.now.head c.args.item.now.raw.now

@@ -1,4 +1,4 @@
-use Rattle.lsp_text.proofs.Prelude.{◌∙◌, refl}
+use Rattle.lsp_text.proofs.Prelude.{◌∙◌, refl, arith, common_steps}
 use Rattle.lsp_text.proofs.TextLines.SpliceLemmas.{IsPlaced, line_of_same, starts_are_same, found_anew, shown_behind, shown_room, shown_starts}
 use Rattle.lsp_text.proofs.lines.splice.splice_starts.Goals as goal
 
@@ -10,8 +10,8 @@ pub starts_to-past-requires : goal.starts_to-past-requires
 starts_to-past-requires c = starts_are_same c.requires.replaces.old c.args.starts.now.items c.deref-2.result.now
     c.deref-2.ensures.value c.requires.replaces.starts_are
 
-pub shift-requires-clause-rest_after : goal.shift-requires-clause-rest_after
-shift-requires-clause-rest_after c =
+pub shift-requires : goal.shift-requires
+shift-requires c =
     let placed : IsPlaced c.requires.replaces.old c.args.bytes.now c.args.starts.now.items c.push_ends.new.starts.items
     c.replace.new.starts.items c.args.from c.args.to c.args.len c.starts_to-keep.result c.starts_to-past.result =
     record {
@@ -28,33 +28,15 @@ shift-requires-clause-rest_after c =
           c.in_ok-push_ends.ensures.ok;
       now_is = c.in_ok-replace.ensures.ok;
     } in
-    shown_behind c.requires.replaces.old c.args.bytes.now c.args.starts.now.items c.push_ends.new.starts.items
-    c.replace.new.starts.items c.deref_mut.result.now c.args.from c.args.to c.args.len c.starts_to-keep.result
-    c.starts_to-past.result c.len.result placed
-    c.deref_mut.ensures.value (c.len.ensures ∙ c.push_ends.new.starts.ok.0)
-
-pub shift-requires-clause-room : goal.shift-requires-clause-room
-shift-requires-clause-room c =
-    let placed : IsPlaced c.requires.replaces.old c.args.bytes.now c.args.starts.now.items c.push_ends.new.starts.items
-    c.replace.new.starts.items c.args.from c.args.to c.args.len c.starts_to-keep.result c.starts_to-past.result =
-    record {
-      is = c.requires.replaces.replaced;
-      starts_are = c.requires.replaces.starts_are;
-      some_keep = c.starts_to-keep.ensures.some;
-      keep_is = line_of_same _ c.deref.result.now _ c.saturating_sub-low.result _ c.deref.ensures.value
-          c.saturating_sub-low.ensures c.starts_to-keep.ensures.last;
-      some_past = c.starts_to-past.ensures.some;
-      past_is = line_of_same _ c.deref-2.result.now _ c.args.to _ c.deref-2.ensures.value refl
-          c.starts_to-past.ensures.last;
-      found_is = found_anew c.args.bytes.now c.new-fresh.result.items c.push_ends.new.starts.items _
-          c.saturating_sub-low.result _ c.new-fresh.ensures.items c.saturating_sub-low.ensures
-          c.in_ok-push_ends.ensures.ok;
-      now_is = c.in_ok-replace.ensures.ok;
-    } in
-    shown_room c.requires.replaces.old c.args.bytes.now c.args.starts.now.items c.push_ends.new.starts.items
-    c.replace.new.starts.items c.deref_mut.result.now c.args.from c.args.to c.args.len c.starts_to-keep.result
-    c.starts_to-past.result c.len.result placed
-    c.deref_mut.ensures.value (c.len.ensures ∙ c.push_ends.new.starts.ok.0) c.requires.size
+    let len = c.len.ensures ∙ c.push_ends.new.starts.ok.0 in record {
+      first = grind (arith, common_steps);
+      rest_after = shown_behind c.requires.replaces.old c.args.bytes.now c.args.starts.now.items
+          c.push_ends.new.starts.items c.replace.new.starts.items c.deref_mut.result.now c.args.from c.args.to c.args.len
+          c.starts_to-keep.result c.starts_to-past.result c.len.result placed c.deref_mut.ensures.value len;
+      room = shown_room c.requires.replaces.old c.args.bytes.now c.args.starts.now.items
+          c.push_ends.new.starts.items c.replace.new.starts.items c.deref_mut.result.now c.args.from c.args.to c.args.len
+          c.starts_to-keep.result c.starts_to-past.result c.len.result placed c.deref_mut.ensures.value len c.requires.size;
+    }
 
 pub returns-clause-ok : goal.returns-clause-ok
 returns-clause-ok c =

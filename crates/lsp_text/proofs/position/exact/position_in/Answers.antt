@@ -50,7 +50,4 @@ returns-clause-exact g c = λ k within at.
 pub returns-clause-resolves : goal.returns-clause-resolves
 returns-clause-resolves g c =
     exact_resolves g.U.Units.units_of (λ x. (g.met.U.Units.bounds x).0) (chars c.args.bytes.now) c.args.place _
-    c.requires.place
-    (λ k within at. exact_is g.U.Units.units_of c.args.bytes.now c.args.starts.now c.new-looks.result.starts.now
-    c.args.place c.line_of-line.result c.units_in.result k c.requires.utf8 c.requires.indexed c.new-looks.ensures.starts
-    c.line_of-line.ensures.line c.units_in.ensures within at)
+    c.requires.place (returns-clause-exact g c)

@@ -3,15 +3,11 @@ use Rattle.lsp_text.proofs.TextLines.IndexesLemmas.{indexes_line, indexes_start,
 use Rattle.lsp_text.proofs.position.resolve.content.Goals as goal
 use Rattle.std.proofs.lemmas.Grind.{common_steps}
 
-pub stop_before-requires-clause-some : goal.stop_before-requires-clause-some
-stop_before-requires-clause-some c =
-    (indexes_next c.args.bytes.now c.args.starts.now c.args.line c.requires.utf8 c.requires.indexed
-    (omega (arith, c.requires.line, c.if-next-starts.false))).some
-
-pub stop_before-requires-clause-within : goal.stop_before-requires-clause-within
-stop_before-requires-clause-within c =
-    (indexes_next c.args.bytes.now c.args.starts.now c.args.line c.requires.utf8 c.requires.indexed
-    (omega (arith, c.requires.line, c.if-next-starts.false))).within
+pub stop_before-requires : goal.stop_before-requires
+stop_before-requires c =
+    let next = indexes_next c.args.bytes.now c.args.starts.now c.args.line c.requires.utf8 c.requires.indexed
+    (omega (arith, c.requires.line, c.if-next-starts.false)) in
+    record { some = next.some; within = next.within }
 
 pub returns-then-next-starts-clause-start : goal.returns-then-next-starts-clause-start
 returns-then-next-starts-clause-start c =

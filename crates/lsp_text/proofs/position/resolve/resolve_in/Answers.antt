@@ -1,4 +1,4 @@
-use Rattle.lsp_text.proofs.Prelude.{◌+◌, ◌≤◌, length, sym, arith, chars, common_steps}
+use Rattle.lsp_text.proofs.Prelude.{◌+◌, ◌≤◌, length, arith, chars, common_steps}
 use Rattle.lsp_text.proofs.TextLines.IndexesLemmas.{indexes_line, indexes_count}
 use Rattle.lsp_text.proofs.Positions.ResolveLemmas.{resolved_past, resolved_at, content_order, content_within, content_utf8, place_in_content, denoted_place, denoted_boundary}
 use Rattle.lsp_text.proofs.position.resolve.resolve_in.Goals as goal
@@ -47,23 +47,16 @@ returns-in-None-clause-value g c =
 pub returns-then-line-starts-clause-place : goal.returns-then-line-starts-clause-place
 returns-then-line-starts-clause-place g c =
     denoted_place g.U.Units.units_of (chars c.args.bytes.now) c.args.position (length c.args.bytes.now)
-    (sym (resolved_past g.U.Units.units_of c.args.bytes.now c.args.position c.requires.utf8
-    (omega (arith, indexes_count c.args.bytes.now c.args.starts.now c.requires.indexed, c.if-line-starts.true))))
+    (returns-then-line-starts-clause-value g c)
 
 pub returns-in-Some-clause-place : goal.returns-in-Some-clause-place
 returns-in-Some-clause-place g c =
     denoted_place g.U.Units.units_of (chars c.args.bytes.now) c.args.position
     (c.content-start.result.0 + c.in-Some.place)
-    (resolved_at g.U.Units.units_of (λ x. (g.met.U.Units.bounds x).0) c.args.bytes.now c.args.position
-    c.content-start.result.0 c.content-start.result.1 _ c.requires.utf8
-    (grind (arith, common_steps, indexes_line))
-    c.in-Some.ensures)
+    (returns-in-Some-clause-value g c)
 
 pub returns-in-Some-clause-boundary : goal.returns-in-Some-clause-boundary
 returns-in-Some-clause-boundary g c =
     denoted_boundary g.U.Units.units_of c.args.bytes.now c.args.position (c.content-start.result.0 + c.in-Some.place)
     c.requires.utf8
-    (resolved_at g.U.Units.units_of (λ x. (g.met.U.Units.bounds x).0) c.args.bytes.now c.args.position
-    c.content-start.result.0 c.content-start.result.1 _ c.requires.utf8
-    (grind (arith, common_steps, indexes_line))
-    c.in-Some.ensures)
+    (returns-in-Some-clause-value g c)

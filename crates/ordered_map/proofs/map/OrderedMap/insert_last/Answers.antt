@@ -40,8 +40,8 @@ count_last-requires-clause-small g c =
     freed_small slots c.in_ok-slot.field-0 c.match-branch-3.self-inside.counts.items
     c.match-branch-3.self-inside.live freed
 
-pub pack_if_sparse-requires-clause-counted : goal.pack_if_sparse-requires-clause-counted
-pack_if_sparse-requires-clause-counted g c =
+pub pack_if_sparse-requires : goal.pack_if_sparse-requires
+pack_if_sparse-requires g c =
     let slots = c.self.inside.slots in
     let freed : IsFreed slots c.in_ok-slot.field-0 c.match-branch-3.self-inside.counts.items
     c.match-branch-3.self-inside.live =
@@ -63,36 +63,14 @@ pack_if_sparse-requires-clause-counted g c =
       | in-Some w ↦ rw w.self-inside-is refl
       | in-None w ↦ rw w.self-inside-is refl
     ] in
-    rw (slots_are, c.in_ok-slot.ensures.put, c.deref_mut-2.ensures.value, c.count_last.ensures)
-    (freed_counted slots c.in_ok-slot.field-0 c.match-branch-3.self-inside.counts.items
-    c.match-branch-3.self-inside.live freed (c.args.key, c.args.value) c.len-len.result c.len-len.ensures.len)
-
-pub pack_if_sparse-requires-clause-live : goal.pack_if_sparse-requires-clause-live
-pack_if_sparse-requires-clause-live g c =
-    let slots = c.self.inside.slots in
-    let freed : IsFreed slots c.in_ok-slot.field-0 c.match-branch-3.self-inside.counts.items
-    c.match-branch-3.self-inside.live =
-    elim c.match-branch-3.branch [
-      | in-Some w ↦
-          let there = found (string_bytes c.args.key) slots w.in-Some.slot
-          (sym c.in_ok-slot.ensures.was ∙ w.in-Some.is) in
-          let counts_are : (with_items c.reserve.new.self w.uncount.new.counts).items
-          ≡ uncounted c.self.inside.counts.items w.in-Some.slot =
-          grind (arith, common_steps, with_items_is) in
-          rw (w.self-inside-is, w.in-Some.is, counts_are)
-          (freed_some slots c.self.inside.counts.items c.self.inside.live w.in-Some.slot there.entry c.self.invariant
-          there.at)
-      | in-None w ↦
-          rw (w.self-inside-is, w.in-None.is, c.reserve.ensures.items)
-          (freed_none slots c.self.inside.counts.items c.self.inside.live c.self.invariant)
-    ] in
-    let slots_are : c.match-branch-3.self-inside.slots ≡ c.push.new.self = elim c.match-branch-3.branch [
-      | in-Some w ↦ rw w.self-inside-is refl
-      | in-None w ↦ rw w.self-inside-is refl
-    ] in
-    rw (slots_are, c.in_ok-slot.ensures.put)
-    (freed_live slots c.in_ok-slot.field-0 c.match-branch-3.self-inside.counts.items
-    c.match-branch-3.self-inside.live freed (c.args.key, c.args.value))
+    record {
+      counted = rw (slots_are, c.in_ok-slot.ensures.put, c.deref_mut-2.ensures.value, c.count_last.ensures)
+          (freed_counted slots c.in_ok-slot.field-0 c.match-branch-3.self-inside.counts.items
+          c.match-branch-3.self-inside.live freed (c.args.key, c.args.value) c.len-len.result c.len-len.ensures.len);
+      live = rw (slots_are, c.in_ok-slot.ensures.put)
+          (freed_live slots c.in_ok-slot.field-0 c.match-branch-3.self-inside.counts.items
+          c.match-branch-3.self-inside.live freed (c.args.key, c.args.value));
+    }
 
 pub returns-clause-inserted : goal.returns-clause-inserted
 returns-clause-inserted g c =

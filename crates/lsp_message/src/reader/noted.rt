@@ -1,0 +1,78 @@
+//! What notes of a body go by, beside what the body asks.
+
+ghost use Rattle.std.specs.Prelude.{◌≡◌, IfOk, None, Some, codes, option_map};
+ghost use Rattle.serde_json.specs.View.{items_view, view};
+ghost use Rattle.lsp_message.specs.Incoming.{incoming_of};
+ghost use Rattle.lsp_message.specs.Lengths.{lengths_found, lengths_in, notification_params};
+ghost use Rattle.lsp_message.specs.Message.{Reading};
+ghost use Rattle.lsp_message.specs.Seen.{IsNoted, incoming_view};
+ghost use Rattle.lsp_message.specs.Values.{array_in, member_at, natural_in};
+ghost use Rattle.lsp_message.specs.declared.reader.incoming.Incoming.{Incoming};
+
+use serde_json::Value;
+use std::alloc::{AllocError, Global};
+
+/// What notes of a body go by, beside what the body asks.
+#[derive(Debug, PartialEq, Drop)]
+pub struct Noted {
+    /// The `rangeLength` of each change. It is `None` for a change without one, and for one that is
+    /// no whole number in the range of `u64`.
+    pub lengths: Vec<Option<u64>>,
+    /// The params of a notification of another method than those of [`Incoming`].
+    ///
+    /// [`Incoming`]: crate::Incoming
+    pub params: Option<Value>,
+}
+
+impl Noted {
+    /// Returns what notes of a body without changes and params go by.
+    pub(crate) fn nothing(alloc: Global) -> Noted
+        ensures { (r : Reading) (m : Incoming) → incoming_view m ≡ incoming_of r
+            → notification_params r ≡ None → IsNoted r m result }
+    {
+        Noted {
+            lengths: Vec::new(alloc),
+            params: None,
+        }
+    }
+}
+
+/// Returns the `rangeLength` of each change in a notification's params.
+pub(crate) fn lengths_found(
+    alloc: Global,
+    params: Option<&Value>,
+) -> Result<Vec<Option<u64>>, AllocError>
+    ensures { IfOk result (λ lengths. lengths.items ≡ lengths_found
+        (array_in (member_at (codes "contentChanges")
+        (option_map (λ params. view params.now) params.entry)))) }
+{
+    let Some(params) = params else {
+        return Ok(Vec::new(alloc));
+    };
+    let Some(changes) = params.get("contentChanges") else {
+        return Ok(Vec::new(alloc));
+    };
+    let Some(changes) = changes.as_array() else {
+        return Ok(Vec::new(alloc));
+    };
+    lengths_in(alloc, changes)
+}
+
+/// Returns the `rangeLength` of each change.
+fn lengths_in(alloc: Global, changes: &[Value]) -> Result<Vec<Option<u64>>, AllocError>
+    ensures { IfOk result
+        (λ lengths. lengths.items ≡ lengths_in (items_view changes.now)) }
+{
+    let mut lengths = Vec::new(alloc);
+    for change in changes {
+        lengths.push(length_of(change))?;
+    }
+    Ok(lengths)
+}
+
+/// Returns the `rangeLength` of a change.
+fn length_of(change: &Value) -> Option<u64>
+    ensures { result ≡ natural_in (member_at (codes "rangeLength") (Some (view change.now))) }
+{
+    change.get("rangeLength")?.as_u64()
+}
