@@ -1,5 +1,6 @@
 -- A client that C asks for, the calls on it, and what C gets of them.
-use Rattle.laspidru.specs.Prelude.{ℕ, ℤ, ◌≡◌, ◌⊎◌, false, List, [], length, Option, Some, Result, Ok, Err, frame, body_of, StoreFault, ClientFault, Call, ClientData, call_result, opens, edits, Order, Sending, DeliveredData, sends, noted, bad_server, new_client, Answer, BAD_ENCODING, BAD_SERVER, ERROR_ANSWER, IGNORED, NO_SYNC, NOT_AN_ANSWER, NOTED, OK, OTHER_KIND, OUT_OF_MEMORY, REPLIED, WRONG_PHASE, Object, End, Party, Server, Client, FaultAt, IsRefusedOr, and_then, EndData, StreamData, stream_of}
+use Rattle.std.specs.Prelude.{◌≡◌, ◌⊎◌}
+use Rattle.laspidru.specs.Prelude.{ℕ, ℤ, false, List, [], length, Option, Some, Result, Ok, Err, frame, body_of, StoreFault, ClientFault, Call, ClientData, call_result, opens, edits, Order, Sending, DeliveredData, sends, noted, bad_server, new_client, Answer, BAD_ENCODING, BAD_SERVER, ERROR_ANSWER, IGNORED, NO_SYNC, NOT_AN_ANSWER, NOTED, OK, OTHER_KIND, OUT_OF_MEMORY, REPLIED, WRONG_PHASE, Object, End, Party, Server, Client, FaultAt, IsRefusedOr, and_then, EndData, StreamData, stream_of}
 use Rattle.lsp_edit.specs.declared.fault.EditFault.TheVariants as edit
 use Rattle.lsp_store.specs.declared.fault.StoreFault.TheVariants as faults
 use Rattle.lsp_client.specs.declared.fault.ClientFault.TheVariants as client

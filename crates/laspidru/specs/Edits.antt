@@ -1,6 +1,7 @@
 -- The edits that C passes, and their texts one after another in one array of bytes: the changes of a
 -- batch, or text edits (LSP 3.17, TextEdit[]), of which all count in the text as it is.
-use Rattle.laspidru.specs.Prelude.{ℕ, ◌≡◌, ◌≢◌, ◌<◌, ◌⊎◌, ◌&&◌, if◌then◌else◌, nat_le, nat_lt, length, slice_get, string_bytes, string_len, sum_by, Bool, true, false, List, [], ◌∷◌, take, drop, map, Option, Some, None, Result, Ok, Err, IsOkAnd, ok_or, chars, is_utf8, Range, Encoding, units_in, Change, MAX_NEW_TEXT, MAX_OLD_TEXT, TooLong, content_change, BAD_LENGTH, INSIDE_CHARACTER, NOT_UTF8, OK, OUT_OF_MEMORY, OUT_OF_RANGE, OVERLAP, REVERSED_RANGE, TOO_LONG, Object, Document, CPosition, FaultAt, and_then, unless}
+use Rattle.std.specs.Prelude.{◌≡◌, ◌≢◌, ◌<◌, ◌⊎◌, ◌&&◌, if◌then◌else◌, ◌∷◌}
+use Rattle.laspidru.specs.Prelude.{ℕ, nat_le, nat_lt, length, slice_get, string_bytes, string_len, sum_by, Bool, true, false, List, [], take, drop, map, Option, Some, None, Result, Ok, Err, IsOkAnd, ok_or, chars, is_utf8, Range, Encoding, units_in, Change, MAX_NEW_TEXT, MAX_OLD_TEXT, TooLong, content_change, BAD_LENGTH, INSIDE_CHARACTER, NOT_UTF8, OK, OUT_OF_MEMORY, OUT_OF_RANGE, OVERLAP, REVERSED_RANGE, TOO_LONG, Object, Document, CPosition, FaultAt, and_then, unless}
 use Rattle.lsp_edit.specs.declared.fault.EditFault.TheVariants as edit
 use Rattle.lsp_edit.specs.declared.fault.Side.{Side}
 use Rattle.lsp_edit.specs.declared.fault.Side.TheVariants.{Start, Stop}

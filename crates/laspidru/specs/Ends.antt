@@ -1,5 +1,6 @@
 -- What either end of a session does with a body, and what is asked of it and of its documents.
-use Rattle.laspidru.specs.Prelude.{ℕ, ◌≡◌, if◌then◌else◌, List, length, option_map, Option, Some, None, Result, Ok, Err, ok_or, FramerData, Encoding, Utf8, Utf16, Utf32, StoreData, entry_at, as_sent, Step, step, Delivery, delivery_of, is_listening, Answer, ENDED, NOT_OPEN, OK, OTHER_KIND, WRONG_PHASE, Object, End, Framer, Party, Server, Client, ◌⊎◌, true, OUT_OF_MEMORY, Taken, and_then, unless, EndData, StreamData}
+use Rattle.std.specs.Prelude.{◌≡◌, if◌then◌else◌, ◌⊎◌}
+use Rattle.laspidru.specs.Prelude.{ℕ, List, length, option_map, Option, Some, None, Result, Ok, Err, ok_or, FramerData, Encoding, Utf8, Utf16, Utf32, StoreData, entry_at, as_sent, Step, step, Delivery, delivery_of, is_listening, Answer, ENDED, NOT_OPEN, OK, OTHER_KIND, WRONG_PHASE, Object, End, Framer, Party, Server, Client, true, OUT_OF_MEMORY, Taken, and_then, unless, EndData, StreamData}
 use Rattle.lsp_message.specs.Message.{reading}
 use Rattle.lsp_message.specs.Params.{DocumentItem}
 use Rattle.lsp_server.specs.declared.phase.Phase.{Phase}

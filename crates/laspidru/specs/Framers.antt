@@ -1,5 +1,6 @@
 -- A framer that C asks for, and what it takes of a stream (LSP 3.17, Base Protocol).
-use Rattle.laspidru.specs.Prelude.{ℕ, ◌≡◌, ◌≢◌, ◌≤◌, ◌<◌, ◌++◌, ◌⊎◌, Bool, true, false, List, length, take, Result, Ok, Err, LimitsData, default_limits, IsFrameOf, FramerData, IsFrame, HoldsOne, IsFeedFault, released, FrameFault, BAD_FRAME, FAILED, NO_MESSAGE, OK, OTHER_KIND, OUT_OF_MEMORY, Object, Framer, Taken, IsAnswer, StreamData}
+use Rattle.std.specs.Prelude.{◌≡◌, ◌≢◌, ◌≤◌, ◌<◌, ◌++◌, ◌⊎◌}
+use Rattle.laspidru.specs.Prelude.{ℕ, Bool, true, false, List, length, take, Result, Ok, Err, LimitsData, default_limits, IsFrameOf, FramerData, IsFrame, HoldsOne, IsFeedFault, released, FrameFault, BAD_FRAME, FAILED, NO_MESSAGE, OK, OTHER_KIND, OUT_OF_MEMORY, Object, Framer, Taken, IsAnswer, StreamData}
 use Rattle.lsp_frame.specs.declared.fault.FrameFault.TheVariants as frame
 use Rattle.laspidru.specs.Objects.{IsCopy, rest_asked}
 use Rattle.laspidru.specs.Servers.{limits_asked}

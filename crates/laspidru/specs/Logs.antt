@@ -1,5 +1,6 @@
 -- A command on a log that C asks for, and the result that C gets.
-use Rattle.laspidru.specs.Prelude.{ok_or, ℕ, ◌+◌, ◌-◌, ◌*◌, ◌^◌, ◌≡◌, ◌≢◌, ◌||◌, not, nat_eq, if◌then◌else◌, Bool, true, false, List, [], length, option_map, string_bytes, Option, Some, None, Result, Ok, Err, FrameFault, BAD_FRAME, BAD_LOG, BODY_TOO_LONG, CUT, NOT_OPEN, OK, OTHER_KIND, OUT_OF_MEMORY, OUT_OF_RANGE, Object, Output, and_then}
+use Rattle.std.specs.Prelude.{◌+◌, ◌-◌, ◌*◌, ◌^◌, ◌≡◌, ◌≢◌, ◌||◌, if◌then◌else◌}
+use Rattle.laspidru.specs.Prelude.{ok_or, ℕ, not, nat_eq, Bool, true, false, List, [], length, option_map, string_bytes, Option, Some, None, Result, Ok, Err, FrameFault, BAD_FRAME, BAD_LOG, BODY_TOO_LONG, CUT, NOT_OPEN, OK, OTHER_KIND, OUT_OF_MEMORY, OUT_OF_RANGE, Object, Output, and_then}
 use Rattle.line_diff.specs.Compared.{new_comparison}
 use Rattle.lsp_stream.specs.declared.fault.EngineFault.{EngineFault}
 use Rattle.lsp_stream.specs.declared.fault.EngineFault.TheVariants.{Frame, Truncated, BodyTooLong, TooManyTurns, BadLog}

@@ -1,5 +1,6 @@
 -- What edits mean on an end's open documents: text edits, and the canonical message of a batch.
-use Rattle.laspidru.specs.Prelude.{ℕ, ℤ, ◌≡◌, List, length, Option, Some, None, Result, Ok, Err, Encoding, units_in, StoreData, OK, Object, FaultAt, ok_or, NO_DOCUMENT, and_then, EndData}
+use Rattle.std.specs.Prelude.{◌≡◌}
+use Rattle.laspidru.specs.Prelude.{ℕ, ℤ, List, length, Option, Some, None, Result, Ok, Err, Encoding, units_in, StoreData, OK, Object, FaultAt, ok_or, NO_DOCUMENT, and_then, EndData}
 use Rattle.lsp_edit.specs.Batch as batch
 use Rattle.lsp_store.specs.Faults as documents
 use Rattle.lsp_store.specs.Message.{canonical_frame, message_refusal}

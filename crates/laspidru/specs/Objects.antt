@@ -1,7 +1,8 @@
 -- The objects in handles, and what C asks of a text in one of the three encodings. `as_document` and
 -- the like are what an object is, or the code of a refusal if it is of another kind;
 -- `in_handle as_document` and the like are the same of what a handle has in it.
-use Rattle.laspidru.specs.Prelude.{ℕ, ◌≡◌, ◌≤◌, ◌+◌, ◌++◌, ◌⊎◌, List, length, min, take, drop, Option, Some, None, Result, Ok, Err, if◌then◌else◌, nat_eq, nat_lt, option_map, ok_or, chars, is_utf8, Encoding, Utf8, Utf16, Utf32, units_in, Change, MAX_OLD_TEXT, BAD_ENCODING, EMPTY, IN_USE, INSIDE_CHARACTER, NOT_UTF8, OK, OTHER_KIND, OUT_OF_RANGE, TOO_LONG, CPosition, Object, Document, Batch, and_then}
+use Rattle.std.specs.Prelude.{◌≡◌, ◌≤◌, ◌+◌, ◌++◌, ◌⊎◌, if◌then◌else◌}
+use Rattle.laspidru.specs.Prelude.{ℕ, List, length, min, take, drop, Option, Some, None, Result, Ok, Err, nat_eq, nat_lt, option_map, ok_or, chars, is_utf8, Encoding, Utf8, Utf16, Utf32, units_in, Change, MAX_OLD_TEXT, BAD_ENCODING, EMPTY, IN_USE, INSIDE_CHARACTER, NOT_UTF8, OK, OTHER_KIND, OUT_OF_RANGE, TOO_LONG, CPosition, Object, Document, Batch, and_then}
 use Rattle.lsp_text.specs.declared.position.Position.{Position}
 use Rattle.lsp_text.specs.LineStarts.{IsPlace}
 use Rattle.lsp_text.specs.Positions.{denoted, exact_position}

@@ -1,5 +1,6 @@
 -- A server that C asks for, and the answer that C gets.
-use Rattle.laspidru.specs.Prelude.{ℕ, ℤ, pos, nat_eq, if◌then◌else◌, Bool, List, [], length, option_map, Option, Some, None, Result, Ok, LimitsData, first_out_of_range, code_of, StoreFault, AnswerData, Sent, reply, changed, dropped, already_ended, refused, new_server, Answer, ALREADY_OPEN, BAD_MAX_BODY, BAD_MAX_CHANGES, BAD_MAX_DOCS, BAD_MAX_TEXT, CHANGED, DROPPED, EXITED, IGNORED, INSIDE_CHARACTER, INVALID_PARAMS, NOT_OPEN, OUT_OF_MEMORY, REFUSED, REPLIED, REVERSED_RANGE, STALE_VERSION, TOO_LONG, TOO_MANY_CHANGES, TOO_MANY_DOCUMENTS, Server, and_then, unless, EndData, stream_of}
+use Rattle.std.specs.Prelude.{if◌then◌else◌}
+use Rattle.laspidru.specs.Prelude.{ℕ, ℤ, pos, nat_eq, Bool, List, [], length, option_map, Option, Some, None, Result, Ok, LimitsData, first_out_of_range, code_of, StoreFault, AnswerData, Sent, reply, changed, dropped, already_ended, refused, new_server, Answer, ALREADY_OPEN, BAD_MAX_BODY, BAD_MAX_CHANGES, BAD_MAX_DOCS, BAD_MAX_TEXT, CHANGED, DROPPED, EXITED, IGNORED, INSIDE_CHARACTER, INVALID_PARAMS, NOT_OPEN, OUT_OF_MEMORY, REFUSED, REPLIED, REVERSED_RANGE, STALE_VERSION, TOO_LONG, TOO_MANY_CHANGES, TOO_MANY_DOCUMENTS, Server, and_then, unless, EndData, stream_of}
 use Rattle.lsp_edit.specs.declared.fault.EditFault.TheVariants as edit
 use Rattle.lsp_message.specs.declared.outgoing.ErrorCode.{ErrorCode}
 use Rattle.lsp_store.specs.declared.fault.StoreFault.TheVariants as store

@@ -1,5 +1,6 @@
 -- The results of a client's calls, by the tables of its steps.
-use Rattle.lsp_client.specs.Prelude.{ℕ, ℤ, ◌≡◌, ◌⊎◌, List, map, String, string_bytes, true, None, Result, Ok, Err, IsUtf8, OutgoingData, body_of, ClientFault, Store, NoMemory, open_refusal, close_refusal, Ready}
+use Rattle.std.specs.Prelude.{◌≡◌, ◌⊎◌}
+use Rattle.lsp_client.specs.Prelude.{ℕ, ℤ, List, map, String, string_bytes, true, None, Result, Ok, Err, IsUtf8, OutgoingData, body_of, ClientFault, Store, NoMemory, open_refusal, close_refusal, Ready}
 use Rattle.std.specs.declared.alloc.Global.{Global}
 use Rattle.lsp_frame.specs.Frame.{frame}
 use Rattle.lsp_edit.specs.declared.change.Change.{Change}

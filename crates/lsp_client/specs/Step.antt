@@ -1,7 +1,8 @@
 -- One step of the client's end of a session (LSP 3.17, Lifecycle Messages, Text Document
 -- Synchronization). The tables say which calls it accepts, which message each sends, and what it
 -- does with what the server sends.
-use Rattle.lsp_client.specs.Prelude.{ℕ, ℤ, Bool, true, false, ◌==◌, if◌then◌else◌, List, [], Option, Some, None, unwrap_or, Result, Ok, Err, pos, LimitsData, ContentChange, SyncKind, OutgoingData, initialize, initialized, did_open, did_close, shutdown, exit, error_reply, body_of, DocumentItem, refusal_fault, Command, command_refusal, table_after, canonical_batch, whole_batch, change_message, body_refusal, else_refused, ClientFault, WrongPhase, Store, New, Asked, Ready, Closing, Closed, Done, Failed}
+use Rattle.std.specs.Prelude.{◌==◌, if◌then◌else◌}
+use Rattle.lsp_client.specs.Prelude.{ℕ, ℤ, Bool, true, false, List, [], Option, Some, None, unwrap_or, Result, Ok, Err, pos, LimitsData, ContentChange, SyncKind, OutgoingData, initialize, initialized, did_open, did_close, shutdown, exit, error_reply, body_of, DocumentItem, refusal_fault, Command, command_refusal, table_after, canonical_batch, whole_batch, change_message, body_refusal, else_refused, ClientFault, WrongPhase, Store, New, Asked, Ready, Closing, Closed, Done, Failed}
 use Rattle.lsp_text.specs.declared.encoding.Encoding.{Encoding}
 use Rattle.lsp_text.specs.declared.encoding.Encoding.TheVariants.{Utf16}
 use Rattle.lsp_text.specs.Units.{units_in}

@@ -1,6 +1,7 @@
 -- What a batch of changes means (LSP 3.17, DidChangeTextDocumentParams): each change applies to the
 -- text that the one before it leaves.
-use Rattle.lsp_edit.specs.Prelude.{ℕ, suc, if◌then◌else◌, nat_le, List, [], ◌∷◌, ◌++◌, map, take, drop, Option, Some, None, Result, Ok, Err, Range, denoted}
+use Rattle.std.specs.Prelude.{if◌then◌else◌, ◌∷◌, ◌++◌}
+use Rattle.lsp_edit.specs.Prelude.{ℕ, suc, nat_le, List, [], map, take, drop, Option, Some, None, Result, Ok, Err, Range, denoted}
 use Rattle.lsp_edit.specs.Items.{Item, New, plain, text_of}
 
 -- One change (LSP 3.17, TextDocumentContentChangeEvent): a range, or none for the whole text, and

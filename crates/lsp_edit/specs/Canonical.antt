@@ -1,6 +1,7 @@
 -- The one canonical batch of all batches that keep the same old characters and insert the same
 -- texts between them.
-use Rattle.lsp_edit.specs.Prelude.{ℕ, suc, ◌≡◌, Bool, ◌||◌, nat_lt, List, [], ◌∷◌, ◌++◌, length, map, reverse, filter, Some, exact_position}
+use Rattle.std.specs.Prelude.{◌≡◌, ◌||◌, ◌∷◌, ◌++◌}
+use Rattle.lsp_edit.specs.Prelude.{ℕ, suc, Bool, nat_lt, List, [], length, map, reverse, filter, Some, exact_position}
 use Rattle.lsp_edit.specs.Items.{Item, Old, New}
 use Rattle.lsp_edit.specs.Batch.{ContentChange}
 

@@ -1,5 +1,6 @@
 -- A batch of changes that was resolved once on a text, and what is read from it.
-use Rattle.lsp_edit.specs.Prelude.{ℕ, ◌≡◌, ◌≤◌, List, [], ◌∷◌, ◌++◌, length, map, take, drop, string_len, sum_by, Some, Result, Ok, replace_range, IsUtf8, chars, Range, units_in, Change}
+use Rattle.std.specs.Prelude.{◌≡◌, ◌≤◌, ◌∷◌, ◌++◌}
+use Rattle.lsp_edit.specs.Prelude.{ℕ, List, [], length, map, take, drop, string_len, sum_by, Some, Result, Ok, replace_range, IsUtf8, chars, Range, units_in, Change}
 use Rattle.lsp_text.specs.declared.encoding.Encoding.{Encoding}
 use Rattle.lsp_edit.specs.declared.delta.Delta.{Delta}
 use Rattle.lsp_edit.specs.declared.delta.Delta.TheVariants.{Put, Left}

@@ -1,5 +1,6 @@
 -- A text under changes, as callers see it.
-use Rattle.lsp_edit.specs.Prelude.{ℕ, ◌≡◌, ◌+◌, ◌*◌, ◌≤◌, true, List, length, min, string_bytes, encode_utf8_all, Option, Result, Ok, MatchOption, chars, is_utf8, Change}
+use Rattle.std.specs.Prelude.{◌≡◌, ◌+◌, ◌*◌, ◌≤◌}
+use Rattle.lsp_edit.specs.Prelude.{ℕ, true, List, length, min, string_bytes, encode_utf8_all, Option, Result, Ok, MatchOption, chars, is_utf8, Change}
 use Rattle.lsp_edit.specs.Items.{Item, plain, text_of}
 use Rattle.lsp_edit.specs.Batch.{ContentChange, Fault, items_after}
 use Rattle.lsp_edit.specs.Keeps.{Keeps}

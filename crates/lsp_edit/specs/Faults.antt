@@ -1,5 +1,6 @@
 -- How the calls of this crate report a fault.
-use Rattle.lsp_edit.specs.Prelude.{ℕ, ◌≡◌, ◌⊎◌, List, Option, Some, None, Result, Ok, Err, codes, EditFault}
+use Rattle.std.specs.Prelude.{◌≡◌, ◌⊎◌}
+use Rattle.lsp_edit.specs.Prelude.{ℕ, List, Option, Some, None, Result, Ok, Err, codes, EditFault}
 use Rattle.lsp_text.specs.Text.{place_of}
 use Rattle.lsp_edit.specs.declared.fault.EditFault.TheVariants.{InsideCharacter, ReversedRange, NoMemory}
 use Rattle.lsp_edit.specs.declared.fault.Side.TheVariants.{Start, Stop}

@@ -1,5 +1,6 @@
 -- A text with its lines, under batches of changes.
-use Rattle.lsp_edit.specs.Prelude.{ℕ, ◌≡◌, ◌≤◌, ◌⊎◌, if◌then◌else◌, nat_lt, List, [], ◌∷◌, length, encode_utf8_all, IsOk, Option, Some, Result, Ok, Err, IsUtf8, chars, Range, EditFault}
+use Rattle.std.specs.Prelude.{◌≡◌, ◌≤◌, ◌⊎◌, if◌then◌else◌, ◌∷◌}
+use Rattle.lsp_edit.specs.Prelude.{ℕ, nat_lt, List, [], length, encode_utf8_all, IsOk, Option, Some, Result, Ok, Err, IsUtf8, chars, Range, EditFault}
 use Rattle.lsp_edit.specs.declared.fault.EditFault.TheVariants as edit
 use Rattle.lsp_edit.specs.declared.indexed.fault.BatchFault.{BatchFault}
 use Rattle.lsp_edit.specs.declared.indexed.fault.BatchFault.TheVariants.{Edit as EditOf, TooLong, NoMemory}

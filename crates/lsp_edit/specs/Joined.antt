@@ -1,5 +1,6 @@
 -- Batches of changes on a text, one after another, as one.
-use Rattle.lsp_edit.specs.Prelude.{ℕ, ◌≡◌, List, Ok, IsUtf8, chars}
+use Rattle.std.specs.Prelude.{◌≡◌}
+use Rattle.lsp_edit.specs.Prelude.{ℕ, List, Ok, IsUtf8, chars}
 use Rattle.lsp_edit.specs.Items.{Item, text_of}
 use Rattle.lsp_edit.specs.Batch.{ContentChange, meaning}
 use Rattle.lsp_edit.specs.Compose.{then_items}

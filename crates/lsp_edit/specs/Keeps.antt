@@ -1,6 +1,7 @@
 -- Items over a text that keep its characters in order, and both characters of a CRLF of it or
 -- neither.
-use Rattle.lsp_edit.specs.Prelude.{ℕ, suc, ◌≡◌, ◌≤◌, ◌<◌, ◌⊎◌, false, List, [], ◌∷◌, length, splits_crlf}
+use Rattle.std.specs.Prelude.{◌≡◌, ◌≤◌, ◌<◌, ◌⊎◌, ◌∷◌}
+use Rattle.lsp_edit.specs.Prelude.{ℕ, suc, false, List, [], length, splits_crlf}
 use Rattle.lsp_edit.specs.Items.{Item, Old, New}
 
 -- Items that keep old characters from index `low` on. Where something is deleted or inserted, no

@@ -1,6 +1,7 @@
 -- How joined batches are kept: spans that own their texts, for each of some batches, each over the
 -- text that those before it leave.
-use Rattle.lsp_edit.specs.Prelude.{ℕ, ◌≡◌, List, [], ◌∷◌, map, string_bytes, IsUtf8, chars}
+use Rattle.std.specs.Prelude.{◌≡◌, ◌∷◌}
+use Rattle.lsp_edit.specs.Prelude.{ℕ, List, [], map, string_bytes, IsUtf8, chars}
 use Rattle.lsp_edit.specs.declared.joined.layer.Layer.{Layer}
 use Rattle.lsp_edit.specs.declared.joined.layer.OwnedSpan.{OwnedSpan}
 use Rattle.lsp_edit.specs.declared.joined.layer.OwnedSpan.TheVariants.{Old as OldSpan, New as NewSpan}

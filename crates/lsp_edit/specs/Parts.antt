@@ -1,5 +1,6 @@
 -- The parts of spans: parts of the old text, given by byte offsets, and parts of new texts.
-use Rattle.lsp_edit.specs.Prelude.{ℕ, suc, ◌≡◌, ◌-◌, ◌<◌, ◌≤◌, Bool, true, false, if◌then◌else◌, ◌==◌, List, [], ◌∷◌, length, map, take, drop, flat_map, IsCharBoundary, chars, is_utf8, Span, numbers_from}
+use Rattle.std.specs.Prelude.{◌≡◌, ◌-◌, ◌<◌, ◌≤◌, if◌then◌else◌, ◌==◌, ◌∷◌}
+use Rattle.lsp_edit.specs.Prelude.{ℕ, suc, Bool, true, false, List, [], length, map, take, drop, flat_map, IsCharBoundary, chars, is_utf8, Span, numbers_from}
 use Rattle.std.specs.Char.{len_utf8}
 use Rattle.lsp_edit.specs.declared.pieces.span.Span.TheVariants.{Old as OldSpan, New as NewSpan}
 use Rattle.lsp_edit.specs.Items.{Item, Old, New}

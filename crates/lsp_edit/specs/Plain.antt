@@ -1,5 +1,6 @@
 -- The items of the plain program.
-use Rattle.lsp_edit.specs.Prelude.{ℕ, ◌≡◌, ◌≤◌, true, List, length, map, encode_utf8_all, chars, is_utf8}
+use Rattle.std.specs.Prelude.{◌≡◌, ◌≤◌}
+use Rattle.lsp_edit.specs.Prelude.{ℕ, true, List, length, map, encode_utf8_all, chars, is_utf8}
 use Rattle.lsp_edit.specs.declared.plain.Item.{Item as PlainItem}
 use Rattle.lsp_edit.specs.declared.plain.Item.TheVariants.{Old as PlainOld, New as PlainNew}
 use Rattle.lsp_edit.specs.Items.{Item, Old, New, text_of}

@@ -1,5 +1,6 @@
 -- The spans of a text, however they are stored.
-use Rattle.lsp_edit.specs.Prelude.{List, [], ◌∷◌, Span}
+use Rattle.std.specs.Prelude.{◌∷◌}
+use Rattle.lsp_edit.specs.Prelude.{List, [], Span}
 use Rattle.lsp_edit.specs.declared.pieces.spans.Spans.{Spans}
 use Rattle.lsp_edit.specs.declared.pieces.spans.Spans.TheVariants.{One, Many}
 

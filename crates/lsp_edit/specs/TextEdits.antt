@@ -1,7 +1,8 @@
 -- What a list of text edits means (LSP 3.17, TextEdit[]): all ranges count in the old text and never
 -- overlap. Several edits may start at one index: any number of insertions, in the order of the list,
 -- and after them at most one that removes or replaces.
-use Rattle.lsp_edit.specs.Prelude.{ℕ, suc, ◌≡◌, ◌⊎◌, ◌<◌, ◌≤◌, Bool, ◌&&◌, if◌then◌else◌, nat_le, nat_lt, ◌==◌, List, [], ◌∷◌, ◌++◌, length, map, filter, flat_map, Contains, string_bytes, Result, Ok, Err, list_any, chars, numbers_from, EditFault, TextEdit, TextEditFault, Overlap}
+use Rattle.std.specs.Prelude.{◌≡◌, ◌⊎◌, ◌<◌, ◌≤◌, ◌&&◌, if◌then◌else◌, ◌==◌, ◌∷◌, ◌++◌}
+use Rattle.lsp_edit.specs.Prelude.{ℕ, suc, Bool, nat_le, nat_lt, List, [], length, map, filter, flat_map, Contains, string_bytes, Result, Ok, Err, list_any, chars, numbers_from, EditFault, TextEdit, TextEditFault, Overlap}
 use Rattle.lsp_edit.specs.declared.fault.EditFault.TheVariants as edit
 use Rattle.lsp_edit.specs.declared.text_edits.TextEditFault.TheVariants.{InsideCharacter, ReversedRange, NoMemory}
 use Rattle.lsp_edit.specs.Items.{Item, Old, New}

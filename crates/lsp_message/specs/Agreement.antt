@@ -1,6 +1,7 @@
 -- What a client offers and what a server announces (LSP 3.17, Initialize Request:
 -- ClientCapabilities, ServerCapabilities).
-use Rattle.lsp_message.specs.Prelude.{ℕ, Bool, true, false, List, [], Option, Some, None, option_map, option_and_then, codes, ◌==◌, if◌then◌else◌, list_any, bytes_eq, Data, object, no_members, get, get_member, Encoding, Utf8, Utf16, Utf32, name_of, encoding_named, Offers, Announced, SyncKind, Off, Full, Incremental}
+use Rattle.std.specs.Prelude.{◌==◌, if◌then◌else◌}
+use Rattle.lsp_message.specs.Prelude.{ℕ, Bool, true, false, List, [], Option, Some, None, option_map, option_and_then, codes, list_any, bytes_eq, Data, object, no_members, get, get_member, Encoding, Utf8, Utf16, Utf32, name_of, encoding_named, Offers, Announced, SyncKind, Off, Full, Incremental}
 use Rattle.lsp_message.specs.Values.{◌>>=◌, text_in, members_in, texts_in, bool_in, natural_in, optional}
 
 -- Whether a client offers an encoding; UTF-16 always is offered.

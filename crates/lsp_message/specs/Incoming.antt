@@ -1,6 +1,7 @@
 -- What a body asks of a server (LSP 3.17, Lifecycle Messages, Text Document Synchronization). Of
 -- other requests and notifications the method is kept, and of a response its id.
-use Rattle.lsp_message.specs.Prelude.{ℕ, List, Option, codes, if◌then◌else◌, bytes_eq, Data, Offers}
+use Rattle.std.specs.Prelude.{if◌then◌else◌}
+use Rattle.lsp_message.specs.Prelude.{ℕ, List, Option, codes, bytes_eq, Data, Offers}
 use Rattle.lsp_message.specs.Agreement.{offers_of}
 use Rattle.lsp_message.specs.Message.{IdData, MessageData, Reading}
 use Rattle.lsp_message.specs.Message as read

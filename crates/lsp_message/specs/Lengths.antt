@@ -1,6 +1,7 @@
 -- What notes of a body go by: the `rangeLength` of its changes (LSP 3.17,
 -- TextDocumentContentChangeEvent), or its params.
-use Rattle.lsp_message.specs.Prelude.{ℕ, List, [], ◌∷◌, Option, Some, None, codes, Data, Items, no_items, item}
+use Rattle.std.specs.Prelude.{◌∷◌}
+use Rattle.lsp_message.specs.Prelude.{ℕ, List, [], Option, Some, None, codes, Data, Items, no_items, item}
 use Rattle.lsp_message.specs.Message.{Reading, message, notification}
 use Rattle.lsp_message.specs.Values.{array_in, member_at, natural_in}
 

@@ -1,6 +1,7 @@
 -- Which message a body is (LSP 3.17, Base Protocol: Abstract Message, Request Message, Response
 -- Message, Notification Message).
-use Rattle.lsp_message.specs.Prelude.{ℕ, ℤ, Bool, false, List, Option, Some, None, option_map, option_and_then, codes, if◌then◌else◌, option_map_or, is_utf8, bytes_eq, Data, null, number, get, as_i64, read}
+use Rattle.std.specs.Prelude.{if◌then◌else◌}
+use Rattle.lsp_message.specs.Prelude.{ℕ, ℤ, Bool, false, List, Option, Some, None, option_map, option_and_then, codes, option_map_or, is_utf8, bytes_eq, Data, null, number, get, as_i64, read}
 use Rattle.serde_json.specs.Data.{string}
 use Rattle.lsp_message.specs.Values.{◌>>=◌, text_in, is_missing}
 

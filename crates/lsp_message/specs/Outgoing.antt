@@ -1,7 +1,8 @@
 -- The messages that are written, and the body of each (LSP 3.17, Initialize, Initialized, Shutdown,
 -- Exit, DidOpen, DidChange, DidClose): JSON without spaces, with members in the order of their
 -- names' bytes.
-use Rattle.lsp_message.specs.Prelude.{ℕ, ℤ, negsuc, List, [], ◌∷◌, ◌++◌, filter, Option, Some, None, codes, decimal, join_by, Encoding, Utf8, Utf16, Utf32, Position, Range, name_of, Offers, SyncKind, Off, Full, Incremental, ErrorCode}
+use Rattle.std.specs.Prelude.{◌∷◌, ◌++◌}
+use Rattle.lsp_message.specs.Prelude.{ℕ, ℤ, negsuc, List, [], filter, Option, Some, None, codes, decimal, join_by, Encoding, Utf8, Utf16, Utf32, Position, Range, name_of, Offers, SyncKind, Off, Full, Incremental, ErrorCode}
 use Rattle.std.specs.Fmt.{signed_decimal}
 use Rattle.json.specs.Print.{quoted}
 use Rattle.lsp_message.specs.declared.outgoing.ErrorCode.TheVariants.{ParseError, InvalidRequest, MethodNotFound, InvalidParams, ServerNotInitialized}

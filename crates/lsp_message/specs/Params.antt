@@ -1,7 +1,8 @@
 -- The typed parameters of the three document messages (LSP 3.17, DidOpen, DidChange and DidClose
 -- Text Document Notification). A member that isn't named here is ignored. Where a type is wrong, a
 -- member is missing or a number is out of range, there are no parameters.
-use Rattle.lsp_message.specs.Prelude.{ℕ, ◌≡◌, ◌^◌, ℤ, pos, negsuc, int_lt, List, Option, Some, None, option_map, option_and_then, codes, nat_lt, ◌||◌, if◌then◌else◌, ◌<◌, length, IsSomeAnd, Data, Items, Members, get_member, as_object, Position, Range}
+use Rattle.std.specs.Prelude.{◌≡◌, ◌^◌, ◌||◌, if◌then◌else◌, ◌<◌}
+use Rattle.lsp_message.specs.Prelude.{ℕ, ℤ, pos, negsuc, int_lt, List, Option, Some, None, option_map, option_and_then, codes, nat_lt, length, IsSomeAnd, Data, Items, Members, get_member, as_object, Position, Range}
 use Rattle.lsp_message.specs.Values.{◌>>=◌, member_at, text_in, members_in, array_in, each_of, whole_in, natural_in, optional}
 use Rattle.lsp_message.specs.Message.{notification, message, reading}
 

@@ -1,5 +1,6 @@
 -- The types of `src/` as the definitions see them: `x_view` is the data of an `x`.
-use Rattle.lsp_message.specs.Prelude.{◌≡◌, ◌≢◌, ◌<◌, ℕ, ℤ, List, length, slice_index, map, option_map, string_bytes, view, Message, ReadFault, NotJson, NotAMessage, NoMemory}
+use Rattle.std.specs.Prelude.{◌≡◌, ◌≢◌, ◌<◌}
+use Rattle.lsp_message.specs.Prelude.{ℕ, ℤ, List, length, slice_index, map, option_map, string_bytes, view, Message, ReadFault, NotJson, NotAMessage, NoMemory}
 use Rattle.std.specs.Str.{IsUtf8}
 use Rattle.serde_json.specs.Errors.{IsMemory}
 use Rattle.serde_json.specs.declared.error.Error.{Error}

@@ -1,6 +1,7 @@
 -- Parts of a JSON value. The suffix `_in`: what a value is read as, if it has that type; an
 -- `Option Data` may also be missing.
-use Rattle.lsp_message.specs.Prelude.{ℕ, Bool, true, ℤ, List, [], ◌∷◌, Option, Some, option_and_then, is_some, if◌then◌else◌, option_map_or, Data, Items, no_items, item, Members, get, as_null, as_bool, as_number, as_str, as_array, as_object, as_i64, as_u64}
+use Rattle.std.specs.Prelude.{◌∷◌, if◌then◌else◌}
+use Rattle.lsp_message.specs.Prelude.{ℕ, Bool, true, ℤ, List, [], Option, Some, option_and_then, is_some, option_map_or, Data, Items, no_items, item, Members, get, as_null, as_bool, as_number, as_str, as_array, as_object, as_i64, as_u64}
 
 infixl 10 ◌>>=◌
 -- The next step of what was found, if something was found.

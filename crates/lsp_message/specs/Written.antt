@@ -1,5 +1,6 @@
 -- The JSON value of each message that is written. A body is the compact text of that value.
-use Rattle.lsp_message.specs.Prelude.{ℕ, ℤ, true, List, [], ◌∷◌, map, filter, Option, Some, None, codes, Data, null, boolean, number, unsigned, array, object, Members, no_members, member, of_integer, items_of, Encoding, Utf8, Utf16, Utf32, Position, Range, name_of, Offers, SyncKind, ErrorCode}
+use Rattle.std.specs.Prelude.{◌∷◌}
+use Rattle.lsp_message.specs.Prelude.{ℕ, ℤ, true, List, [], map, filter, Option, Some, None, codes, Data, null, boolean, number, unsigned, array, object, Members, no_members, member, of_integer, items_of, Encoding, Utf8, Utf16, Utf32, Position, Range, name_of, Offers, SyncKind, ErrorCode}
 use Rattle.serde_json.specs.Data.{string}
 use Rattle.lsp_message.specs.Agreement.{is_offered}
 use Rattle.lsp_message.specs.Message.{IdData, whole, text}

@@ -1,5 +1,6 @@
 -- The documents of both ends: the server has those that the client had at an earlier time.
-use Rattle.lsp_pair.specs.Prelude.{ℕ, ◌≡◌, ◌+◌, List, [], ◌∷◌, ◌++◌, length, slice_get, Some, DocumentItem, Happened, Server, Client}
+use Rattle.std.specs.Prelude.{◌≡◌, ◌+◌, ◌∷◌, ◌++◌}
+use Rattle.lsp_pair.specs.Prelude.{ℕ, List, [], length, slice_get, Some, DocumentItem, Happened, Server, Client}
 use Rattle.lsp_pair.specs.declared.event.Happened.TheVariants.{Sent}
 use Rattle.lsp_pair.specs.declared.event.Heard.TheVariants.{Send}
 use Rattle.lsp_pair.specs.Events.{EventData}

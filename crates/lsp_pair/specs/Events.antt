@@ -1,5 +1,6 @@
 -- How both ends are set up, what may happen to them, and what they answer.
-use Rattle.lsp_pair.specs.Prelude.{List, [], ◌∷◌, LimitsData, OutgoingData, AnswerData, reply_code, Call, DeliveredData, Did}
+use Rattle.std.specs.Prelude.{◌∷◌}
+use Rattle.lsp_pair.specs.Prelude.{List, [], LimitsData, OutgoingData, AnswerData, reply_code, Call, DeliveredData, Did}
 use Rattle.lsp_message.specs.declared.agreement.Offers.{Offers}
 use Rattle.lsp_server.specs.declared.config.Config.{Config}
 use Rattle.lsp_server.specs.Answer as answer

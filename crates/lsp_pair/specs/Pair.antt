@@ -1,5 +1,6 @@
 -- Both ends of a session and the frames between them, and one step of both.
-use Rattle.lsp_pair.specs.Prelude.{ℕ, ◌≡◌, ◌≢◌, Bool, true, false, not, nat_le, ◌&&◌, ◌||◌, List, [], ◌∷◌, ◌++◌, map, Result, Ok, Err, LimitsData, AreInRange, reading, OutgoingData, body_of, ClientFault, Happened, Refused, Server, Client, Nothing}
+use Rattle.std.specs.Prelude.{◌≡◌, ◌≢◌, ◌&&◌, ◌||◌, ◌∷◌, ◌++◌}
+use Rattle.lsp_pair.specs.Prelude.{ℕ, Bool, true, false, not, nat_le, List, [], map, Result, Ok, Err, LimitsData, AreInRange, reading, OutgoingData, body_of, ClientFault, Happened, Refused, Server, Client, Nothing}
 use Rattle.lsp_frame.specs.Frame.{frame, IsFrameOf}
 use Rattle.lsp_text.specs.declared.encoding.Encoding.TheVariants.{Utf16}
 use Rattle.lsp_store.specs.Limits.{AreWithin}

@@ -1,5 +1,6 @@
 -- The output of each engine for the records of a log.
-use Rattle.lsp_replay.specs.Prelude.{ℕ, Bool, true, false, ◌==◌, ◌++◌, if◌then◌else◌, nat_lt, length, map, drop, List, [], ◌∷◌, Option, Some, None, Result, Ok, Err, codes, decimal, flat_map, frame, default_limits, Utf16, units_in, ErrorCode, ParseError, InvalidRequest, MethodNotFound, InvalidParams, ServerNotInitialized, reading, DocumentItem, ChangeData, server_refusal_code, IncomingData, incoming_of, did_change, ServerData, session_encoding, content_change_from_data, AnswerData, reply, changed, dropped, ignored, refused, exits, already_ended, Sent, Outcome, EngineFault, BadLog, BodyTooLong, Head, LogRules, Record, version_line, mark_of, Config, Settings}
+use Rattle.std.specs.Prelude.{◌==◌, ◌++◌, if◌then◌else◌, ◌∷◌}
+use Rattle.lsp_replay.specs.Prelude.{ℕ, Bool, true, false, nat_lt, length, map, drop, List, [], Option, Some, None, Result, Ok, Err, codes, decimal, flat_map, frame, default_limits, Utf16, units_in, ErrorCode, ParseError, InvalidRequest, MethodNotFound, InvalidParams, ServerNotInitialized, reading, DocumentItem, ChangeData, server_refusal_code, IncomingData, incoming_of, did_change, ServerData, session_encoding, content_change_from_data, AnswerData, reply, changed, dropped, ignored, refused, exits, already_ended, Sent, Outcome, EngineFault, BadLog, BodyTooLong, Head, LogRules, Record, version_line, mark_of, Config, Settings}
 use Rattle.lsp_message.specs.Outgoing.{document_text}
 use Rattle.lsp_store.specs.Message.{canonical_body}
 use Rattle.lsp_replay.specs.RunOutput.{RunOutput, written_first, stopped}

@@ -1,5 +1,6 @@
 -- `compare`: whether a document's last text is that of a file, and else which message made it so.
-use Rattle.lsp_replay.specs.Prelude.{ℕ, Bool, if◌then◌else◌, length, List, [], ◌∷◌, ◌++◌, Option, Some, None, Result, Ok, Err, chars, ComparisonData, comparison_words, ends_so, equality, refused_by, taken, Splice, units_in, Range, ends_of, EditFault, reading, ChangeData, ContentChangeData, DocumentItem, entry_at, changed, refused, server_refusal_code, IncomingData, did_change, incoming_of, ServerData, content_change_from_data, session_encoding, Record, Settings, Outcome}
+use Rattle.std.specs.Prelude.{if◌then◌else◌, ◌∷◌, ◌++◌}
+use Rattle.lsp_replay.specs.Prelude.{ℕ, Bool, length, List, [], Option, Some, None, Result, Ok, Err, chars, ComparisonData, comparison_words, ends_so, equality, refused_by, taken, Splice, units_in, Range, ends_of, EditFault, reading, ChangeData, ContentChangeData, DocumentItem, entry_at, changed, refused, server_refusal_code, IncomingData, did_change, incoming_of, ServerData, content_change_from_data, session_encoding, Record, Settings, Outcome}
 use Rattle.line_diff.specs.Owners.{splice_between}
 use Rattle.lsp_edit.specs.Faults.{places_at}
 use Rattle.lsp_replay.specs.declared.outcome.Missing.TheVariants as missing

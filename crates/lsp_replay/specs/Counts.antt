@@ -1,5 +1,6 @@
 -- How often what came, for the last lines of `check --explain`.
-use Rattle.lsp_replay.specs.Prelude.{ℕ, Bool, true, false, not, ◌&&◌, ◌==◌, ◌/◌, ◌++◌, if◌then◌else◌, nat_le, List, [], ◌∷◌, Option, Some, None, codes, decimal, flat_map, AnswerData, reply, dropped, refused, exits, Sent, server_refusal_code, Note}
+use Rattle.std.specs.Prelude.{◌&&◌, ◌==◌, ◌/◌, ◌++◌, if◌then◌else◌, ◌∷◌}
+use Rattle.lsp_replay.specs.Prelude.{ℕ, Bool, true, false, not, nat_le, List, [], Option, Some, None, codes, decimal, flat_map, AnswerData, reply, dropped, refused, exits, Sent, server_refusal_code, Note}
 use Rattle.lsp_replay.specs.Commands.{code_word}
 use Rattle.lsp_replay.specs.Notes.{note_kind}
 use Rattle.lsp_replay.specs.Session.{Verdict, answered, count_if, has_changed, is_refused}

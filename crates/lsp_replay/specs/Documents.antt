@@ -1,6 +1,7 @@
 -- `normalise` of the records that are about the session and the documents' texts: all others are
 -- left out (LSP 3.17, Lifecycle Messages, Text Document Synchronization).
-use Rattle.lsp_replay.specs.Prelude.{ℕ, ◌≡◌, Bool, true, false, not, ◌||◌, if◌then◌else◌, List, [], ◌∷◌, Option, Some, None, codes, Result, IfOk, Consumes, Appends, bytes_eq, IdData, Reading, reading, Phase, IncomingData, response, initialize, shutdown, other_request, other_notification, incoming_of, EngineFault, Ports, Sender, Head, Record, Log, IsReadAs, Settings, Outcome}
+use Rattle.std.specs.Prelude.{◌≡◌, ◌||◌, if◌then◌else◌, ◌∷◌}
+use Rattle.lsp_replay.specs.Prelude.{ℕ, Bool, true, false, not, List, [], Option, Some, None, codes, Result, IfOk, Consumes, Appends, bytes_eq, IdData, Reading, reading, Phase, IncomingData, response, initialize, shutdown, other_request, other_notification, incoming_of, EngineFault, Ports, Sender, Head, Record, Log, IsReadAs, Settings, Outcome}
 use Rattle.lsp_message.specs.Message as read
 use Rattle.lsp_log.specs.declared.record.Sender.TheVariants.{Client, Server}
 use Rattle.lsp_replay.specs.RunOutput.{RunOutput}

@@ -1,5 +1,6 @@
 -- What an engine wrote of a log, and which calls it made.
-use Rattle.lsp_replay.specs.Prelude.{ℕ, ◌≡◌, ◌≢◌, ◌+◌, ◌≤◌, ◌<◌, ◌^◌, ◌++◌, Bool, true, List, Option, None, Result, Err, Consumes, Appends, IsAtEnd, Outcome, EngineFault, Read, Write, TooManyTurns, Ports, Rose, StaysWell, LogRules, Record, Log, IsReadAs, is_line_due}
+use Rattle.std.specs.Prelude.{◌≡◌, ◌≢◌, ◌+◌, ◌≤◌, ◌<◌, ◌^◌, ◌++◌}
+use Rattle.lsp_replay.specs.Prelude.{ℕ, Bool, true, List, Option, None, Result, Err, Consumes, Appends, IsAtEnd, Outcome, EngineFault, Read, Write, TooManyTurns, Ports, Rose, StaysWell, LogRules, Record, Log, IsReadAs, is_line_due}
 use Rattle.lsp_replay.specs.RunOutput.{RunOutput}
 
 -- The output at the end of the input, after the records of a log.

@@ -1,6 +1,7 @@
 -- `check --explain`: a line of `check` for each record, with the reason where it was refused and
 -- the notes where it is suspicious; at the end what came how often, and what to do next.
-use Rattle.lsp_replay.specs.Prelude.{ℕ, Bool, false, not, ◌==◌, ◌&&◌, ◌||◌, ◌∷◌, ◌++◌, if◌then◌else◌, List, [], Option, Some, None, codes, decimal, LimitsData, notification_params, reading, ChangeData, IncomingData, incoming_of, other_notification, Sender, Record, Settings, Listing, Note, Data}
+use Rattle.std.specs.Prelude.{◌==◌, ◌&&◌, ◌||◌, ◌∷◌, ◌++◌, if◌then◌else◌}
+use Rattle.lsp_replay.specs.Prelude.{ℕ, Bool, false, not, List, [], Option, Some, None, codes, decimal, LimitsData, notification_params, reading, ChangeData, IncomingData, incoming_of, other_notification, Sender, Record, Settings, Listing, Note, Data}
 use Rattle.lsp_log.specs.declared.record.Sender.TheVariants.{Client}
 use Rattle.lsp_replay.specs.RunOutput.{RunOutput}
 use Rattle.lsp_replay.specs.Commands.{change_in, log_config, output_in, verdict_word}

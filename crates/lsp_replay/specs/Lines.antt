@@ -1,6 +1,7 @@
 -- The commands that write a line for each record by what is known of the records before it: `trace`
 -- and `check --explain`.
-use Rattle.lsp_replay.specs.Prelude.{ℕ, Bool, true, false, not, ◌&&◌, ◌||◌, if◌then◌else◌, List, [], ◌∷◌, Option, Some, None, is_none, reading, ChangeData, AlreadyOpen, NotOpen, StaleVersion, refused, IncomingData, did_open, did_change, did_close, incoming_of, Store, Head, Sender, Record, Note}
+use Rattle.std.specs.Prelude.{◌&&◌, ◌||◌, if◌then◌else◌, ◌∷◌}
+use Rattle.lsp_replay.specs.Prelude.{ℕ, Bool, true, false, not, List, [], Option, Some, None, is_none, reading, ChangeData, AlreadyOpen, NotOpen, StaleVersion, refused, IncomingData, did_open, did_change, did_close, incoming_of, Store, Head, Sender, Record, Note}
 use Rattle.lsp_log.specs.declared.record.Sender.TheVariants.{Client}
 use Rattle.lsp_replay.specs.Commands.{View, change_in, unless_bad, writes}
 use Rattle.lsp_replay.specs.Counts.{Counts, counts_after, nothing_counted}

@@ -1,5 +1,6 @@
 -- Which record opened, closed or refused a document last.
-use Rattle.lsp_replay.specs.Prelude.{ℕ, Bool, true, false, not, if◌then◌else◌, take, List, [], ◌∷◌, Option, Some, None, option_and_then, bytes_eq, changed, refused}
+use Rattle.std.specs.Prelude.{if◌then◌else◌, ◌∷◌}
+use Rattle.lsp_replay.specs.Prelude.{ℕ, Bool, true, false, not, take, List, [], Option, Some, None, option_and_then, bytes_eq, changed, refused}
 use Rattle.lsp_replay.specs.Session.{Verdict, answered}
 
 -- A document, and the number of the record that opened, closed or refused it last.

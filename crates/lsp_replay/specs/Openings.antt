@@ -1,5 +1,6 @@
 -- Which message opened each document of a log first, for a user who asked for one that isn't there.
-use Rattle.lsp_replay.specs.Prelude.{ℕ, ◌-◌, ◌==◌, ◌++◌, if◌then◌else◌, length, take, List, [], Option, Some, None, codes, decimal, flat_map, ends_so, reading, IncomingData, did_open, incoming_of, Sender, Record, Settings}
+use Rattle.std.specs.Prelude.{◌-◌, ◌==◌, ◌++◌, if◌then◌else◌}
+use Rattle.lsp_replay.specs.Prelude.{ℕ, length, take, List, [], Option, Some, None, codes, decimal, flat_map, ends_so, reading, IncomingData, did_open, incoming_of, Sender, Record, Settings}
 use Rattle.lsp_log.specs.declared.record.Sender.TheVariants.{Client}
 use Rattle.lsp_replay.specs.RunOutput.{RunOutput}
 use Rattle.lsp_replay.specs.Commands.{View, log_config, output_in, unless_bad, writes}

@@ -1,5 +1,6 @@
 -- `replay` of a part of a log: the documents after a record, or the last text of one document.
-use Rattle.lsp_replay.specs.Prelude.{ℕ, Bool, false, not, ◌==◌, ◌&&◌, ◌||◌, if◌then◌else◌, List, [], Option, Some, None, is_some, option_map, Ok, bytes_eq, string_bytes, ends_so, DocumentItem, entry_at, Record, Settings, Outcome}
+use Rattle.std.specs.Prelude.{◌==◌, ◌&&◌, ◌||◌, if◌then◌else◌}
+use Rattle.lsp_replay.specs.Prelude.{ℕ, Bool, false, not, List, [], Option, Some, None, is_some, option_map, Ok, bytes_eq, string_bytes, ends_so, DocumentItem, entry_at, Record, Settings, Outcome}
 use Rattle.lsp_replay.specs.declared.commands.parts.Part.{Part}
 use Rattle.lsp_replay.specs.declared.outcome.Missing.{Missing}
 use Rattle.lsp_replay.specs.declared.outcome.Missing.TheVariants as missing

@@ -1,6 +1,7 @@
 -- Why a record was refused, in words for people. They are ASCII, with no quotation mark and no
 -- backslash.
-use Rattle.lsp_replay.specs.Prelude.{ℕ, Bool, true, false, ◌∷◌, ◌++◌, if◌then◌else◌, List, [], Option, Some, None, option_and_then, codes, decimal, slice_get, signed_decimal, LimitsData, Position, Range, EditFault, Side, Start, Stop, ErrorCode, ParseError, InvalidRequest, InvalidParams, ServerNotInitialized, ChangeData, AlreadyOpen, TooManyDocuments, TextTooLong, NotOpen, StaleVersion, TooManyChanges, Edit, Store, AnswerData, reply, refused, exits, Sent, one_more}
+use Rattle.std.specs.Prelude.{◌∷◌, ◌++◌, if◌then◌else◌}
+use Rattle.lsp_replay.specs.Prelude.{ℕ, Bool, true, false, List, [], Option, Some, None, option_and_then, codes, decimal, slice_get, signed_decimal, LimitsData, Position, Range, EditFault, Side, Start, Stop, ErrorCode, ParseError, InvalidRequest, InvalidParams, ServerNotInitialized, ChangeData, AlreadyOpen, TooManyDocuments, TextTooLong, NotOpen, StaleVersion, TooManyChanges, Edit, Store, AnswerData, reply, refused, exits, Sent, one_more}
 use Rattle.lsp_edit.specs.declared.fault.EditFault.TheVariants.{InsideCharacter, ReversedRange, NoMemory as NoMemoryToEdit}
 use Rattle.lsp_store.specs.declared.fault.StoreFault.{StoreFault}
 use Rattle.lsp_server.specs.declared.answer.Refusal.{Refusal}

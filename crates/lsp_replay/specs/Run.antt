@@ -1,5 +1,6 @@
 -- What each engine does between a reader and a writer.
-use Rattle.lsp_replay.specs.Prelude.{ℕ, ◌≡◌, ◌≢◌, ◌&&◌, not, Bool, true, false, List, Result, Err, IfOk, Config, EngineFault, NoMemory, TooManyTurns, Write, Ports, StaysFlushed, LogRules, Record, Settings, Outcome}
+use Rattle.std.specs.Prelude.{◌≡◌, ◌≢◌, ◌&&◌}
+use Rattle.lsp_replay.specs.Prelude.{ℕ, not, Bool, true, false, List, Result, Err, IfOk, Config, EngineFault, NoMemory, TooManyTurns, Write, Ports, StaysFlushed, LogRules, Record, Settings, Outcome}
 use Rattle.lsp_replay.specs.RunOutput.{RunOutput}
 use Rattle.lsp_replay.specs.Engine.{Called, FewCalls, NonePassedOver, WroteRecords, state_of}
 use Rattle.lsp_replay.specs.Commands.{as_converted, as_log, as_stream, converted, replies, report, verdicts}

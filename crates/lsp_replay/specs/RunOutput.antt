@@ -1,5 +1,6 @@
 -- The output of an engine for the records of a log and for its end.
-use Rattle.lsp_replay.specs.Prelude.{ℕ, Bool, List, [], ◌++◌, Option, Some, None, Result, Outcome, EngineFault}
+use Rattle.std.specs.Prelude.{◌++◌}
+use Rattle.lsp_replay.specs.Prelude.{ℕ, Bool, List, [], Option, Some, None, Result, Outcome, EngineFault}
 
 -- The output of an engine for some records, one after another.
 pub record RunOutput : Type 0 where

@@ -1,6 +1,7 @@
 -- A server over the records of a log: the judgement of each record, and what is counted (LSP 3.17,
 -- Lifecycle Messages).
-use Rattle.lsp_replay.specs.Prelude.{ℕ, Bool, true, false, ◌&&◌, ◌==◌, not, if◌then◌else◌, List, Option, Some, None, is_some, option_and_then, option_map, bytes_eq, Data, Announced, ErrorCode, MethodNotFound, IdData, Reading, reading, announced_of, Phase, New, Running, Ended, IncomingData, incoming_of, did_change, initialize, AnswerData, reply, changed, refused, exits, Sent, as_sent, Config, ServerData, new_server, step_on, with_encoding, Outcome, one_more, Version, Two, Sender, Record}
+use Rattle.std.specs.Prelude.{◌&&◌, ◌==◌, if◌then◌else◌}
+use Rattle.lsp_replay.specs.Prelude.{ℕ, Bool, true, false, not, List, Option, Some, None, is_some, option_and_then, option_map, bytes_eq, Data, Announced, ErrorCode, MethodNotFound, IdData, Reading, reading, announced_of, Phase, New, Running, Ended, IncomingData, incoming_of, did_change, initialize, AnswerData, reply, changed, refused, exits, Sent, as_sent, Config, ServerData, new_server, step_on, with_encoding, Outcome, one_more, Version, Two, Sender, Record}
 use Rattle.std.specs.Ordering.{int_eq}
 use Rattle.lsp_text.specs.declared.encoding.Encoding.{Encoding}
 use Rattle.lsp_message.specs.Message as read

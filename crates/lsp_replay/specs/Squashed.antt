@@ -1,6 +1,7 @@
 -- `normalise` with squash: accepted changes of one document, with no other record between them, are
 -- written as one message.
-use Rattle.lsp_replay.specs.Prelude.{ℕ, Bool, false, ◌++◌, if◌then◌else◌, is_none, map, flat_map, List, [], ◌∷◌, Option, Some, None, option_map, Result, bytes_eq, reading, ChangeData, DocumentItem, SquashData, squash_of, squash_after, squash_frame, squash_refusal, entry_at, incoming_of, session_encoding, content_change_from_data, changed, Settings, Outcome, EngineFault, Record}
+use Rattle.std.specs.Prelude.{◌++◌, if◌then◌else◌, ◌∷◌}
+use Rattle.lsp_replay.specs.Prelude.{ℕ, Bool, false, is_none, map, flat_map, List, [], Option, Some, None, option_map, Result, bytes_eq, reading, ChangeData, DocumentItem, SquashData, squash_of, squash_after, squash_frame, squash_refusal, entry_at, incoming_of, session_encoding, content_change_from_data, changed, Settings, Outcome, EngineFault, Record}
 use Rattle.lsp_replay.specs.RunOutput.{RunOutput}
 use Rattle.lsp_replay.specs.Commands.{RecordOutput, View, writes, ends, output_in, front_of, change_in, normalising, line_if, log_config, canonical_log}
 use Rattle.lsp_replay.specs.Session.{Session, Verdict, answered, Judged, opened, session_outcome}

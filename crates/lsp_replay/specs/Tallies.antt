@@ -1,5 +1,6 @@
 -- Lists of what was counted, in the order in which it came first.
-use Rattle.lsp_replay.specs.Prelude.{ℕ, Bool, true, false, ◌||◌, ◌++◌, if◌then◌else◌, nat_lt, List, [], ◌∷◌, Option, Some, None, codes, decimal, bytes_eq, one_more}
+use Rattle.std.specs.Prelude.{◌||◌, ◌++◌, if◌then◌else◌, ◌∷◌}
+use Rattle.lsp_replay.specs.Prelude.{ℕ, Bool, true, false, nat_lt, List, [], Option, Some, None, codes, decimal, bytes_eq, one_more}
 
 -- What was counted, how often it came, and the number of the first record with it.
 pub record Tally : Type 0 where

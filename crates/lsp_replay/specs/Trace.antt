@@ -1,5 +1,6 @@
 -- `trace`: a line of JSON for each record of a log, with what a server answers to it and why.
-use Rattle.lsp_replay.specs.Prelude.{ℕ, Bool, true, false, ◌&&◌, ◌||◌, ◌==◌, ◌∷◌, ◌++◌, if◌then◌else◌, nat_lt, length, List, [], Option, Some, None, option_and_then, option_map, codes, decimal, signed_decimal, LimitsData, IdData, whole, text, reading, DocumentItem, entry_at, IncomingData, not_json, not_a_message, response, initialize, shutdown, other_request, exit, did_open, did_change, did_close, other_notification, incoming_of, Head, Sender, Record, Settings, Details, Note}
+use Rattle.std.specs.Prelude.{◌&&◌, ◌||◌, ◌==◌, ◌∷◌, ◌++◌, if◌then◌else◌}
+use Rattle.lsp_replay.specs.Prelude.{ℕ, Bool, true, false, nat_lt, length, List, [], Option, Some, None, option_and_then, option_map, codes, decimal, signed_decimal, LimitsData, IdData, whole, text, reading, DocumentItem, entry_at, IncomingData, not_json, not_a_message, response, initialize, shutdown, other_request, exit, did_open, did_change, did_close, other_notification, incoming_of, Head, Sender, Record, Settings, Details, Note}
 use Rattle.serde_json.specs.Data.{string}
 use Rattle.serde_json.specs.Written.{compact_text}
 use Rattle.lsp_log.specs.declared.record.Sender.TheVariants.{Client, Server}

@@ -1,5 +1,6 @@
 -- What a call returns that takes a step.
-use Rattle.lsp_server.specs.Prelude.{◌≡◌, Result, IfOk, OnOk, OnErr, IsOk, Answer}
+use Rattle.std.specs.Prelude.{◌≡◌}
+use Rattle.lsp_server.specs.Prelude.{Result, IfOk, OnOk, OnErr, IsOk, Answer}
 use Rattle.lsp_server.specs.Answer.{as_sent, NeverAllocates}
 use Rattle.lsp_server.specs.Seen.{answer_view}
 use Rattle.lsp_server.specs.Step.{ServerData, Step}

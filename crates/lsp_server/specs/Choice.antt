@@ -1,6 +1,7 @@
 -- What a server announces in its result of `initialize` (LSP 3.17, Initialize Request:
 -- PositionEncodingKind, TextDocumentSyncKind).
-use Rattle.lsp_server.specs.Prelude.{if◌then◌else◌, Encoding, Utf16, Offers, is_offered, Config, Fixed, Negotiated}
+use Rattle.std.specs.Prelude.{if◌then◌else◌}
+use Rattle.lsp_server.specs.Prelude.{Encoding, Utf16, Offers, is_offered, Config, Fixed, Negotiated}
 use Rattle.lsp_message.specs.declared.agreement.SyncKind.{SyncKind}
 use Rattle.lsp_message.specs.declared.agreement.SyncKind.TheVariants as kind
 use Rattle.lsp_frame.specs.Limits.{default_limits}

@@ -1,5 +1,6 @@
 -- A change in two halves: what becomes of it before anything changes, and the server after a plan.
-use Rattle.lsp_server.specs.Prelude.{◌≡◌, ◌≢◌, map, Some, ChangeData, did_change, Answer, Changed, Running}
+use Rattle.std.specs.Prelude.{◌≡◌, ◌≢◌}
+use Rattle.lsp_server.specs.Prelude.{map, Some, ChangeData, did_change, Answer, Changed, Running}
 use Rattle.lsp_store.specs.declared.store.plan.Plan.{Plan}
 use Rattle.lsp_store.specs.Opened.{StoreData}
 use Rattle.lsp_store.specs.Plan.{IsPlanOf, IsPlanOn, after_plan}

@@ -1,5 +1,6 @@
 -- The command line: the options of the program, as `clap` gets them.
-use Rattle.lsp_simulate.specs.Prelude.{◌++◌, ◌∷◌, [], true, List, codes, Rule, new_shape}
+use Rattle.std.specs.Prelude.{◌++◌, ◌∷◌}
+use Rattle.lsp_simulate.specs.Prelude.{[], true, List, codes, Rule, new_shape}
 use Rattle.clap.specs.Words.{App}
 use Rattle.lsp_program.specs.Arguments.{Choices, IsProgramOf, encoding_rule, flag_rule, form_rule, limit_rules, number_rule}
 

@@ -1,5 +1,6 @@
 -- What the program does with its words, and the status that it ends with.
-use Rattle.lsp_simulate.specs.Prelude.{ℕ, ◌≡◌, ◌⊎◌, ◌++◌, List, Option, Some, None, codes, decimal, Result, Ok, Err, Keeps, kind_of, Error, EngineFault, WriterState, ports, IsFlushed, IsPrinted, IsTextPrinted, Streams, PairFault, NotUtf16, LimitsTooSmall, Setting, RunFault, Pair, Read, BadEvent}
+use Rattle.std.specs.Prelude.{◌≡◌, ◌⊎◌, ◌++◌}
+use Rattle.lsp_simulate.specs.Prelude.{ℕ, List, Option, Some, None, codes, decimal, Result, Ok, Err, Keeps, kind_of, Error, EngineFault, WriterState, ports, IsFlushed, IsPrinted, IsTextPrinted, Streams, PairFault, NotUtf16, LimitsTooSmall, Setting, RunFault, Pair, Read, BadEvent}
 use Rattle.clap.specs.declared.error.kind.ErrorKind.{ErrorKind}
 use Rattle.clap.specs.declared.error.kind.ErrorKind.TheVariants as kind
 use Rattle.lsp_stream.specs.declared.fault.EngineFault.TheVariants as engine

@@ -1,5 +1,6 @@
 -- What a session writes: a line for each step of a pair, and then how the pair ends.
-use Rattle.lsp_simulate.specs.Prelude.{ℕ, ◌≡◌, ◌⊎◌, ◌+◌, ◌-◌, ◌<◌, ◌≤◌, ◌==◌, ◌^◌, ◌++◌, ◌∷◌, [], Bool, true, false, if◌then◌else◌, List, length, min, codes, decimal, Option, IfSome, Result, Ok, Err, Appends, EngineFault, Ports, ReaderState, Rose, WriterState, AppendsFront, Spends, IsStopped, allowed_turns, document_text, DocumentItem, Happened, PairFault, NotUtf16, LimitsTooSmall, EventData, PairData, IsFitting, IsStep, are_within, can_choose_utf16, new_pair, Setting, RunFault, Pair, Read, BadEvent}
+use Rattle.std.specs.Prelude.{◌≡◌, ◌⊎◌, ◌+◌, ◌-◌, ◌<◌, ◌≤◌, ◌==◌, ◌^◌, ◌++◌, ◌∷◌, if◌then◌else◌}
+use Rattle.lsp_simulate.specs.Prelude.{ℕ, [], Bool, true, false, List, length, min, codes, decimal, Option, IfSome, Result, Ok, Err, Appends, EngineFault, Ports, ReaderState, Rose, WriterState, AppendsFront, Spends, IsStopped, allowed_turns, document_text, DocumentItem, Happened, PairFault, NotUtf16, LimitsTooSmall, EventData, PairData, IsFitting, IsStep, are_within, can_choose_utf16, new_pair, Setting, RunFault, Pair, Read, BadEvent}
 use Rattle.lsp_pair.specs.Events.{Setting as PairSetting}
 use Rattle.lsp_simulate.specs.declared.run.RunFault.TheVariants.{Write, NoMemory}
 use Rattle.lsp_simulate.specs.Words.{happened_words}

@@ -1,5 +1,6 @@
 -- The setting of a session, by what `clap` finds in the words.
-use Rattle.lsp_simulate.specs.Prelude.{ℕ, ◌≡◌, ◌⊎◌, [], Result, Ok, Err, List, Option, Some, None, codes, option_map, option_and_then, if◌then◌else◌, matches_of, kind_of, Error, Setting}
+use Rattle.std.specs.Prelude.{◌≡◌, ◌⊎◌, if◌then◌else◌}
+use Rattle.lsp_simulate.specs.Prelude.{ℕ, [], Result, Ok, Err, List, Option, Some, None, codes, option_map, option_and_then, matches_of, kind_of, Error, Setting}
 use Rattle.std.specs.Str.{bytes_eq}
 use Rattle.clap.specs.Matches.{found_of, first_value}
 use Rattle.clap.specs.Simple.{App}

@@ -1,5 +1,6 @@
 -- The words for what happened at a step, as docs/LSPSYNC.md lists them.
-use Rattle.lsp_simulate.specs.Prelude.{ℕ, ◌++◌, List, Option, Some, None, codes, decimal, code_of, Happened}
+use Rattle.std.specs.Prelude.{◌++◌}
+use Rattle.lsp_simulate.specs.Prelude.{ℕ, List, Option, Some, None, codes, decimal, code_of, Happened}
 use Rattle.std.specs.Fmt.{signed_decimal}
 use Rattle.lsp_store.specs.Faults.{fault_code}
 use Rattle.lsp_message.specs.declared.outgoing.ErrorCode.{ErrorCode}

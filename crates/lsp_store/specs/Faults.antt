@@ -1,5 +1,6 @@
 -- How the calls of this crate report why they refuse.
-use Rattle.lsp_store.specs.Prelude.{ℕ, ◌≡◌, ◌⊎◌, List, Option, Some, codes, option_map, StoreFault}
+use Rattle.std.specs.Prelude.{◌≡◌, ◌⊎◌}
+use Rattle.lsp_store.specs.Prelude.{ℕ, List, Option, Some, codes, option_map, StoreFault}
 use Rattle.lsp_frame.specs.declared.written.EncodeFault.{EncodeFault}
 use Rattle.lsp_frame.specs.declared.written.EncodeFault.TheVariants as encode
 use Rattle.lsp_edit.specs.declared.fault.EditFault.TheVariants.{InsideCharacter, ReversedRange}

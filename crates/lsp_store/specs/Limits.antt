@@ -1,5 +1,6 @@
 -- Limits beside other limits.
-use Rattle.lsp_store.specs.Prelude.{◌≤◌, IsTrue, LimitsData}
+use Rattle.std.specs.Prelude.{◌≤◌}
+use Rattle.lsp_store.specs.Prelude.{IsTrue, LimitsData}
 
 -- Each of the limits is at most the other's, and they are lenient only if the others are.
 pub record AreWithin (small great : LimitsData) : Type 0 where

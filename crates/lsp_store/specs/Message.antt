@@ -1,6 +1,7 @@
 -- The canonical message of a batch that is accepted on an open document (LSP 3.17,
 -- DidChangeTextDocument).
-use Rattle.lsp_store.specs.Prelude.{ℕ, ℤ, ◌≡◌, true, if◌then◌else◌, nat_lt, List, [], ◌∷◌, length, map, encode_utf8_all, Option, Some, None, Result, Ok, Err, ⊤, all_scalars, chars, frame, LimitsData, Item, ContentChange, Fault, meaning, DoTheSame, canonical, DocumentItem, ContentChangeData, IsChangeRead}
+use Rattle.std.specs.Prelude.{◌≡◌, if◌then◌else◌, ◌∷◌}
+use Rattle.lsp_store.specs.Prelude.{ℕ, ℤ, true, nat_lt, List, [], length, map, encode_utf8_all, Option, Some, None, Result, Ok, Err, ⊤, all_scalars, chars, frame, LimitsData, Item, ContentChange, Fault, meaning, DoTheSame, canonical, DocumentItem, ContentChangeData, IsChangeRead}
 use Rattle.lsp_message.specs.Outgoing.{OutgoingData, did_change, body_of}
 use Rattle.lsp_store.specs.Table.{Refusal, body_too_long, entry_at, change_refusal, after_change}
 

@@ -1,5 +1,6 @@
 -- A store as callers see it, and what its calls do to it.
-use Rattle.lsp_store.specs.Prelude.{◌≡◌, ℕ, ℤ, IsSomeAnd, List, String, string_bytes, Option, None, Ok, LimitsData, StoreFault, ContentChange, one_change, DocumentItem}
+use Rattle.std.specs.Prelude.{◌≡◌}
+use Rattle.lsp_store.specs.Prelude.{ℕ, ℤ, IsSomeAnd, List, String, string_bytes, Option, None, Ok, LimitsData, StoreFault, ContentChange, one_change, DocumentItem}
 use Rattle.std.specs.declared.alloc.Global.{Global}
 use Rattle.lsp_store.specs.declared.store.stored.Stored.{Stored}
 use Rattle.lsp_text.specs.declared.position.Range.{Range}

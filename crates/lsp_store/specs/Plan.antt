@@ -1,5 +1,6 @@
 -- A batch that was resolved once on an open document, and its application.
-use Rattle.lsp_store.specs.Prelude.{ℕ, ℤ, ◌≡◌, ◌≤◌, zero, suc, List, [], ◌∷◌, ◌++◌, length, Some, None, slice_get, units_in, Encoding, ContentChange, DocumentItem, Plan, StoreFault}
+use Rattle.std.specs.Prelude.{◌≡◌, ◌≤◌, ◌∷◌, ◌++◌}
+use Rattle.lsp_store.specs.Prelude.{ℕ, ℤ, zero, suc, List, [], length, Some, None, slice_get, units_in, Encoding, ContentChange, DocumentItem, Plan, StoreFault}
 use Rattle.lsp_edit.specs.declared.delta.Delta.{Delta}
 use Rattle.lsp_edit.specs.Delta.{IsDeltaOf, IsOn, bytes_after}
 use Rattle.lsp_store.specs.Faults.{IsRefusal}

@@ -1,6 +1,7 @@
 -- Batches of changes on one document, one after another, as one batch (LSP 3.17,
 -- DidChangeTextDocumentParams).
-use Rattle.lsp_store.specs.Prelude.{ℕ, ℤ, ◌≡◌, if◌then◌else◌, nat_lt, List, [], ◌++◌, length, Option, Some, None, Result, Ok, Err, chars, frame, LimitsData, Encoding, units_in, Item, plain, text_of, ContentChange, Fault, meaning, canonical, bytes_left, DocumentItem, Plan}
+use Rattle.std.specs.Prelude.{◌≡◌, if◌then◌else◌, ◌++◌}
+use Rattle.lsp_store.specs.Prelude.{ℕ, ℤ, nat_lt, List, [], length, Option, Some, None, Result, Ok, Err, chars, frame, LimitsData, Encoding, units_in, Item, plain, text_of, ContentChange, Fault, meaning, canonical, bytes_left, DocumentItem, Plan}
 use Rattle.lsp_edit.specs.Compose.{then_items}
 use Rattle.lsp_store.specs.Opened.{StoreData}
 use Rattle.lsp_store.specs.Plan.{IsPlanOf}

@@ -1,7 +1,8 @@
 -- The table of open documents, in order of opening (LSP 3.17, Text Document Synchronization). The
 -- definitions say which command on it is refused and why, and what the result of an accepted one
 -- is.
-use Rattle.lsp_store.specs.Prelude.{ℕ, ℤ, ◌≡◌, Bool, not, ◌&&◌, ◌||◌, if◌then◌else◌, nat_lt, nat_le, int_le, List, [], ◌∷◌, ◌++◌, length, sum_by, encode_utf8_all, Option, Some, None, is_some, Result, Ok, Err, bytes_eq, chars, LimitsData, Encoding, units_in, Item, ContentChange, Fault, meaning, bytes_left, DocumentItem}
+use Rattle.std.specs.Prelude.{◌≡◌, ◌&&◌, ◌||◌, if◌then◌else◌, ◌∷◌, ◌++◌}
+use Rattle.lsp_store.specs.Prelude.{ℕ, ℤ, Bool, not, nat_lt, nat_le, int_le, List, [], length, sum_by, encode_utf8_all, Option, Some, None, is_some, Result, Ok, Err, bytes_eq, chars, LimitsData, Encoding, units_in, Item, ContentChange, Fault, meaning, bytes_left, DocumentItem}
 
 -- Why a command is refused. A stale version has the current one, an edit the first faulty change
 -- and its fault, and a body too long its length.

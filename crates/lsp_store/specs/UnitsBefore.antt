@@ -1,5 +1,6 @@
 -- How many units of a whole text are before a byte offset.
-use Rattle.lsp_store.specs.Prelude.{ℕ, ◌≡◌, ◌≤◌, List, length, units_between}
+use Rattle.std.specs.Prelude.{◌≡◌, ◌≤◌}
+use Rattle.lsp_store.specs.Prelude.{ℕ, List, length, units_between}
 use Rattle.lsp_text.specs.Text.{place_of}
 
 -- The byte offset is that of an index of the text, and the characters before that index have so

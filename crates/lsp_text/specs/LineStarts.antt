@@ -1,5 +1,6 @@
 -- The line starts of a text, and what it means that they are kept for it.
-use Rattle.lsp_text.specs.Prelude.{ℕ, suc, ◌≡◌, ◌-◌, ◌≤◌, false, List, ◌∷◌, length, map, filter, chars}
+use Rattle.std.specs.Prelude.{◌≡◌, ◌-◌, ◌≤◌, ◌∷◌}
+use Rattle.lsp_text.specs.Prelude.{ℕ, suc, false, List, length, map, filter, chars}
 use Rattle.lsp_text.specs.Text.{place_of}
 use Rattle.lsp_text.specs.TextLines.{starts_line, splits_crlf, numbers_from}
 

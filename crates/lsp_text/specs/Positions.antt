@@ -1,6 +1,7 @@
 -- Positions (LSP 3.17, Position), over a text and a function that says how many units a character
 -- has.
-use Rattle.lsp_text.specs.Prelude.{ℕ, ◌==◌, if◌then◌else◌, nat_lt, nat_le, List, length, Option, Some, find, Position}
+use Rattle.std.specs.Prelude.{◌==◌, if◌then◌else◌}
+use Rattle.lsp_text.specs.Prelude.{ℕ, nat_lt, nat_le, List, length, Option, Some, find, Position}
 use Rattle.lsp_text.specs.TextLines.{line_at, line_ends, line_content, line_start, line_stop}
 use Rattle.lsp_text.specs.Units.{units_between}
 

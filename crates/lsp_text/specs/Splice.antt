@@ -1,5 +1,6 @@
 -- A text after an edit, beside the lines of the text before it.
-use Rattle.lsp_text.specs.Prelude.{ℕ, ◌≡◌, ◌+◌, ◌≤◌, List, length, take, drop, IsUtf8}
+use Rattle.std.specs.Prelude.{◌≡◌, ◌+◌, ◌≤◌}
+use Rattle.lsp_text.specs.Prelude.{ℕ, List, length, take, drop, IsUtf8}
 use Rattle.lsp_text.specs.LineStarts.{AreLinesOf}
 
 -- `bytes` is `old` with the bytes from `from` to `to` replaced by `len` others.

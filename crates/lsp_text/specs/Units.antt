@@ -1,5 +1,6 @@
 -- How many units a character has (LSP 3.17, PositionEncodingKind).
-use Rattle.lsp_text.specs.Prelude.{ℕ, ◌-◌, if◌then◌else◌, nat_lt, List, codes, take, drop, sum_by, Option, Some, None, len_utf8, bytes_eq, Encoding, Utf8, Utf16, Utf32}
+use Rattle.std.specs.Prelude.{◌-◌, if◌then◌else◌}
+use Rattle.lsp_text.specs.Prelude.{ℕ, nat_lt, List, codes, take, drop, sum_by, Option, Some, None, len_utf8, bytes_eq, Encoding, Utf8, Utf16, Utf32}
 
 -- How many units a character has: 1 to 4 bytes in UTF-8, 1 or 2 code units in UTF-16, 1 in UTF-32.
 abbrev pub units_in : Encoding → ℕ → ℕ

@@ -1,5 +1,6 @@
 -- The calls of the program, by what `clap` finds in its words.
-use Rattle.lspsync.specs.Prelude.{ℕ, ◌≡◌, ◌⊎◌, ◌&&◌, ◌||◌, ◌∷◌, not, is_some, [], Result, Ok, Err, Bool, true, false, List, All, map, Option, Some, None, codes, option_map, option_and_then, unwrap_or, if◌then◌else◌, Vec, Global, string_bytes, subcommand_of, subcommand_rows_of, kind_of, Error, Encoding, Settings, Call, Task}
+use Rattle.std.specs.Prelude.{◌≡◌, ◌⊎◌, ◌&&◌, ◌||◌, ◌∷◌, if◌then◌else◌}
+use Rattle.lspsync.specs.Prelude.{ℕ, not, is_some, [], Result, Ok, Err, Bool, true, false, List, All, map, Option, Some, None, codes, option_map, option_and_then, unwrap_or, Vec, Global, string_bytes, subcommand_of, subcommand_rows_of, kind_of, Error, Encoding, Settings, Call, Task}
 use Rattle.std.specs.Option.{option_or}
 use Rattle.std.specs.Str.{bytes_eq}
 use Rattle.clap.specs.Matches.{found_of, first_value, matched_of, raw_values, subcommand_name_of}

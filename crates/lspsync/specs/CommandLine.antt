@@ -1,5 +1,6 @@
 -- The command line: the options of the program, as `clap` gets them.
-use Rattle.lspsync.specs.Prelude.{◌++◌, ◌∷◌, [], true, false, List, codes, Rule, Shape, Text, new_shape, Choices, IsProgramOf, encoding_rule, file_rule, flag_rule, form_rule, limit_rules, log_rule, logs_rule, number_rule, text_rule}
+use Rattle.std.specs.Prelude.{◌++◌, ◌∷◌}
+use Rattle.lspsync.specs.Prelude.{[], true, false, List, codes, Rule, Shape, Text, new_shape, Choices, IsProgramOf, encoding_rule, file_rule, flag_rule, form_rule, limit_rules, log_rule, logs_rule, number_rule, text_rule}
 use Rattle.clap.specs.Words.{App}
 
 -- The options that each command has: the limits, and whether they are lenient.

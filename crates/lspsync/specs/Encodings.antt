@@ -1,5 +1,6 @@
 -- By which other encoding of positions a log gives the text that it is compared with.
-use Rattle.lspsync.specs.Prelude.{ℕ, ◌≡◌, List, codes, Option, Some, None, option_map, Ok, Keeps, string_bytes, new_comparison, Encoding, ReaderState, WriterState, ports, allowed_turns, Settings, Outcome, compare_engine, IsEngineRun, Wanted}
+use Rattle.std.specs.Prelude.{◌≡◌}
+use Rattle.lspsync.specs.Prelude.{ℕ, List, codes, Option, Some, None, option_map, Ok, Keeps, string_bytes, new_comparison, Encoding, ReaderState, WriterState, ports, allowed_turns, Settings, Outcome, compare_engine, IsEngineRun, Wanted}
 use Rattle.lsp_text.specs.declared.encoding.Encoding.TheVariants.{Utf8, Utf16, Utf32}
 use Rattle.lspsync.specs.Openings.{file_opened, nothing_written}
 

@@ -1,5 +1,6 @@
 -- The text of a fault's line.
-use Rattle.lspsync.specs.Prelude.{ℕ, List, ◌++◌, codes, decimal, Option, Some, None, EngineFault}
+use Rattle.std.specs.Prelude.{◌++◌}
+use Rattle.lspsync.specs.Prelude.{ℕ, List, codes, decimal, Option, Some, None, EngineFault}
 use Rattle.lsp_frame.specs.declared.fault.FrameFault.{FrameFault}
 use Rattle.lsp_frame.specs.declared.fault.FrameFault.TheVariants as frame
 use Rattle.lsp_stream.specs.declared.fault.EngineFault.TheVariants as engine

@@ -1,5 +1,6 @@
 -- Which messages opened the documents of a log, where the one that is asked for isn't there.
-use Rattle.lspsync.specs.Prelude.{ℕ, ◌≡◌, true, false, [], List, Option, Some, Ok, Keeps, string_bytes, ReaderState, WriterState, ports, uncounted, allowed_turns, Missing, Outcome, IsEngineRun, Wanted}
+use Rattle.std.specs.Prelude.{◌≡◌}
+use Rattle.lspsync.specs.Prelude.{ℕ, true, false, [], List, Option, Some, Ok, Keeps, string_bytes, ReaderState, WriterState, ports, uncounted, allowed_turns, Missing, Outcome, IsEngineRun, Wanted}
 use Rattle.lsp_replay.specs.declared.outcome.Missing.TheVariants as missing
 use Rattle.lsp_replay.specs.Openings.{openings_engine}
 

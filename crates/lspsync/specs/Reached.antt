@@ -1,5 +1,6 @@
 -- Up to which record a faulty log can be replayed.
-use Rattle.lspsync.specs.Prelude.{ℕ, ◌≡◌, List, Option, Some, None, Ok, Keeps, ReaderState, WriterState, ports, allowed_turns, Settings, Outcome, part_engine, IsEngineRun}
+use Rattle.std.specs.Prelude.{◌≡◌}
+use Rattle.lspsync.specs.Prelude.{ℕ, List, Option, Some, None, Ok, Keeps, ReaderState, WriterState, ports, allowed_turns, Settings, Outcome, part_engine, IsEngineRun}
 use Rattle.lspsync.specs.Openings.{file_opened, nothing_written}
 
 -- `replay --at` writes the texts after the record of this number, of a file with these bytes, where

@@ -1,5 +1,6 @@
 -- What the program writes, and the status that it ends with.
-use Rattle.lspsync.specs.Prelude.{ℕ, ◌≡◌, ◌⊎◌, ◌++◌, ◌∷◌, [], Bool, true, false, List, length, max, nat_lt, codes, Option, Some, None, option_map, unwrap_or, IfSome, Result, Ok, Err, String, Vec, Global, Keeps, string_bytes, kind_of, Error, EngineFault, Ports, ReaderState, WriterState, ports, IsFlushed, IsPrinted, IsTextPrinted, Streams, allowed_turns, Missing, Outcome, new_comparison, compare_engine, part_engine, Engine, IsEngineRun, check_engine, convert_engine, live, normalise_engine, replay_engine, serve_engine, Call, Task, Wanted, Encoding}
+use Rattle.std.specs.Prelude.{◌≡◌, ◌⊎◌, ◌++◌, ◌∷◌}
+use Rattle.lspsync.specs.Prelude.{ℕ, [], Bool, true, false, List, length, max, nat_lt, codes, Option, Some, None, option_map, unwrap_or, IfSome, Result, Ok, Err, String, Vec, Global, Keeps, string_bytes, kind_of, Error, EngineFault, Ports, ReaderState, WriterState, ports, IsFlushed, IsPrinted, IsTextPrinted, Streams, allowed_turns, Missing, Outcome, new_comparison, compare_engine, part_engine, Engine, IsEngineRun, check_engine, convert_engine, live, normalise_engine, replay_engine, serve_engine, Call, Task, Wanted, Encoding}
 use Rattle.std.specs.Result.{result_and}
 use Rattle.clap.specs.declared.error.kind.ErrorKind.{ErrorKind}
 use Rattle.clap.specs.declared.error.kind.ErrorKind.TheVariants as kind

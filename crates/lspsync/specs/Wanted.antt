@@ -1,5 +1,6 @@
 -- The document that a call names.
-use Rattle.lspsync.specs.Prelude.{◌≡◌, Some, None, option_map, string_bytes, Call, Wanted}
+use Rattle.std.specs.Prelude.{◌≡◌}
+use Rattle.lspsync.specs.Prelude.{Some, None, option_map, string_bytes, Call, Wanted}
 use Rattle.lspsync.specs.declared.command_line.Call.TheVariants as call
 
 -- A call names this document, reads its log so, and compares its text with this one.

@@ -1,5 +1,6 @@
 -- What only proofs and private contracts use of `Faults`.
-use Rattle.lsp_edit.specs.Prelude.{ℕ, ◌≡◌, ◌⊎◌, List, Result, Ok, Err, Range, EditFault}
+use Rattle.std.specs.Prelude.{◌≡◌, ◌⊎◌}
+use Rattle.lsp_edit.specs.Prelude.{ℕ, List, Result, Ok, Err, Range, EditFault}
 use Rattle.lsp_edit.specs.declared.fault.EditFault.TheVariants.{NoMemory}
 use Rattle.lsp_edit.specs.Batch.{Fault, ends_of}
 use Rattle.lsp_edit.specs.Faults.{fault_at, places_at}

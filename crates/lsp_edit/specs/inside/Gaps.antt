@@ -1,5 +1,6 @@
 -- The change of a gap that is known by byte offsets.
-use Rattle.lsp_edit.specs.Prelude.{ℕ, if◌then◌else◌, List, [], ◌∷◌, chars}
+use Rattle.std.specs.Prelude.{if◌then◌else◌, ◌∷◌}
+use Rattle.lsp_edit.specs.Prelude.{ℕ, List, [], chars}
 use Rattle.lsp_edit.specs.Batch.{ContentChange}
 use Rattle.lsp_edit.specs.Canonical.{Gap, is_changed, change_of_gap}
 use Rattle.lsp_edit.specs.Parts.{index_of}

@@ -1,5 +1,6 @@
 -- What only proofs and private contracts use of `Joined`.
-use Rattle.lsp_edit.specs.Prelude.{ℕ, ◌≡◌, List, Ok, chars}
+use Rattle.std.specs.Prelude.{◌≡◌}
+use Rattle.lsp_edit.specs.Prelude.{ℕ, List, Ok, chars}
 use Rattle.lsp_edit.specs.Batch.{ContentChange, meaning}
 use Rattle.lsp_edit.specs.Joined.{JoinedData}
 

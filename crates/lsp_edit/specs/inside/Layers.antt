@@ -1,5 +1,6 @@
 -- What only proofs and private contracts use of `Layers`.
-use Rattle.lsp_edit.specs.Prelude.{ℕ, ◌≡◌, List, Result, Ok, IsUtf8, chars}
+use Rattle.std.specs.Prelude.{◌≡◌}
+use Rattle.lsp_edit.specs.Prelude.{ℕ, List, Result, Ok, IsUtf8, chars}
 use Rattle.lsp_edit.specs.Items.{Item}
 use Rattle.lsp_edit.specs.Batch.{Fault}
 use Rattle.lsp_edit.specs.Parts.{Part, AreParts, items_of}

@@ -1,5 +1,6 @@
 -- What only proofs and private contracts use of `Parts`.
-use Rattle.lsp_edit.specs.Prelude.{ℕ, ◌≡◌, ◌+◌, ◌-◌, ◌<◌, ◌≤◌, if◌then◌else◌, ◌==◌, nat_lt, List, [], ◌∷◌, ◌++◌, length, take, drop, sum_by, IsCharBoundary, Span}
+use Rattle.std.specs.Prelude.{◌≡◌, ◌+◌, ◌-◌, ◌<◌, ◌≤◌, if◌then◌else◌, ◌==◌, ◌∷◌, ◌++◌}
+use Rattle.lsp_edit.specs.Prelude.{ℕ, nat_lt, List, [], length, take, drop, sum_by, IsCharBoundary, Span}
 use Rattle.lsp_edit.specs.Parts.{Part, part_of, part_len, new_parts, OldPart, NewPart}
 
 -- The first bytes of a part.

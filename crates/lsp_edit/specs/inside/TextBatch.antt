@@ -1,6 +1,7 @@
 -- The text that a batch of changes leaves, for code that doesn't need to know which characters are
 -- old (LSP 3.17, DidChangeTextDocumentParams).
-use Rattle.lsp_edit.specs.Prelude.{ℕ, suc, ◌≡◌, ◌⊎◌, if◌then◌else◌, nat_le, List, [], ◌∷◌, ◌++◌, take, drop, Option, Some, None, Result, Ok, Err, Range, denoted, EditFault}
+use Rattle.std.specs.Prelude.{◌≡◌, ◌⊎◌, if◌then◌else◌, ◌∷◌, ◌++◌}
+use Rattle.lsp_edit.specs.Prelude.{ℕ, suc, nat_le, List, [], take, drop, Option, Some, None, Result, Ok, Err, Range, denoted, EditFault}
 use Rattle.lsp_edit.specs.declared.fault.EditFault.TheVariants.{NoMemory}
 use Rattle.lsp_edit.specs.Batch.{ContentChange, Fault, InsideStart, InsideStop, Reversed}
 use Rattle.lsp_edit.specs.Delta.{AreEndsIn}

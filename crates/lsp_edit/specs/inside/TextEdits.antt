@@ -1,6 +1,7 @@
 -- Text edits with their byte offsets, in the order of their starts. Only proofs and private
 -- contracts use this: `TextEdits` says the same by indexes.
-use Rattle.lsp_edit.specs.Prelude.{ℕ, suc, ◌≡◌, ◌⊎◌, ◌<◌, ◌≤◌, if◌then◌else◌, nat_lt, List, [], ◌∷◌, ◌++◌, length, string_bytes, Ok, Err, chars, EditFault, TextEdit, TextEditFault, Overlap}
+use Rattle.std.specs.Prelude.{◌≡◌, ◌⊎◌, ◌<◌, ◌≤◌, if◌then◌else◌, ◌∷◌, ◌++◌}
+use Rattle.lsp_edit.specs.Prelude.{ℕ, suc, nat_lt, List, [], length, string_bytes, Ok, Err, chars, EditFault, TextEdit, TextEditFault, Overlap}
 use Rattle.std.specs.Ordering.{nat_cmp}
 use Rattle.std.specs.List.Sorted.{IsPermutation, IsSortedByKey, IsStableByKey}
 use Rattle.lsp_edit.specs.declared.text_edits.Placed.{Placed}

@@ -1,5 +1,6 @@
 -- Laws over every batch that has a meaning, and over its canonical batch.
-use Rattle.lsp_edit.specs.Prelude.{ℕ, suc, ◌≡◌, ◌≤◌, ◌↔◌, true, false, List, [], ◌∷◌, ◌++◌, length, sum_by, Option, Some, None, Ok, Range, splits_crlf, denoted}
+use Rattle.std.specs.Prelude.{◌≡◌, ◌≤◌, ◌↔◌, ◌∷◌, ◌++◌}
+use Rattle.lsp_edit.specs.Prelude.{ℕ, suc, true, false, List, [], length, sum_by, Option, Some, None, Ok, Range, splits_crlf, denoted}
 use Rattle.lsp_edit.specs.Items.{Item, Old, plain, text_of}
 use Rattle.lsp_edit.specs.Batch.{ContentChange, items_after, meaning}
 use Rattle.lsp_edit.specs.Canonical.{DoTheSame, Gap, gaps, is_changed, canonical}

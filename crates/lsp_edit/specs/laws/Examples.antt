@@ -1,6 +1,7 @@
 -- Examples of batches and text edits in UTF-16: the text that they leave and its canonical batch,
 -- or their fault.
-use Rattle.lsp_edit.specs.Prelude.{◌≡◌, ℕ, List, [], ◌∷◌, length, codes, Some, None, Result, Ok, Err, units_in, denoted}
+use Rattle.std.specs.Prelude.{◌≡◌, ◌∷◌}
+use Rattle.lsp_edit.specs.Prelude.{ℕ, List, [], length, codes, Some, None, Result, Ok, Err, units_in, denoted}
 use Rattle.lsp_text.specs.declared.encoding.Encoding.TheVariants.{Utf16}
 use Rattle.lsp_edit.specs.Items.{Item, text_of}
 use Rattle.lsp_edit.specs.Batch.{ContentChange, Fault, InsideStart, InsideStop, Reversed, meaning}

@@ -1,6 +1,7 @@
 -- The lexemes of a message with one change of a range, in the order in which editors send members or
 -- in that of their names. The suffix `_lexemes`: those of the part, before the others.
-use Rattle.lsp_message.specs.Prelude.{◌≡◌, ℕ, ℤ, List, [], ◌∷◌, Bool, true, false, Option, Some, None, codes, begin_object, end_object, begin_array, end_array, Num, unsigned, number, number_of, Position, Range}
+use Rattle.std.specs.Prelude.{◌≡◌, ◌∷◌}
+use Rattle.lsp_message.specs.Prelude.{ℕ, ℤ, List, [], Bool, true, false, Option, Some, None, codes, begin_object, end_object, begin_array, end_array, Num, unsigned, number, number_of, Position, Range}
 use Rattle.json.specs.Token.{string}
 use Rattle.json.specs.Token as tokens
 use Rattle.json.specs.Lex.{Lexeme, token, comma, colon, lex, between}

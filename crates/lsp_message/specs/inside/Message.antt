@@ -1,7 +1,8 @@
 -- What only proofs and private contracts use of `Message`: what an object is read as, one member of
 -- it after another. `message_of_object` in `proofs/MemberLemmas.antt` shows that `message_of` reads
 -- the same.
-use Rattle.lsp_message.specs.Prelude.{ℕ, false, List, Option, Some, None, codes, not, if◌then◌else◌, option_map_or, Data, Members, get_member}
+use Rattle.std.specs.Prelude.{if◌then◌else◌}
+use Rattle.lsp_message.specs.Prelude.{ℕ, false, List, Option, Some, None, codes, not, option_map_or, Data, Members, get_member}
 use Rattle.lsp_message.specs.Values.{text_in, is_null}
 use Rattle.lsp_message.specs.Message.{IdData, given, failed, request, notification, response, Reading, not_a_message, message, id_in, id_found, is_version_two}
 

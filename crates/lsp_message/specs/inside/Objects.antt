@@ -1,5 +1,6 @@
 -- What the code keeps of objects and arrays. In names, `ms` are the members of an object.
-use Rattle.lsp_message.specs.Prelude.{◌≡◌, ◌<◌, ℕ, List, ◌∷◌, Bool, true, false, not, Option, Some, None, option_map, option_and_then, is_some, map, codes, ⊤, option_map_or, Token, Data, null, object, Members, get_member, as_object, as_array, as_str, Scalar}
+use Rattle.std.specs.Prelude.{◌≡◌, ◌<◌, ◌∷◌}
+use Rattle.lsp_message.specs.Prelude.{ℕ, List, Bool, true, false, not, Option, Some, None, option_map, option_and_then, is_some, map, codes, ⊤, option_map_or, Token, Data, null, object, Members, get_member, as_object, as_array, as_str, Scalar}
 use Rattle.lsp_message.specs.Message.{is_version_two}
 use Rattle.lsp_message.specs.Params.{coordinate_in, version_in, position_in, range_of, content_change_in}
 use Rattle.lsp_message.specs.Seen.{content_change_view}

@@ -1,5 +1,6 @@
 -- What only proofs and private contracts use of `Seen`.
-use Rattle.lsp_message.specs.Prelude.{◌≡◌, option_map, Result, Ok, Err, Message, ReadFault, NotJson, NotAMessage, NoMemory}
+use Rattle.std.specs.Prelude.{◌≡◌}
+use Rattle.lsp_message.specs.Prelude.{option_map, Result, Ok, Err, Message, ReadFault, NotJson, NotAMessage, NoMemory}
 use Rattle.lsp_message.specs.Message as spec
 use Rattle.lsp_message.specs.Seen.{id_view, message_view}
 

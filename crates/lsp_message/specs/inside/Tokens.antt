@@ -1,5 +1,6 @@
 -- The tokens of a message's value, as the writer writes them one after another.
-use Rattle.lsp_message.specs.Prelude.{◌≡◌, List, [], ◌∷◌, ◌++◌, Option, Some, None, codes, if◌then◌else◌, Token, Data, Encoding, name_of, Range, Offers}
+use Rattle.std.specs.Prelude.{◌≡◌, ◌∷◌, ◌++◌, if◌then◌else◌}
+use Rattle.lsp_message.specs.Prelude.{List, [], Option, Some, None, codes, Token, Data, Encoding, name_of, Range, Offers}
 use Rattle.json.specs.Token as token
 use Rattle.json.specs.Tree.{json_tokens}
 use Rattle.json.specs.Written.{Written}

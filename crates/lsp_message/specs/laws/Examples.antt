@@ -1,5 +1,6 @@
 -- What the definitions read on a table of bodies.
-use Rattle.lsp_message.specs.Prelude.{ℕ, ◌≡◌, pos, negsuc, List, Option, Some, None, option_and_then, codes, null, number, unsigned, negative}
+use Rattle.std.specs.Prelude.{◌≡◌}
+use Rattle.lsp_message.specs.Prelude.{ℕ, pos, negsuc, List, Option, Some, None, option_and_then, codes, null, number, unsigned, negative}
 use Rattle.lsp_message.specs.Message.{whole, given, failed, request, response, not_json, not_a_message, message, json_of, reading}
 use Rattle.lsp_message.specs.Params.{ContentChangeData, version_in, coordinate_in, content_change_in}
 

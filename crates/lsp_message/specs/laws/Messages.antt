@@ -1,5 +1,6 @@
 -- Laws of messages: each row of the table of messages by itself, and which members are read.
-use Rattle.lsp_message.specs.Prelude.{ℕ, ◌≡◌, ◌↔◌, true, false, List, [], ◌∷◌, Option, Some, None, codes, ⊤, Num, Data, null, number, object, Items, Members, get_member, as_object, as_str, as_i64}
+use Rattle.std.specs.Prelude.{◌≡◌, ◌↔◌, ◌∷◌}
+use Rattle.lsp_message.specs.Prelude.{ℕ, true, false, List, [], Option, Some, None, codes, ⊤, Num, Data, null, number, object, Items, Members, get_member, as_object, as_str, as_i64}
 use Rattle.serde_json.specs.Data.{string}
 use Rattle.lsp_message.specs.Values.{text_in, is_null, is_missing}
 use Rattle.lsp_message.specs.Message.{IdData, whole, text, given, failed, request, notification, response, not_a_message, message, id_in, id_found, message_of}

@@ -1,6 +1,6 @@
 -- What the receiver reads a written message as.
-use Rattle.lsp_message.specs.Prelude.{◌≡◌, ◌^◌, ◌<◌, true, pos, Some, None, ⊤, codes, FitsSigned, All, IfSome, null, object, no_members, Position, Range}
-use Rattle.std.specs.Prelude.{IsUtf8}
+use Rattle.lsp_message.specs.Prelude.{true, pos, Some, None, ⊤, codes, FitsSigned, All, IfSome, null, object, no_members, Position, Range}
+use Rattle.std.specs.Prelude.{IsUtf8, ◌≡◌, ◌^◌, ◌<◌}
 use Rattle.std.specs.Int.{w32, w64}
 use Rattle.lsp_message.specs.Agreement.{offers_of, announced_of}
 use Rattle.lsp_message.specs.Message.{IdData, whole, text, given, failed, MessageData, request, notification, response, message, reading}

@@ -1,6 +1,7 @@
 -- Definitions for the private functions of this crate: the first frame of a queue, the call of an
 -- event, and what is sent as frames.
-use Rattle.lsp_pair.specs.Prelude.{ℕ, List, [], ◌∷◌, ⊤, AnswerData, reply, changed, ignored, refused, exits, Call, DeliveredData, Did}
+use Rattle.std.specs.Prelude.{◌∷◌}
+use Rattle.lsp_pair.specs.Prelude.{ℕ, List, [], ⊤, AnswerData, reply, changed, ignored, refused, exits, Call, DeliveredData, Did}
 use Rattle.lsp_server.specs.Answer.{Sent}
 use Rattle.lsp_client.specs.Step as client
 use Rattle.lsp_server.specs.Step as server

@@ -1,6 +1,7 @@
 -- When a pair has a history: it is at the world of some list of events, and its history is what
 -- that world says.
-use Rattle.lsp_pair.specs.Prelude.{◌≡◌, List, [], ◌∷◌, DocumentItem}
+use Rattle.std.specs.Prelude.{◌≡◌, ◌∷◌}
+use Rattle.lsp_pair.specs.Prelude.{List, [], DocumentItem}
 use Rattle.lsp_pair.specs.Events.{Setting, EventData}
 use Rattle.lsp_pair.specs.Pair.{PairData, IsFitting}
 use Rattle.lsp_pair.specs.laws.World.{ClientMessage, World, world_of}

@@ -1,6 +1,7 @@
 -- When a pair is at the world of a list of events. Each pair is at one: a new pair at that of no
 -- events, and a step adds its event.
-use Rattle.lsp_pair.specs.Prelude.{ℕ, ◌≡◌, List, [], ◌∷◌, drop, map, OutgoingData, DocumentItem, table_after, announced_kind}
+use Rattle.std.specs.Prelude.{◌≡◌, ◌∷◌}
+use Rattle.lsp_pair.specs.Prelude.{ℕ, List, [], drop, map, OutgoingData, DocumentItem, table_after, announced_kind}
 use Rattle.lsp_message.specs.declared.agreement.SyncKind.{SyncKind}
 use Rattle.lsp_client.specs.Step as client
 use Rattle.lsp_pair.specs.Events.{Setting, EventData}

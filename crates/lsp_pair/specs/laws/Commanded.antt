@@ -1,5 +1,6 @@
 -- The documents of both ends, by the document commands that were sent and delivered.
-use Rattle.lsp_pair.specs.Prelude.{◌≡◌, List, [], ◌++◌, take, table_of}
+use Rattle.std.specs.Prelude.{◌≡◌, ◌++◌}
+use Rattle.lsp_pair.specs.Prelude.{List, [], take, table_of}
 use Rattle.lsp_pair.specs.Events.{Setting, EventData}
 use Rattle.lsp_pair.specs.Pair.{PairData, IsFitting}
 use Rattle.lsp_pair.specs.laws.World.{ClientMessage, commands_in, world_of, client_of}

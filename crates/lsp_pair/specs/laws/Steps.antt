@@ -1,5 +1,6 @@
 -- What happens in a step of a pair at the world of a list of events, and the pair after it.
-use Rattle.lsp_pair.specs.Prelude.{◌≡◌, List, [], ◌∷◌, ◌++◌, Happened}
+use Rattle.std.specs.Prelude.{◌≡◌, ◌∷◌, ◌++◌}
+use Rattle.lsp_pair.specs.Prelude.{List, [], Happened}
 use Rattle.lsp_pair.specs.Events.{Setting, EventData}
 use Rattle.lsp_pair.specs.Pair.{PairData, IsFitting, IsStep}
 use Rattle.lsp_pair.specs.laws.World.{turn, world_of}

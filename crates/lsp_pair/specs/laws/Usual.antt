@@ -1,5 +1,6 @@
 -- What happens in the deliveries of a pair, and what both ends agree on.
-use Rattle.lsp_pair.specs.Prelude.{◌≡◌, Bool, true, false, slice_get, MatchOption, Some, None, ⊤, OutgoingData, encoding_chosen, announced_kind, Agreed, Happened, Server, Client, Nothing}
+use Rattle.std.specs.Prelude.{◌≡◌}
+use Rattle.lsp_pair.specs.Prelude.{Bool, true, false, slice_get, MatchOption, Some, None, ⊤, OutgoingData, encoding_chosen, announced_kind, Agreed, Happened, Server, Client, Nothing}
 use Rattle.lsp_message.specs.Outgoing as outgoing
 use Rattle.lsp_client.specs.declared.phase.Phase.{Phase}
 use Rattle.lsp_client.specs.declared.phase.Phase.TheVariants.{New, Asked, Failed}

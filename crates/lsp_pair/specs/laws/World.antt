@@ -1,6 +1,7 @@
 -- The world of a list of events: what both ends sent, how much of it was delivered, and the state
 -- of each end then. It has no bytes, and one function defines the documents of both ends.
-use Rattle.lsp_pair.specs.Prelude.{ℕ, ℤ, ◌+◌, List, [], ◌∷◌, ◌++◌, take, map, slice_get, FitsSigned, IsUtf8, Option, Some, None, Result, Ok, Err, ⊤, message, OutgoingData, Command, opens, changes, closes, table_of, ClientFault, Agreed, Call, orders, Order, Happened, Refused, Server, Client, Nothing}
+use Rattle.std.specs.Prelude.{◌+◌, ◌∷◌, ◌++◌}
+use Rattle.lsp_pair.specs.Prelude.{ℕ, ℤ, List, [], take, map, slice_get, FitsSigned, IsUtf8, Option, Some, None, Result, Ok, Err, ⊤, message, OutgoingData, Command, opens, changes, closes, table_of, ClientFault, Agreed, Call, orders, Order, Happened, Refused, Server, Client, Nothing}
 use Rattle.std.specs.Int.{w32}
 use Rattle.lsp_text.specs.declared.encoding.Encoding.{Encoding}
 use Rattle.lsp_edit.specs.Batch.{ContentChange}

@@ -1,5 +1,6 @@
 -- What only proofs use of `AllRecords`: the same, case by case.
-use Rattle.lsp_replay.specs.Prelude.{ℕ, ◌≡◌, ◌⊎◌, Bool, true, false, List, [], length, Option, Some, None, Result, Ok, Err, Appends, place_after, Outcome, EngineFault, Read, Write, Frame, Truncated, BodyTooLong, NoMemory, TooManyTurns, BadLog, AppendsFront, AppendsShort, LogRules, Record, Log, IsCut, IsMalformed, IsBadMark, IsUnfinished}
+use Rattle.std.specs.Prelude.{◌≡◌, ◌⊎◌}
+use Rattle.lsp_replay.specs.Prelude.{ℕ, Bool, true, false, List, [], length, Option, Some, None, Result, Ok, Err, Appends, place_after, Outcome, EngineFault, Read, Write, Frame, Truncated, BodyTooLong, NoMemory, TooManyTurns, BadLog, AppendsFront, AppendsShort, LogRules, Record, Log, IsCut, IsMalformed, IsBadMark, IsUnfinished}
 use Rattle.lsp_replay.specs.RunOutput.{RunOutput}
 use Rattle.lsp_replay.specs.Engine.{PortState, all_of}
 

@@ -1,5 +1,6 @@
 -- The body of a record, as a session reads it once.
-use Rattle.lsp_replay.specs.Prelude.{ℕ, ◌≡◌, List, Option, Some, None, Version, Sender, reading, ChangeData, Running, IncomingData, did_change, incoming_of, incoming_view, RecordBody}
+use Rattle.std.specs.Prelude.{◌≡◌}
+use Rattle.lsp_replay.specs.Prelude.{ℕ, List, Option, Some, None, Version, Sender, reading, ChangeData, Running, IncomingData, did_change, incoming_of, incoming_view, RecordBody}
 use Rattle.lsp_log.specs.declared.record.Sender.TheVariants as side
 use Rattle.lsp_replay.specs.declared.session.RecordBody.TheVariants.{Client, Server}
 use Rattle.lsp_replay.specs.Commands.{change_in}

@@ -1,6 +1,7 @@
 -- What only proofs and private contracts use of `Engine`: what an engine wrote and answered, by
 -- some first records of what it read.
-use Rattle.lsp_replay.specs.Prelude.{ℕ, ◌≡◌, ◌≢◌, ◌⊎◌, ◌<◌, ◌&&◌, not, Bool, true, false, List, [], ◌++◌, length, Option, Some, None, Result, Ok, Err, MatchResult, Consumes, Appends, place_after, Outcome, EngineFault, Read, Write, Frame, Truncated, BodyTooLong, NoMemory, TooManyTurns, BadLog, Two, Ports, AppendsFront, AppendsShort, StaysFlushed, LogRules, Record, Log, IsVersion, IsReadAs, IsCut, IsMalformed, IsBadMark, IsUnfinished}
+use Rattle.std.specs.Prelude.{◌≡◌, ◌≢◌, ◌⊎◌, ◌<◌, ◌&&◌, ◌++◌}
+use Rattle.lsp_replay.specs.Prelude.{ℕ, not, Bool, true, false, List, [], length, Option, Some, None, Result, Ok, Err, MatchResult, Consumes, Appends, place_after, Outcome, EngineFault, Read, Write, Frame, Truncated, BodyTooLong, NoMemory, TooManyTurns, BadLog, Two, Ports, AppendsFront, AppendsShort, StaysFlushed, LogRules, Record, Log, IsVersion, IsReadAs, IsCut, IsMalformed, IsBadMark, IsUnfinished}
 use Rattle.lsp_replay.specs.declared.engine.InputRules.{InputRules}
 use Rattle.lsp_replay.specs.RunOutput.{RunOutput}
 use Rattle.lsp_replay.specs.Engine.{Called, FewCalls, NonePassedOver, PortState, last_of, state_of}

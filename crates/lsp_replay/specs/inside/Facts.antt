@@ -1,5 +1,6 @@
 -- The facts of a record, what is known after it, and its lines by them.
-use Rattle.lsp_replay.specs.Prelude.{ℕ, ◌≡◌, Bool, false, ◌&&◌, ◌||◌, ◌∷◌, ◌++◌, if◌then◌else◌, List, [], Option, Some, None, codes, decimal, option_map, string_bytes, LimitsData, Head, Reading, reading, ChangeData, change_view, incoming_of, ServerData, Details, Taken, Appended, Listing, Note, notification_params}
+use Rattle.std.specs.Prelude.{◌≡◌, ◌&&◌, ◌||◌, ◌∷◌, ◌++◌, if◌then◌else◌}
+use Rattle.lsp_replay.specs.Prelude.{ℕ, Bool, false, List, [], Option, Some, None, codes, decimal, option_map, string_bytes, LimitsData, Head, Reading, reading, ChangeData, change_view, incoming_of, ServerData, Details, Taken, Appended, Listing, Note, notification_params}
 use Rattle.lsp_log.specs.declared.record.Sender.TheVariants.{Client}
 use Rattle.lsp_replay.specs.declared.facts.About.{About}
 use Rattle.lsp_replay.specs.declared.facts.Facts.{Facts}

@@ -1,5 +1,6 @@
 -- How a record is written with squash, and which batches are open after it.
-use Rattle.lsp_replay.specs.Prelude.{ℕ, ◌≡◌, ◌≤◌, ◌<◌, ⊤, true, false, List, length, map, Option, Some, None, bytes_eq, frame, DocumentItem, ChangeData, SquashData, HasReached, squash_of, after_change, change_refusal, entry_at, units_in, changed, ServerData, content_change_from_data, session_encoding}
+use Rattle.std.specs.Prelude.{◌≡◌, ◌≤◌, ◌<◌}
+use Rattle.lsp_replay.specs.Prelude.{ℕ, ⊤, true, false, List, length, map, Option, Some, None, bytes_eq, frame, DocumentItem, ChangeData, SquashData, HasReached, squash_of, after_change, change_refusal, entry_at, units_in, changed, ServerData, content_change_from_data, session_encoding}
 use Rattle.lsp_store.specs.Table.{Refusal}
 use Rattle.lsp_replay.specs.declared.session.joining.Writing.{Writing}
 use Rattle.lsp_replay.specs.declared.session.joining.Writing.TheVariants.{TooLong, Continues, Begins}

@@ -1,5 +1,6 @@
 -- The text that is kept of a document that is closed.
-use Rattle.lsp_replay.specs.Prelude.{ℕ, List, Option, Some, None, option_map, if◌then◌else◌, bytes_eq, DocumentItem, IncomingData, did_close, entry_at}
+use Rattle.std.specs.Prelude.{if◌then◌else◌}
+use Rattle.lsp_replay.specs.Prelude.{ℕ, List, Option, Some, None, option_map, bytes_eq, DocumentItem, IncomingData, did_close, entry_at}
 use Rattle.lsp_replay.specs.inside.Bodies.{BodyData, from_client}
 
 -- The text of the document with this URI, if it is open.

@@ -1,5 +1,6 @@
 -- What a command writes of the records that stay, if some are left out.
-use Rattle.lsp_replay.specs.Prelude.{ℕ, ◌≡◌, ◌||◌, Bool, false, List, Option, Some, None, Head, Record}
+use Rattle.std.specs.Prelude.{◌≡◌, ◌||◌}
+use Rattle.lsp_replay.specs.Prelude.{ℕ, Bool, false, List, Option, Some, None, Head, Record}
 use Rattle.lsp_replay.specs.Documents.{Selection, kept_in, output_of_kept}
 use Rattle.lsp_replay.specs.RunOutput.{RunOutput}
 use Rattle.lsp_replay.specs.Session.{Session}

@@ -1,5 +1,6 @@
 -- The progress of an engine in its input.
-use Rattle.lsp_replay.specs.Prelude.{ℕ, ◌≡◌, ◌+◌, ◌≤◌, ◌<◌, ◌^◌, Bool, true, List, [], ◌∷◌, ◌++◌, length, Option, Some, None, Result, Ok, Err, Consumes, Appends, place_after, Outcome, EngineFault, Read, Write, Frame, Truncated, BodyTooLong, NoMemory, TooManyTurns, BadLog, AppendsFront, AppendsShort, LogRules, Record, IsVersion, IsCut}
+use Rattle.std.specs.Prelude.{◌≡◌, ◌+◌, ◌≤◌, ◌<◌, ◌^◌, ◌∷◌, ◌++◌}
+use Rattle.lsp_replay.specs.Prelude.{ℕ, Bool, true, List, [], length, Option, Some, None, Result, Ok, Err, Consumes, Appends, place_after, Outcome, EngineFault, Read, Write, Frame, Truncated, BodyTooLong, NoMemory, TooManyTurns, BadLog, AppendsFront, AppendsShort, LogRules, Record, IsVersion, IsCut}
 use Rattle.lsp_log.specs.declared.splitter.Splitter.{Splitter}
 use Rattle.lsp_log.specs.Splitting.{IsAfter}
 use Rattle.lsp_replay.specs.RunOutput.{RunOutput, written_first, stopped}

@@ -1,5 +1,6 @@
 -- What becomes of a record whose body a session has read.
-use Rattle.lsp_replay.specs.Prelude.{ℕ, ◌≡◌, Bool, true, false, ◌||◌, if◌then◌else◌, List, Option, Some, None, ⊤, Head, IdData, reading, IsNoted, IncomingData, initialize, other_request, shutdown, RecordBody}
+use Rattle.std.specs.Prelude.{◌≡◌, ◌||◌, if◌then◌else◌}
+use Rattle.lsp_replay.specs.Prelude.{ℕ, Bool, true, false, List, Option, Some, None, ⊤, Head, IdData, reading, IsNoted, IncomingData, initialize, other_request, shutdown, RecordBody}
 use Rattle.lsp_replay.specs.declared.session.RecordBody.TheVariants.{Client}
 use Rattle.lsp_replay.specs.Documents.{Selection, after_kept, after_left_out, is_answer_to, is_due, message_stays, record_stays, waiting_for}
 use Rattle.lsp_replay.specs.Session.{Session, same_id}

@@ -1,5 +1,6 @@
 -- What only proofs and private contracts use of `Run`.
-use Rattle.lsp_replay.specs.Prelude.{not, ◌&&◌, Option, Result, EngineFault, Ports, Settings, Outcome}
+use Rattle.std.specs.Prelude.{◌&&◌}
+use Rattle.lsp_replay.specs.Prelude.{not, Option, Result, EngineFault, Ports, Settings, Outcome}
 use Rattle.lsp_replay.specs.Commands.{log_config}
 use Rattle.lsp_replay.specs.Documents.{Selection}
 use Rattle.lsp_replay.specs.Engine.{state_of}

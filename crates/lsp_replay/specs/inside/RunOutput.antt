@@ -1,5 +1,6 @@
 -- What only proofs and private contracts use of `RunOutput`.
-use Rattle.lsp_replay.specs.Prelude.{ℕ, ◌≡◌, List, [], drop, Option, Some, None, Ok, Record, Outcome, EngineFault, Read, Write, Frame, Truncated, BodyTooLong, NoMemory, TooManyTurns, BadLog}
+use Rattle.std.specs.Prelude.{◌≡◌}
+use Rattle.lsp_replay.specs.Prelude.{ℕ, List, [], drop, Option, Some, None, Ok, Record, Outcome, EngineFault, Read, Write, Frame, Truncated, BodyTooLong, NoMemory, TooManyTurns, BadLog}
 use Rattle.lsp_replay.specs.declared.handler.Output.{Output}
 use Rattle.lsp_replay.specs.declared.handler.Output.TheVariants as output
 use Rattle.lsp_replay.specs.RunOutput.{RunOutput, written_first, stopped}

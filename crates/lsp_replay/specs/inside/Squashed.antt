@@ -1,7 +1,8 @@
 -- What `normalise` writes with squash, as the code makes it: of an open series the bytes are kept
 -- that are written if its one message is refused. That it is the same is shown in
 -- `proofs/Squash/SeriesLemmas.antt`.
-use Rattle.lsp_replay.specs.Prelude.{ℕ, ◌≡◌, ◌++◌, if◌then◌else◌, nat_lt, length, map, List, [], Option, Some, None, Result, Err, bytes_eq, frame, reading, DocumentItem, ChangeData, SquashData, squash_of, squash_after, squash_frame, squash_refusal, entry_at, incoming_of, ServerData, session_encoding, content_change_from_data, changed, Settings, Outcome, EngineFault, BadLog, BodyTooLong, Record}
+use Rattle.std.specs.Prelude.{◌≡◌, ◌++◌, if◌then◌else◌}
+use Rattle.lsp_replay.specs.Prelude.{ℕ, nat_lt, length, map, List, [], Option, Some, None, Result, Err, bytes_eq, frame, reading, DocumentItem, ChangeData, SquashData, squash_of, squash_after, squash_frame, squash_refusal, entry_at, incoming_of, ServerData, session_encoding, content_change_from_data, changed, Settings, Outcome, EngineFault, BadLog, BodyTooLong, Record}
 use Rattle.lsp_store.specs.Table.{Refusal}
 use Rattle.lsp_replay.specs.RunOutput.{RunOutput}
 use Rattle.lsp_replay.specs.Commands.{View, output_in, front_of, change_in, canonical_change_body, line_if, log_config}

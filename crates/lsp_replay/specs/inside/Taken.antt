@@ -1,5 +1,6 @@
 -- What became of a record whose body was read.
-use Rattle.lsp_replay.specs.Prelude.{ℕ, ◌≡◌, ◌≢◌, ◌&&◌, Bool, if◌then◌else◌, is_none, List, Option, Some, None, option_map, Head, reading, ChangeData, change_view, changed, incoming_of, ServerData, Taken}
+use Rattle.std.specs.Prelude.{◌≡◌, ◌≢◌, ◌&&◌, if◌then◌else◌}
+use Rattle.lsp_replay.specs.Prelude.{ℕ, Bool, is_none, List, Option, Some, None, option_map, Head, reading, ChangeData, change_view, changed, incoming_of, ServerData, Taken}
 use Rattle.lsp_replay.specs.Commands.{change_in}
 use Rattle.lsp_replay.specs.Notes.{ranged_for}
 use Rattle.lsp_replay.specs.Session.{Session, Verdict, answered, is_running}

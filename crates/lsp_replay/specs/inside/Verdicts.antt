@@ -1,5 +1,6 @@
 -- The values of the types of `src/session.rt` and `src/session/` in the definitions.
-use Rattle.lsp_replay.specs.Prelude.{ℕ, ◌≡◌, ◌<◌, ◌≤◌, List, ◌++◌, length, Option, Some, None, answer_view, Appended}
+use Rattle.std.specs.Prelude.{◌≡◌, ◌<◌, ◌≤◌, ◌++◌}
+use Rattle.lsp_replay.specs.Prelude.{ℕ, List, length, Option, Some, None, answer_view, Appended}
 use Rattle.lsp_replay.specs.declared.session.Verdict.{Verdict}
 use Rattle.lsp_replay.specs.declared.session.Verdict.TheVariants.{Answered, Recorded, Bad}
 use Rattle.lsp_replay.specs.declared.session.canonical.Appended.TheVariants as appended

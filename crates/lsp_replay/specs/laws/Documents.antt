@@ -1,5 +1,6 @@
 -- What holds of the records that stay, and of what is written of them.
-use Rattle.lsp_replay.specs.Prelude.{ℕ, ◌≡◌, List, [], None, AreInRange, Record, Log, IsReadAs, Settings}
+use Rattle.std.specs.Prelude.{◌≡◌}
+use Rattle.lsp_replay.specs.Prelude.{ℕ, List, [], None, AreInRange, Record, Log, IsReadAs, Settings}
 use Rattle.lsp_replay.specs.Commands.{as_log, canonical_log}
 use Rattle.lsp_replay.specs.Engine.{all_of}
 use Rattle.lsp_replay.specs.Documents.{KeepsDocuments, documents}

@@ -2,7 +2,8 @@
 --
 -- `document` is how Rattle's crate `json` reads JSON (RFC 8259): members are in the order of the
 -- text, and a number is its digits.
-use Rattle.lsp_replay.specs.Prelude.{ℕ, ℤ, ◌≡◌, ◌<◌, ◌^◌, Bool, ◌&&◌, if◌then◌else◌, List, [], ◌∷◌, ◌++◌, map, Option, Some, None, option_map, option_and_then, All, IsUtf8, codes, decimal, signed_decimal, LimitsData, AreInRange, IdData, whole, text, reading, DocumentItem, IncomingData, incoming_of, Record, Settings, Details, Note}
+use Rattle.std.specs.Prelude.{◌≡◌, ◌<◌, ◌^◌, ◌&&◌, if◌then◌else◌, ◌∷◌, ◌++◌}
+use Rattle.lsp_replay.specs.Prelude.{ℕ, ℤ, Bool, List, [], map, Option, Some, None, option_map, option_and_then, All, IsUtf8, codes, decimal, signed_decimal, LimitsData, AreInRange, IdData, whole, text, reading, DocumentItem, IncomingData, incoming_of, Record, Settings, Details, Note}
 use Rattle.json.specs.Json.{Json, number, string, array, object, Members, no_members, member, document}
 use Rattle.json.specs.Value.{items_of}
 use Rattle.lsp_message.specs.laws.Sent.{IsProperDocument}

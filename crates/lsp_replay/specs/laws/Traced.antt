@@ -1,5 +1,6 @@
 -- `trace` beside `check` and `replay`: the same numbers and words, and the same last texts.
-use Rattle.lsp_replay.specs.Prelude.{ℕ, ◌≡◌, Bool, true, false, ◌&&◌, ◌∷◌, ◌++◌, if◌then◌else◌, List, [], Option, Some, None, option_map, codes, decimal, flat_map, bytes_eq, DocumentItem, entry_at, Record, Settings, Details}
+use Rattle.std.specs.Prelude.{◌≡◌, ◌&&◌, ◌∷◌, ◌++◌, if◌then◌else◌}
+use Rattle.lsp_replay.specs.Prelude.{ℕ, Bool, true, false, List, [], Option, Some, None, option_map, codes, decimal, flat_map, bytes_eq, DocumentItem, entry_at, Record, Settings, Details}
 use Rattle.lsp_replay.specs.RunOutput.{RunOutput}
 use Rattle.lsp_replay.specs.Commands.{report, report_from, verdicts}
 use Rattle.lsp_replay.specs.Trace.{json_string, member, traced}

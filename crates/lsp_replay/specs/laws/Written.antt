@@ -1,5 +1,6 @@
 -- What holds of every log, and of the logs that the commands write of it.
-use Rattle.lsp_replay.specs.Prelude.{ℕ, ◌≡◌, ◌≤◌, Bool, List, [], ◌∷◌, length, Option, None, Consumes, Appends, frame, AreInRange, reply, Settings, Outcome, Record, Log, IsReadAs}
+use Rattle.std.specs.Prelude.{◌≡◌, ◌≤◌, ◌∷◌}
+use Rattle.lsp_replay.specs.Prelude.{ℕ, Bool, List, [], length, Option, None, Consumes, Appends, frame, AreInRange, reply, Settings, Outcome, Record, Log, IsReadAs}
 use Rattle.lsp_replay.specs.Engine.{all_of}
 use Rattle.lsp_replay.specs.Commands.{report, canonical_log, converted, as_log, as_converted, log_config}
 use Rattle.lsp_replay.specs.Session.{Session, Verdict, answered, judge, opened}

@@ -1,5 +1,6 @@
 -- What holds of every step, in the protocol's terms.
-use Rattle.lsp_server.specs.Prelude.{ℕ, ◌≡◌, ◌≢◌, ◌≤◌, true, List, Option, Some, None, Offers, is_offered, IdData, OutcomeData, request, notification, message, Reading, OutgoingData, initialize_result, shutdown_result, error_reply, Encoding, Negotiated, Phase, New, Running, Down, Ended}
+use Rattle.std.specs.Prelude.{◌≡◌, ◌≢◌, ◌≤◌}
+use Rattle.lsp_server.specs.Prelude.{ℕ, true, List, Option, Some, None, Offers, is_offered, IdData, OutcomeData, request, notification, message, Reading, OutgoingData, initialize_result, shutdown_result, error_reply, Encoding, Negotiated, Phase, New, Running, Down, Ended}
 use Rattle.serde_json.specs.Data.{Data}
 use Rattle.lsp_message.specs.Message.{response}
 use Rattle.lsp_server.specs.Answer.{AnswerData, reply, changed, dropped, ignored, already_ended, refused, exits}

@@ -1,5 +1,6 @@
 -- The lines of the input while they are taken.
-use Rattle.lsp_simulate.specs.Prelude.{ℕ, ◌≡◌, ◌+◌, ◌-◌, ◌*◌, Bool, true, false, List, [], ◌∷◌, take, drop, Option, None, Some, is_some, if◌then◌else◌, Vec, ⊤, prepend_known, ReaderState}
+use Rattle.std.specs.Prelude.{◌≡◌, ◌+◌, ◌-◌, ◌*◌, ◌∷◌, if◌then◌else◌}
+use Rattle.lsp_simulate.specs.Prelude.{ℕ, Bool, true, false, List, [], take, drop, Option, None, Some, is_some, Vec, ⊤, prepend_known, ReaderState}
 use Rattle.std.specs.declared.alloc.Global.{Global}
 use Rattle.lsp_simulate.specs.declared.lines.InputLines.{InputLines}
 use Rattle.lsp_simulate.specs.Session.{lines_from}

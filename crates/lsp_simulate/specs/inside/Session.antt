@@ -1,5 +1,6 @@
 -- A session on its way.
-use Rattle.lsp_simulate.specs.Prelude.{ℕ, ◌≡◌, ◌⊎◌, ◌++◌, ◌∷◌, [], false, List, length, Option, Result, Ok, Err, Appends, EngineFault, WriterState, AppendsFront, Spends, allowed_turns, DocumentItem, Happened, EventData, PairData, IsFitting, IsStep, new_pair, Setting, RunFault}
+use Rattle.std.specs.Prelude.{◌≡◌, ◌⊎◌, ◌++◌, ◌∷◌}
+use Rattle.lsp_simulate.specs.Prelude.{ℕ, [], false, List, length, Option, Result, Ok, Err, Appends, EngineFault, WriterState, AppendsFront, Spends, allowed_turns, DocumentItem, Happened, EventData, PairData, IsFitting, IsStep, new_pair, Setting, RunFault}
 use Rattle.lsp_stream.specs.declared.fault.EngineFault.TheVariants.{NoMemory, TooManyTurns, Write}
 use Rattle.lsp_simulate.specs.declared.run.RunFault.TheVariants as run
 use Rattle.lsp_simulate.specs.inside.Lines.{Passed}

@@ -1,5 +1,6 @@
 -- What holds of the table of documents after any commands.
-use Rattle.lsp_store.specs.Prelude.{ℕ, ℤ, ◌≡◌, ◌≤◌, List, [], ◌∷◌, ◌++◌, length, IsUtf8, None, ⊤, LimitsData, AreInRange, Encoding, units_in, ContentChange, DocumentItem}
+use Rattle.std.specs.Prelude.{◌≡◌, ◌≤◌, ◌∷◌, ◌++◌}
+use Rattle.lsp_store.specs.Prelude.{ℕ, ℤ, List, [], length, IsUtf8, None, ⊤, LimitsData, AreInRange, Encoding, units_in, ContentChange, DocumentItem}
 use Rattle.lsp_store.specs.Table.{Command, opens, changes, closes, entry_at, change_refusal, after_change, command_refusal, table_after, table_of}
 use Rattle.lsp_store.specs.Message.{AreTexts, canonical_batch, whole_batch}
 use Rattle.lsp_store.specs.Limits.{AreWithin}

@@ -1,5 +1,6 @@
 -- What only proofs and private contracts use of `Leads`.
-use Rattle.lsp_text.specs.Prelude.{ℕ, ◌≡◌, ◌+◌, ◌-◌, ◌==◌, if◌then◌else◌, nat_lt, List, [], ◌∷◌, Option, Some, None, option_map, len_utf8}
+use Rattle.std.specs.Prelude.{◌≡◌, ◌+◌, ◌-◌, ◌==◌, if◌then◌else◌, ◌∷◌}
+use Rattle.lsp_text.specs.Prelude.{ℕ, nat_lt, List, [], Option, Some, None, option_map, len_utf8}
 
 -- None of these bytes has units.
 abbrev pub HaveNone : (ℕ → ℕ) → List ℕ → Type 0

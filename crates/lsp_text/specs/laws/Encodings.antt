@@ -1,5 +1,6 @@
 -- Laws over the names of encodings, the units of characters, and the default.
-use Rattle.lsp_text.specs.Prelude.{ℕ, ◌≡◌, ◌≤◌, ◌↔◌, List, Some, Encoding, Utf16}
+use Rattle.std.specs.Prelude.{◌≡◌, ◌≤◌, ◌↔◌}
+use Rattle.lsp_text.specs.Prelude.{ℕ, List, Some, Encoding, Utf16}
 use Rattle.lsp_text.specs.contracts.encoding.EncodingDefault.TheImpl as encoding_default
 use Rattle.lsp_text.specs.Units.{units_in, name_of, encoding_named}
 

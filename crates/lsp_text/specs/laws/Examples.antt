@@ -1,5 +1,6 @@
 -- Small texts, and what the definitions say of them.
-use Rattle.lsp_text.specs.Prelude.{ℕ, ◌≡◌, true, List, [], ◌∷◌, Some, None, Position, Utf8, Utf16, Utf32}
+use Rattle.std.specs.Prelude.{◌≡◌, ◌∷◌}
+use Rattle.lsp_text.specs.Prelude.{ℕ, true, List, [], Some, None, Position, Utf8, Utf16, Utf32}
 use Rattle.lsp_text.specs.Text.{place_of}
 use Rattle.lsp_text.specs.TextLines.{splits_crlf}
 use Rattle.lsp_text.specs.LineStarts.{line_starts, IsPlace}

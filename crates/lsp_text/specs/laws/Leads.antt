@@ -1,5 +1,6 @@
 -- No byte counts for more than four units.
-use Rattle.lsp_text.specs.Prelude.{ℕ, ◌≤◌, arith, nat_tests}
+use Rattle.std.specs.Prelude.{◌≤◌}
+use Rattle.lsp_text.specs.Prelude.{ℕ, arith, nat_tests}
 use Rattle.lsp_text.specs.Leads.{lead_units_utf16, lead_units_utf32}
 
 pub utf16_few : (byte : ℕ) → lead_units_utf16 byte ≤ 4

@@ -1,5 +1,6 @@
 -- Laws over the indexes of a text and their byte offsets.
-use Rattle.lsp_text.specs.Prelude.{ℕ, ◌≡◌, ◌+◌, ◌-◌, ◌≤◌, ◌<◌, List, length, take, drop, encode_utf8_all, chars, IsUtf8, IsCharBoundary}
+use Rattle.std.specs.Prelude.{◌≡◌, ◌+◌, ◌-◌, ◌≤◌, ◌<◌}
+use Rattle.lsp_text.specs.Prelude.{ℕ, List, length, take, drop, encode_utf8_all, chars, IsUtf8, IsCharBoundary}
 use Rattle.lsp_text.specs.Text.{place_of}
 
 -- Byte offsets rise strictly with the index.

@@ -1,5 +1,6 @@
 -- Laws over positions. `units` says how many units a character has.
-use Rattle.lsp_text.specs.Prelude.{ℕ, ◌≡◌, ◌≤◌, ◌<◌, false, List, length, take, Some, Position}
+use Rattle.std.specs.Prelude.{◌≡◌, ◌≤◌, ◌<◌}
+use Rattle.lsp_text.specs.Prelude.{ℕ, false, List, length, take, Some, Position}
 use Rattle.std.specs.Ordering.{nat_cmp, on, then_cmp}
 use Rattle.lsp_text.specs.contracts.position.PositionOrd.TheImpl as position_ord
 use Rattle.lsp_text.specs.Text.{place_of}

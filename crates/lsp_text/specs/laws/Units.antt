@@ -1,5 +1,6 @@
 -- Bounds on the units of a character in each encoding.
-use Rattle.lsp_text.specs.Prelude.{ℕ, ◌≤◌, arith, len_utf8, nat_tests, Utf8, Utf16, Utf32}
+use Rattle.std.specs.Prelude.{◌≤◌}
+use Rattle.lsp_text.specs.Prelude.{ℕ, arith, len_utf8, nat_tests, Utf8, Utf16, Utf32}
 use Rattle.std.proofs.lemmas.Str.{len_utf8_bounds}
 use Rattle.lsp_text.specs.Units.{units_in}
 

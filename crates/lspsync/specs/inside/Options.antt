@@ -1,5 +1,6 @@
 -- The program while it is put together.
-use Rattle.lspsync.specs.Prelude.{◌≡◌, ◌∷◌, [], true, false, List, codes, map, Shape, app_of, with_subcommand, new_shape, rule_by}
+use Rattle.std.specs.Prelude.{◌≡◌, ◌∷◌}
+use Rattle.lspsync.specs.Prelude.{[], true, false, List, codes, map, Shape, app_of, with_subcommand, new_shape, rule_by}
 use Rattle.clap.specs.Words.{App}
 use Rattle.clap.specs.declared.builder.command.Command.{Command}
 use Rattle.clap.specs.declared.builder.command.Command.TheViews.{out-Command as fields_of}
