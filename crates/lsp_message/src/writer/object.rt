@@ -8,7 +8,7 @@ use crate::writer::value::WriteValue;
 use json::Writer;
 use std::alloc::AllocError;
 
-/// What is written as members of an object.
+/// What is written as members of an object: a member, or a tuple of members.
 pub(crate) trait WriteMembers {
     // The members.
     ghost members: { Self → Members };
