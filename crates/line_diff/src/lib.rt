@@ -21,5 +21,6 @@ mod shown;
 mod tracked;
 
 pub use compared::Comparison;
+pub use lines::ends_line;
 pub use owners::Splice;
 pub use tracked::TrackedText;

@@ -6,7 +6,7 @@ ghost use Rattle.line_diff.specs.Lines.{ends_line, lines_of};
 use std::alloc::{AllocError, Global};
 
 /// Returns whether the byte at an index ends a line.
-fn ends_line(text: &[u8], index: usize) -> bool
+pub fn ends_line(text: &[u8], index: usize) -> bool
     requires { index < length text.now }
     ensures { result ≡ ends_line (slice_index text.now index) (drop (suc index) text.now) }
 {
@@ -45,8 +45,5 @@ pub(crate) fn line_at<'a>(lines: &[&'a str], index: usize) -> Option<&'a str>
     ensures { option_map (λ line. line.now) result
         ≡ slice_get (map (λ line. line.now) lines.entry.now) index }
 {
-    match lines.get(index) {
-        Some(line) => Some(*line),
-        None => None,
-    }
+    lines.get(index).copied()
 }

@@ -1,6 +1,6 @@
 use Rattle.lsp_replay.proofs.Prelude.{◌++◌, drop, map, content_change, notes_from, terms_view}
 use Rattle.lsp_replay.proofs.Reports.NoteLemmas.{Noting}
-use Rattle.lsp_replay.proofs.notes.changes.push_several.Given as goal
+use Rattle.lsp_replay.proofs.notes.changes.push_batch_notes.Given as goal
 
 abbrev pub invariant-loop-index : goal.invariant-loop-index
 invariant-loop-index l =
