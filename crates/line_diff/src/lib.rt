@@ -21,6 +21,5 @@ mod shown;
 mod tracked;
 
 pub use compared::Comparison;
-pub use lines::ends_line;
 pub use owners::Splice;
 pub use tracked::TrackedText;

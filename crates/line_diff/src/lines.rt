@@ -6,7 +6,7 @@ ghost use Rattle.line_diff.specs.Lines.{ends_line, lines_of};
 use std::alloc::{AllocError, Global};
 
 /// Returns whether the byte at an index ends a line.
-pub fn ends_line(text: &[u8], index: usize) -> bool
+fn ends_line(text: &[u8], index: usize) -> bool
     requires { index < length text.now }
     ensures { result ≡ ends_line (slice_index text.now index) (drop (suc index) text.now) }
 {
