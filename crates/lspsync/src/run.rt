@@ -209,7 +209,8 @@ fn answer_with(
 
 /// Runs an engine. If it is live it flushes what it prints before it reads more.
 macro_rules! run_lines {
-    ($live:ident, $run:ident, $run_live:ident, $alloc:ident, $input:ident, $output:ident, $($setting:ident),+) => {{
+    ($live:ident, $run:ident, $run_live:ident
+    => $alloc:ident, $input:ident, $output:ident, $($setting:ident),+) => {{
         if $live {
             let mut ends = Duplex::new($input, $output);
             return $run_live($alloc, &mut ends, $($setting,)+ MAX_TURNS);
@@ -232,29 +233,18 @@ fn obey<R: Source, W: Sink>(
     match call {
         Call::Serve(config) => serve(alloc, input, output, config, MAX_TURNS),
         Call::Check { settings, live } => {
-            run_lines!(live, check, check_live, alloc, input, output, settings)
+            run_lines!(live, check, check_live => alloc, input, output, settings)
         }
         Call::Explain {
             settings,
             listing,
             live,
-        } => run_lines!(
-            live,
-            explain,
-            explain_live,
-            alloc,
-            input,
-            output,
-            settings,
-            listing
-        ),
+        } => run_lines!(live, explain, explain_live => alloc, input, output, settings, listing),
         Call::Trace {
             settings,
             details,
             live,
-        } => run_lines!(
-            live, trace, trace_live, alloc, input, output, settings, details
-        ),
+        } => run_lines!(live, trace, trace_live => alloc, input, output, settings, details),
         Call::Replay(settings) => replay(alloc, input, output, settings, MAX_TURNS),
         Call::ReplayPart(settings, part) => {
             replay_part(alloc, input, output, settings, part, MAX_TURNS)

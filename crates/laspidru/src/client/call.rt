@@ -15,7 +15,7 @@ use crate::end::End;
 use crate::handle::{Handle, with_object};
 use crate::object::Object;
 use crate::party::Party;
-use crate::reports::{call_code_of, report_store};
+use crate::reports::report_call;
 use crate::structs::FaultAt;
 use lsp_client::{Client, ClientFault, Phase};
 use std::alloc::{AllocError, Global};
@@ -142,8 +142,7 @@ pub(crate) fn object_call(
                 *frame = sent;
                 OK
             }
-            Err(ClientFault::Store(error)) => report_store(error, fault),
-            Err(error) => call_code_of(error),
+            Err(error) => report_call(error, fault),
         }
     })
 }

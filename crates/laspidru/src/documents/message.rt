@@ -14,8 +14,9 @@ use crate::codes::{INSIDE_CHARACTER, OK, OUT_OF_MEMORY, REVERSED_RANGE, or_retur
 use crate::ends::store_of;
 use crate::handle::{Handle, with_object};
 use crate::object::Object;
-use crate::reports::report_store;
+use crate::reports::report_call;
 use crate::structs::{Edit, FaultAt};
+use lsp_client::ClientFault;
 use lsp_store::Store;
 use lsp_text::Encoding;
 use std::alloc::Global;
@@ -50,7 +51,7 @@ fn put_message(
     };
     let frame = match store.canonical_message(uri, version, encoding, &changes) {
         Ok(frame) => frame,
-        Err(error) => return report_store(error, fault),
+        Err(error) => return report_call(ClientFault::Store(error), fault),
     };
     let count = frame.len();
     let code = output.fill(alloc, Object::Output(frame));
