@@ -1,4 +1,4 @@
-//! A batch as C passes it, and the report of its fault.
+//! Edits that C passes, and the report of a change's fault.
 
 ghost use Rattle.std.specs.Prelude.{◌≡◌, ◌≢◌, ◌<◌, ◌≤◌, ◌⊎◌, IfErr, IfOk, None, OnOk, Some, length};
 ghost use Rattle.std.specs.Prelude.{map, string_len, sum_by, true};

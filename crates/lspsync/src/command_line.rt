@@ -290,10 +290,7 @@ fn compare_call(alloc: Global, options: &ArgMatches<'_>) -> Result<Option<Call>,
     ensures none { IfOk result (λ found. (call : Call) →
         IsCallNamed (codes "compare") options.now call → IsSome found) }
 {
-    let Some(settings) = settings_of(options, false) else {
-        return Ok(None);
-    };
-    let Some(ending) = ending_of(options) else {
+    let (Some(settings), Some(ending)) = (settings_of(options, false), ending_of(options)) else {
         return Ok(None);
     };
     let against = Against {

@@ -1,4 +1,4 @@
-//! The pages of help. They are in functions, so that proofs don't unfold them.
+//! The pages of help. Their tables are in functions, so that proofs don't unfold them.
 
 ghost use Rattle.std.specs.Prelude.{◌≡◌, map};
 ghost use Rattle.lsp_program.specs.Arguments.{rule_by};
@@ -24,16 +24,6 @@ pub struct Page {
     pub example: &'static str,
     /// The options and files that the command has beside the limits.
     pub arguments: &'static [Argument],
-}
-
-/// Returns the text above the list of commands.
-pub fn about() -> &'static str {
-    PROGRAM
-}
-
-/// Returns the text below the list of commands.
-pub fn notes() -> &'static str {
-    NOTES
 }
 
 /// Returns the pages of all commands.
@@ -122,10 +112,12 @@ const RECORDS: Range = Range {
     greatest: u64::MAX,
 };
 
-static PROGRAM: &str = "Applies an editor's change messages to a copy of each open text (Language
+/// The text above the list of commands.
+pub static ABOUT: &str = "Applies an editor's change messages to a copy of each open text (Language
 Server Protocol 3.17), and reads recorded sessions";
 
-static NOTES: &str = "A log is what an editor sent to its language server, byte for byte; one of
+/// The text below the list of commands.
+pub static NOTES: &str = "A log is what an editor sent to its language server, byte for byte; one of
 version 2 has both directions. Where the editor starts `some-server`, let it
 start a script with this line, and it is recorded:
   umask 077; tee \"/tmp/session-$$.log\" | some-server \"$@\"
