@@ -4,8 +4,8 @@ ghost use Rattle.std.specs.Prelude.{◌≡◌, ◌≢◌, IsOkAnd, None, Ok, Som
 ghost use Rattle.laspidru.specs.Codes.{IsAnswer, IsAnswerOrNoMemory, IsRefusedOr, OnRefused};
 ghost use Rattle.laspidru.specs.Codes.{and_then};
 ghost use Rattle.laspidru.specs.Ends.{IsHandled, IsHandledBy, IsState, IsTaken, agreed_encoding};
-ghost use Rattle.laspidru.specs.Ends.{as_end, as_framing, closed, deaf, handling_of, listening};
-ghost use Rattle.laspidru.specs.Ends.{party_phase, session_over, store_in};
+ghost use Rattle.laspidru.specs.Ends.{as_end, as_framing, closed, handling_of, listening};
+ghost use Rattle.laspidru.specs.Ends.{party_phase, store_in};
 ghost use Rattle.laspidru.specs.Framers.{IsBodyAnswer};
 ghost use Rattle.laspidru.specs.Objects.{IsCopy, in_handle, rest_asked};
 
@@ -72,35 +72,19 @@ fn phase_of_party(party: &Party) -> (u32, u32)
     }
 }
 
-/// Returns the code of a server that handles no message in this phase.
-fn ended_code(phase: Phase) -> Option<u32>
-    ensures { result ≡ session_over phase }
-{
-    match phase {
-        Phase::New | Phase::Running | Phase::Down => None,
-        Phase::Ended => Some(ENDED),
-    }
-}
-
-/// Returns the code of a client that handles no message in this phase.
-fn deaf_code(phase: ClientPhase) -> Option<u32>
-    ensures { result ≡ deaf phase }
-{
-    match phase {
-        ClientPhase::Asked | ClientPhase::Ready | ClientPhase::Closing | ClientPhase::Closed => {
-            None
-        }
-        ClientPhase::New | ClientPhase::Done | ClientPhase::Failed(_) => Some(WRONG_PHASE),
-    }
-}
-
 /// Returns the code of an end that handles no message in its phase.
 fn closed_code(party: &Party) -> Option<u32>
     ensures { result ≡ closed party.now }
 {
     match party {
-        Party::Server(server) => ended_code(server.phase()),
-        Party::Client(client) => deaf_code(client.phase()),
+        Party::Server(server) => match server.phase() {
+            Phase::New | Phase::Running | Phase::Down => None,
+            Phase::Ended => Some(ENDED),
+        },
+        Party::Client(client) => match client.phase() {
+            ClientPhase::New | ClientPhase::Done | ClientPhase::Failed(_) => Some(WRONG_PHASE),
+            _ => None,
+        },
     }
 }
 

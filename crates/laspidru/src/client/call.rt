@@ -10,8 +10,7 @@ ghost use Rattle.laspidru.specs.inside.Passed.{changes_in};
 ghost use Rattle.laspidru.specs.Objects.{in_handle};
 
 use crate::changes::Passed;
-use crate::codes::{INSIDE_CHARACTER, OK, REVERSED_RANGE};
-use crate::end::End;
+use crate::codes::{INSIDE_CHARACTER, OK, OTHER_KIND, REVERSED_RANGE};
 use crate::handle::{Handle, with_object};
 use crate::object::Object;
 use crate::party::Party;
@@ -135,15 +134,16 @@ pub(crate) fn object_call(
         → (handle.new.value ≡ handle.old.value) × (len.new ≡ len.old) }
     ensures fault { result ≢ INSIDE_CHARACTER → result ≢ REVERSED_RANGE → fault.new ≡ fault.old }
 {
-    with_object!(handle, alloc, Object::End(End { party: Party::Client(client), frame, .. }) => {
-        match called(alloc, client, call) {
-            Ok(sent) => {
-                *len = sent.len();
-                *frame = sent;
+    with_object!(handle, alloc, Object::End(held) => match &mut held.party {
+        Party::Client(client) => match called(alloc, client, call) {
+            Ok(frame) => {
+                *len = frame.len();
+                held.frame = frame;
                 OK
             }
             Err(error) => report_call(error, fault),
-        }
+        },
+        Party::Server(_) => OTHER_KIND,
     })
 }
 
