@@ -1,5 +1,4 @@
 -- The calls of a client, and of a refused call its code and what is written of it.
-use Rattle.std.specs.Prelude.{◌≡◌}
 use Rattle.laspidru.specs.Prelude.{ℕ, Call, starts, shuts_down, closes, edits, orders, ClientFault, OUT_OF_MEMORY, WRONG_PHASE, FaultAt}
 use Rattle.lsp_client.specs.Step.{exits}
 use Rattle.lsp_client.specs.declared.fault.ClientFault.TheVariants as client

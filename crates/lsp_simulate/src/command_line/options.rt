@@ -1,6 +1,6 @@
 //! The program as `clap` sees it: its options.
 
-ghost use Rattle.std.specs.Prelude.{◌≡◌, IfOk};
+ghost use Rattle.std.specs.Prelude.{IfOk};
 ghost use Rattle.clap.specs.Words.{app_of};
 ghost use Rattle.lsp_simulate.specs.CommandLine.{IsProgram};
 
