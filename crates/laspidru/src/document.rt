@@ -115,7 +115,7 @@ pub extern "C" fn laspidru_document_change(
 {
     let encoding = or_return!(encoding_of(encoding));
     let passed = or_return!(Passed::new(edits, texts));
-    with_object!(handle, alloc, Object::Document(document) => {
+    with_object!(handle, alloc, mut Object::Document(document) => {
         change_document(alloc, document, encoding, passed, fault)
     })
 }

@@ -240,7 +240,7 @@ pub extern "C" fn laspidru_document_apply_edits(
 {
     let encoding = or_return!(encoding_of(encoding));
     let passed = or_return!(Passed::new(edits, texts));
-    with_object!(handle, alloc, Object::Document(document) => {
+    with_object!(handle, alloc, mut Object::Document(document) => {
         apply_edits(alloc, document, encoding, passed, fault)
     })
 }

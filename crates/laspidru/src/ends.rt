@@ -144,7 +144,7 @@ pub extern "C" fn laspidru_deliver(
     ensures unchanged { result ≢ OK
         → (handle.new.value ≡ handle.old.value) × (out.new ≡ out.old) }
 {
-    with_object!(handle, alloc, Object::End(held) => {
+    with_object!(handle, alloc, mut Object::End(held) => {
         handled(alloc, &mut held.party, body, &mut held.frame, out)
     })
 }
@@ -193,7 +193,7 @@ pub extern "C" fn laspidru_take(
     ensures unchanged { OnRefused (listening (in_handle as_end handle.old.value))
         ((handle.new.value ≡ handle.old.value) × (taken.new ≡ taken.old) × (out.new ≡ out.old)) }
 {
-    with_object!(handle, alloc, Object::End(held) => match closed_code(&held.party) {
+    with_object!(handle, alloc, mut Object::End(held) => match closed_code(&held.party) {
         Some(code) => code,
         None => take(alloc, held, piece, taken, out),
     })

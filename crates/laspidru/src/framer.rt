@@ -55,7 +55,7 @@ pub extern "C" fn laspidru_framer_feed(
     ensures unchanged { result ≢ OK → result ≢ BAD_FRAME
         → (handle.new.value ≡ handle.old.value) × (out.new ≡ out.old) }
 {
-    with_object!(handle, alloc, Object::Framer(framer) => feed(framer, piece, out))
+    with_object!(handle, alloc, mut Object::Framer(framer) => feed(framer, piece, out))
 }
 
 /// Copies the body that a framer has buffered.
@@ -77,7 +77,7 @@ pub extern "C" fn laspidru_framer_next(alloc: Global, handle: &mut Handle) -> u3
         (λ framing. IsOkAnd (in_handle as_framer handle.new.value) (IsReleased framing)) }
     ensures unchanged { result ≢ OK → handle.new.value ≡ handle.old.value }
 {
-    with_object!(handle, alloc, Object::Framer(framer) => {
+    with_object!(handle, alloc, mut Object::Framer(framer) => {
         framer.next();
         OK
     })

@@ -16,20 +16,30 @@ use std::mem::replace;
 use std::ptr::null_mut;
 
 /// Takes the object out of a handle, computes a code with it, and puts it back. The code of an empty
-/// handle is EMPTY, and that of an object that no pattern matches is OTHER_KIND. It is no closure,
-/// since a proof doesn't know what a closure that isn't called leaves of `out`.
+/// handle is EMPTY, and that of an object that no pattern matches is OTHER_KIND. With `mut` the code
+/// may change the object. It is no closure, since a proof doesn't know what a closure that isn't
+/// called leaves of `out`.
 macro_rules! with_object {
-    ($handle:ident, $alloc:ident, $($kind:pat => $code:expr),+ $(,)?) => {{
-        let Some(mut object) = $handle.take($alloc) else {
+    ($handle:ident, $alloc:ident, |$object:ident| $code:expr) => {{
+        let Some(mut $object) = $handle.take($alloc) else {
             return $crate::codes::EMPTY;
         };
-        let code = match &mut *object {
-            $($kind => $code,)+
-            _ => $crate::codes::OTHER_KIND,
-        };
-        $handle.put(object);
+        let code = $code;
+        $handle.put($object);
         code
     }};
+    ($handle:ident, $alloc:ident, mut $kind:pat => $code:expr) => {
+        $crate::handle::with_object!($handle, $alloc, |object| match &mut *object {
+            $kind => $code,
+            _ => $crate::codes::OTHER_KIND,
+        })
+    };
+    ($handle:ident, $alloc:ident, $($kind:pat => $code:expr),+ $(,)?) => {
+        $crate::handle::with_object!($handle, $alloc, |object| match &*object {
+            $($kind => $code,)+
+            _ => $crate::codes::OTHER_KIND,
+        })
+    };
 }
 
 pub(crate) use with_object;

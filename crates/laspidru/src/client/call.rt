@@ -134,7 +134,7 @@ pub(crate) fn object_call(
         → (handle.new.value ≡ handle.old.value) × (len.new ≡ len.old) }
     ensures fault { result ≢ INSIDE_CHARACTER → result ≢ REVERSED_RANGE → fault.new ≡ fault.old }
 {
-    with_object!(handle, alloc, Object::End(held) => match &mut held.party {
+    with_object!(handle, alloc, mut Object::End(held) => match &mut held.party {
         Party::Client(client) => match called(alloc, client, call) {
             Ok(frame) => {
                 *len = frame.len();
