@@ -1,6 +1,6 @@
 use Rattle.laspidru.proofs.Prelude.{refused_edit}
 use Rattle.std.proofs.Common.{◌≡◌, drop}
-use Rattle.laspidru.proofs.changes.refusal_of.Given as goal
+use Rattle.laspidru.proofs.changes.Passed.new.Given as goal
 
 -- the answer is that of the edits that are left
 abbrev pub invariant-loop-edit : goal.invariant-loop-edit
