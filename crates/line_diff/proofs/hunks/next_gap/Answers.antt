@@ -11,7 +11,15 @@ loop-sum-init c = grind (arith, common_steps)
 pub returns-in-Some-clause-value : goal.returns-in-Some-clause-value
 unfolding next_gap
 returns-in-Some-clause-value c =
-    grind (arith, common_steps, length-map, gap_found, c.loop-sum.invariant, c.in-Some.ensures.value, c.in-Some.ensures.within.0)
+    grind (
+      arith,
+      common_steps,
+      length-map,
+      gap_found,
+      c.loop-sum.invariant,
+      c.in-Some.ensures.value,
+      c.in-Some.ensures.within.0,
+    )
 
 pub loop-sum-preserved : goal.loop-sum-preserved
 loop-sum-preserved c =

@@ -74,7 +74,8 @@ returns-in-Some-end-clause-progress g c = λ log_rules run_output received input
     (g.W.Sink.seen c.bytes.writer).written (g.W.Sink.seen c.write_given.new.writer).written
     (record_of c.in-Some.found) c.in_ok-given.given.end c.in-Some.ensures.0 c.in-Some.ensures.1
     (λ records is_frame_of at. c.next.ensures.is_after
-    log_rules input (drop (c.bytes.at + c.in_ok-at.field-0) c.args.piece.now) c.in-Some.found.body.now records is_frame_of at)
+    log_rules input (drop (c.bytes.at + c.in_ok-at.field-0) c.args.piece.now) c.in-Some.found.body.now records
+    is_frame_of at)
     (handled (g.H.Handler.run_output c.bytes.handler) (g.H.Handler.run_output c.handle.new.self) _ _ _
     c.bytes-output.result.now _ c.in_ok-given.given.end c.in_ok-given.ensures.ok
     (rw c.deref.ensures.value at c.bytes-output.ensures)
@@ -113,7 +114,8 @@ bytes-preserved g c = record {
       (g.W.Sink.seen c.bytes.writer).written (g.W.Sink.seen c.write_given.new.writer).written
       (record_of c.in-Some.found) c.in_ok-given.given.end c.in-Some.ensures.0 c.in-Some.ensures.1
       (λ records is_frame_of at. c.next.ensures.is_after
-      log_rules input (drop (c.bytes.at + c.in_ok-at.field-0) c.args.piece.now) c.in-Some.found.body.now records is_frame_of at)
+      log_rules input (drop (c.bytes.at + c.in_ok-at.field-0) c.args.piece.now) c.in-Some.found.body.now records
+      is_frame_of at)
       (handled (g.H.Handler.run_output c.bytes.handler) (g.H.Handler.run_output c.handle.new.self) _ _ _
       c.bytes-output.result.now _ c.in_ok-given.given.end c.in_ok-given.ensures.ok
       (rw c.deref.ensures.value at c.bytes-output.ensures)
