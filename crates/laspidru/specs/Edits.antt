@@ -133,18 +133,18 @@ pub record Replacement : Type 0 where
   pub range : Range
   pub text : List ℕ
 
--- The range of an edit; one of the whole text ends after its last line.
-abbrev pub range_or : Bool → CPosition → CPosition → Range
-range_or true start end = record {
+-- A range; that of the whole text ends after its last line.
+abbrev pub range_or_whole : Option Range → Range
+range_or_whole (Some range) = range
+range_or_whole None = record {
   start = record { line = 0; character = 0 };
   stop = record { line = 4294967295; character = 4294967295 };
 }
-range_or false start end = record { start = position_at start; stop = position_at end }
 
 -- An edit of C, whose new text has these bytes.
 abbrev pub replacement_with : Edit → List ℕ → Replacement
-replacement_with edit own
-    = record { range = range_or edit.is_whole edit.start edit.end; text = own }
+replacement_with edit own =
+    record { range = range_or_whole (range_if edit.is_whole edit.start edit.end); text = own }
 
 -- The edits, each with its part of the texts.
 abbrev pub replacements_of : List Edit → List ℕ → List Replacement
@@ -156,10 +156,9 @@ replacements_of (edit ∷ rest) texts =
 abbrev pub replacement_of : TextEdit → Replacement
 replacement_of edit = record { range = edit.range; text = string_bytes edit.new_text }
 
--- The text edits that were passed, on a text.
-abbrev pub edits_on : Encoding → List Edit → List ℕ → List ℕ → Asked Replacement
-edits_on encoding edits texts text =
-    record { encoding = encoding; edits = replacements_of edits texts; text = text }
+-- What a change replaces, and by which bytes.
+abbrev pub replacement_by : Change → Replacement
+replacement_by change = record { range = range_or_whole change.range; text = string_bytes change.text }
 
 -- Text edits as C passes them, or the code of their refusal.
 abbrev pub edits_asked : ℕ → List Edit → List ℕ → Result (List ℕ) ℕ → Result (Asked Replacement) ℕ

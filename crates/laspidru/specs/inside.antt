@@ -1,4 +1,5 @@
 -- Definitions that only private contracts speak of.
 pub mod Clients
+pub mod Passed
 pub mod Stored
 pub mod Subjects

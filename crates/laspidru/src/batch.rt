@@ -1,16 +1,14 @@
 //! The functions on canonical batches.
 
-ghost use Rattle.std.specs.Prelude.{◌≡◌, ◌≢◌, None, Ok, length, string_bytes};
-ghost use Rattle.laspidru.specs.Edits.{LeavesCanonical, IsEdit, batch_asked, change_asked, edits_of};
-ghost use Rattle.laspidru.specs.Edits.{fitting, refused_edit};
+ghost use Rattle.std.specs.Prelude.{◌≡◌, ◌≢◌, None, length, string_bytes};
+ghost use Rattle.laspidru.specs.Edits.{LeavesCanonical, IsEdit, batch_asked, change_asked};
+ghost use Rattle.laspidru.specs.inside.Passed.{changes_on};
 ghost use Rattle.laspidru.specs.Codes.{IsAnswer, IsAnswerOrNoMemory, unless};
 ghost use Rattle.laspidru.specs.Objects.{IsCopy, as_batch, as_document, in_handle, in_use};
 
 use crate::bytes::copy_bytes;
-use crate::changes::{changes_of, edits_encoding_of, fits, report};
-use crate::codes::{
-    IN_USE, INSIDE_CHARACTER, OK, OUT_OF_MEMORY, OUT_OF_RANGE, REVERSED_RANGE, TOO_LONG, or_return,
-};
+use crate::changes::{Passed, encoding_of, report};
+use crate::codes::{INSIDE_CHARACTER, OK, OUT_OF_MEMORY, OUT_OF_RANGE, REVERSED_RANGE, or_return};
 use crate::handle::{Handle, with_object};
 use crate::object::Object;
 use crate::structs::{CPosition, Edit, FaultAt};
@@ -24,23 +22,18 @@ fn put_canonical(
     alloc: Global,
     document: &IndexedText,
     encoding: Encoding,
-    edits: &[Edit],
-    texts: &[u8],
+    passed: Passed<'_>,
     batch: &mut Handle,
     fault: &mut FaultAt,
 ) -> u32
-    requires checked { refused_edit edits.now texts.now ≡ None }
-    requires empty { batch.old.value ≡ None }
-    ensures answer { IsAnswerOrNoMemory
-        (fitting encoding edits.now (edits_of edits.now texts.now) (Ok document.now)) result
+    requires { batch.old.value ≡ None }
+    ensures answer { IsAnswerOrNoMemory (changes_on encoding passed.entry document.now) result
         (λ asked. LeavesCanonical asked result batch.new.value fault.new) }
     ensures unchanged { result ≢ OK → batch.new.value ≡ None }
     ensures fault { result ≢ INSIDE_CHARACTER → result ≢ REVERSED_RANGE → fault.new ≡ fault.old }
 {
-    if !fits(edits) || document.text().len() > MAX_OLD_TEXT {
-        return TOO_LONG;
-    }
-    let Ok(changes) = changes_of(alloc, edits, texts) else {
+    or_return!(passed.check_on(document.text()));
+    let Ok(changes) = passed.changes(alloc) else {
         return OUT_OF_MEMORY;
     };
     match document.canonical(encoding, &changes, MAX_OLD_TEXT) {
@@ -70,12 +63,11 @@ pub extern "C" fn laspidru_document_canonical(
     ensures unchanged { result ≢ OK → batch.new.value ≡ batch.old.value }
     ensures fault { result ≢ INSIDE_CHARACTER → result ≢ REVERSED_RANGE → fault.new ≡ fault.old }
 {
-    let encoding = or_return!(edits_encoding_of(encoding, edits, texts));
-    if batch.is_full(alloc) {
-        return IN_USE;
-    }
+    let encoding = or_return!(encoding_of(encoding));
+    let passed = or_return!(Passed::new(edits, texts));
+    or_return!(batch.check_empty(alloc));
     with_object!(handle, alloc, Object::Document(document) => {
-        put_canonical(alloc, document, encoding, edits, texts, batch, fault)
+        put_canonical(alloc, document, encoding, passed, batch, fault)
     })
 }
 

@@ -1,20 +1,21 @@
-//! A batch as C passes it, and the report of its fault.
+//! Edits that C passes, and the report of a change's fault.
 
-ghost use Rattle.std.specs.Prelude.{◌≡◌, ◌≢◌, ◌≤◌, ◌↔◌, Err, IfErr, IfOk, IsTrue, None, Ok, OnOk};
-ghost use Rattle.std.specs.Prelude.{length, map, string_len, sum_by, true};
+ghost use Rattle.std.specs.Prelude.{◌≡◌, ◌≢◌, ◌<◌, ◌≤◌, ◌⊎◌, IfErr, IfOk, None, OnOk, Some, length};
+ghost use Rattle.std.specs.Prelude.{map, string_len, sum_by, true};
 ghost use Rattle.std.specs.Str.{is_utf8};
 ghost use Rattle.lsp_edit.specs.declared.indexed.fault.BatchFault.TheVariants.{Edit as EditOf};
 ghost use Rattle.lsp_edit.specs.Edited.{content_change};
 ghost use Rattle.laspidru.specs.Objects.{encoding_at, position_at};
-ghost use Rattle.laspidru.specs.Edits.{IsReport, edit_with, edits_encoding, edits_of, is_end};
-ghost use Rattle.laspidru.specs.Edits.{len_of, refused_edit};
+ghost use Rattle.laspidru.specs.Edits.{IsReport, edit_with, is_end, len_of, refused_edit};
+ghost use Rattle.laspidru.specs.Edits.{replacement_by, replacement_with};
 
 use crate::bytes::utf8_text;
 use crate::codes::{
     BAD_ENCODING, BAD_LENGTH, INSIDE_CHARACTER, NOT_UTF8, OUT_OF_MEMORY, REVERSED_RANGE, TOO_LONG,
 };
 use crate::structs::{CPosition, Edit, FaultAt};
-use lsp_edit::{BatchFault, Change, EditFault, MAX_NEW_TEXT, Side};
+use lsp_buffer::TextBuffer;
+use lsp_edit::{BatchFault, Change, EditFault, MAX_NEW_TEXT, MAX_OLD_TEXT, Side};
 use lsp_text::{Encoding, Position, Range};
 use std::alloc::{AllocError, Global};
 
@@ -40,63 +41,15 @@ pub(crate) fn position_of(place: CPosition) -> Position
     }
 }
 
-/// Returns the code of the first edit whose text is missing or isn't UTF-8. Takes no memory.
-pub(crate) fn refusal_of(edits: &[Edit], texts: &[u8]) -> Option<u32>
-    ensures { result ≡ refused_edit edits.now texts.now }
-{
-    let mut rest = texts;
-    for edit in edits {
-        let Some((own, more)) = rest.split_at_checked(edit.len) else {
-            return Some(BAD_LENGTH);
-        };
-        if utf8_text(own).is_none() {
-            return Some(NOT_UTF8);
-        }
-        rest = more;
-    }
-    None
-}
-
-/// Returns the encoding of edits, or the code for why it or one of them is refused.
-pub(crate) fn edits_encoding_of(
-    encoding: u32,
-    edits: &[Edit],
-    texts: &[u8],
-) -> Result<Encoding, u32>
-    ensures ok { IfOk result (λ units. edits_encoding encoding edits.now texts.now ≡ Ok units) }
-    ensures checked { OnOk result (refused_edit edits.now texts.now ≡ None) }
-    ensures error { IfErr result (λ code.
-        edits_encoding encoding edits.now texts.now ≡ Err code) }
-{
-    let encoding = encoding_of(encoding)?;
-    match refusal_of(edits, texts) {
-        None => Ok(encoding),
-        Some(code) => Err(code),
-    }
-}
-
-/// Returns whether the texts of edits have at most [`MAX_NEW_TEXT`] bytes together.
-pub(crate) fn fits(edits: &[Edit]) -> bool
-    ensures { IsTrue result ↔ (len_of edits.now ≤ MAX_NEW_TEXT) }
-{
-    let mut room = MAX_NEW_TEXT;
-    for edit in edits {
-        if edit.len > room {
-            return false;
-        }
-        room -= edit.len;
-    }
-    true
-}
-
 /// Returns an edit with its text.
 #[tactic(auto, using(crate::proofs::Utf8::utf8_is))]
 fn change_of(alloc: Global, edit: Edit, own: &[u8]) -> Result<Change, AllocError>
     requires { is_utf8 own.now ≡ true }
-    ensures ok { IfOk result (λ change. content_change change ≡ edit_with edit own.now) }
+    ensures change { IfOk result (λ change. content_change change ≡ edit_with edit own.now) }
+    ensures edit { IfOk result (λ change. replacement_by change ≡ replacement_with edit own.now) }
     ensures len { IfOk result (λ change. string_len change.text ≡ length own.now) }
 {
-    // SAFETY: `refusal_of` has read each text.
+    // SAFETY: `Passed::new` has read each text.
     let text = unsafe { std::str::from_utf8_unchecked(own) }.to_string(alloc)?;
     let range = if edit.is_whole {
         None
@@ -109,26 +62,77 @@ fn change_of(alloc: Global, edit: Edit, own: &[u8]) -> Result<Change, AllocError
     Ok(Change { range, text })
 }
 
-/// Returns the changes of a batch, each with its part of the texts.
-pub(crate) fn changes_of(
-    alloc: Global,
-    edits: &[Edit],
-    texts: &[u8],
-) -> Result<Vec<Change>, AllocError>
-    requires { refused_edit edits.now texts.now ≡ None }
-    ensures ok { IfOk result
-        (λ changes. map content_change changes.items ≡ edits_of edits.now texts.now) }
-    ensures len { IfOk result (λ changes.
-        sum_by (λ change. string_len change.text) changes.items ≡ len_of edits.now) }
-{
-    let mut changes = Vec::new(alloc);
-    let mut rest = texts;
-    for edit in edits {
-        let (own, more) = rest.split_at(edit.len);
-        rest = more;
-        changes.push(change_of(alloc, *edit, own)?)?;
+/// Edits that C passes, each with its text: the changes of a batch, or text edits.
+#[derive(Clone, Copy)]
+pub struct Passed<'a> {
+    edits: &'a [Edit],
+    texts: &'a [u8],
+    ghost whole: { refused_edit edits.now texts.now ≡ None },
+}
+
+impl<'a> Passed<'a> {
+    ghost use Rattle.laspidru.specs.inside.Passed.{changes_in, replacements_in};
+
+    /// Returns the edits with their texts, or the code of the first whose text is missing or isn't
+    /// UTF-8. Takes no memory.
+    pub(crate) fn new(edits: &'a [Edit], texts: &'a [u8]) -> Result<Passed<'a>, u32>
+        ensures ok { IfOk result (λ passed.
+            (passed.edits.now ≡ edits.now) × (passed.texts.now ≡ texts.now)) }
+        ensures error { IfErr result (λ code. refused_edit edits.now texts.now ≡ Some code) }
+    {
+        let mut rest = texts;
+        for edit in edits {
+            let Some((own, more)) = rest.split_at_checked(edit.len) else {
+                return Err(BAD_LENGTH);
+            };
+            if utf8_text(own).is_none() {
+                return Err(NOT_UTF8);
+            }
+            rest = more;
+        }
+        Ok(Passed { edits, texts })
     }
-    Ok(changes)
+
+    /// Returns TOO_LONG if the texts together have more than [`MAX_NEW_TEXT`] bytes, or the text that
+    /// they are for more than [`MAX_OLD_TEXT`].
+    pub(crate) fn check_on(self, text: &TextBuffer) -> Result<(), u32>
+        ensures ok { OnOk result ((len_of self.entry.edits.now ≤ MAX_NEW_TEXT)
+            × (length text.now ≤ MAX_OLD_TEXT)) }
+        ensures error { IfErr result (λ code. (code ≡ TOO_LONG)
+            × ((MAX_NEW_TEXT < len_of self.entry.edits.now)
+            ⊎ (MAX_OLD_TEXT < length text.now))) }
+    {
+        let mut room = MAX_NEW_TEXT;
+        for edit in self.edits {
+            if edit.len > room {
+                return Err(TOO_LONG);
+            }
+            room -= edit.len;
+        }
+        if text.len() > MAX_OLD_TEXT {
+            return Err(TOO_LONG);
+        }
+        Ok(())
+    }
+
+    /// Returns them as changes of a batch.
+    pub(crate) fn changes(self, alloc: Global) -> Result<Vec<Change>, AllocError>
+        ensures changes { IfOk result (λ changes.
+            map content_change changes.items ≡ changes_in self.entry) }
+        ensures edits { IfOk result (λ changes.
+            map replacement_by changes.items ≡ replacements_in self.entry) }
+        ensures len { IfOk result (λ changes. sum_by (λ change. string_len change.text) changes.items
+            ≡ len_of self.entry.edits.now) }
+    {
+        let mut changes = Vec::new(alloc);
+        let mut rest = self.texts;
+        for edit in self.edits {
+            let (own, more) = rest.split_at(edit.len);
+            rest = more;
+            changes.push(change_of(alloc, *edit, own)?)?;
+        }
+        Ok(changes)
+    }
 }
 
 /// Returns whether it is the end of a range.

@@ -11,7 +11,7 @@ mod editing;
 mod lifecycle;
 
 use crate::answers::limits_in;
-use crate::codes::{IN_USE, OK};
+use crate::codes::{OK, or_return};
 use crate::end::End;
 use crate::handle::Handle;
 use crate::object::Object;
@@ -50,11 +50,7 @@ pub extern "C" fn laspidru_client_new(
         (λ held. (result ≡ OK) × (handle.new.value ≡ Some (EndOf held))) }
     ensures unchanged { result ≢ OK → handle.new.value ≡ handle.old.value }
 {
-    if handle.is_full(alloc) {
-        return IN_USE;
-    }
-    match editor_of(alloc, settings) {
-        Ok(held) => handle.fill(alloc, Object::End(held)),
-        Err(code) => code,
-    }
+    or_return!(handle.check_empty(alloc));
+    let held = or_return!(editor_of(alloc, settings));
+    handle.fill(alloc, Object::End(held))
 }

@@ -4,7 +4,8 @@ ghost use Rattle.std.specs.Prelude.{◌≡◌, ◌≢◌, ◌≤◌, ◌+◌, If
 ghost use Rattle.std.specs.Str.{chars};
 ghost use Rattle.lsp_text.specs.TextLines.{line_ends};
 ghost use Rattle.laspidru.specs.declared.object.Object.TheVariants.{Document};
-ghost use Rattle.laspidru.specs.Edits.{IsChanged, batch_asked, edits_of, fitting, refused_edit};
+ghost use Rattle.laspidru.specs.Edits.{IsChanged, batch_asked};
+ghost use Rattle.laspidru.specs.inside.Passed.{changes_on};
 ghost use Rattle.laspidru.specs.Codes.{IsAnswer, IsAnswerOrNoMemory, unless};
 ghost use Rattle.laspidru.specs.Objects.{IsCopy, as_document, in_handle, in_use};
 ghost use Rattle.laspidru.specs.Objects.{rest_asked, text_asked};
@@ -12,10 +13,8 @@ ghost use Rattle.laspidru.specs.Objects.{rest_asked, text_asked};
 mod positions;
 
 use crate::bytes::{checked_text, copy_text};
-use crate::changes::{changes_of, edits_encoding_of, fits, report};
-use crate::codes::{
-    IN_USE, INSIDE_CHARACTER, OK, OTHER_KIND, OUT_OF_MEMORY, REVERSED_RANGE, TOO_LONG, or_return,
-};
+use crate::changes::{Passed, encoding_of, report};
+use crate::codes::{INSIDE_CHARACTER, OK, OUT_OF_MEMORY, REVERSED_RANGE, TOO_LONG, or_return};
 use crate::handle::{Handle, with_object};
 use crate::object::Object;
 use crate::structs::{Edit, FaultAt, Size};
@@ -51,9 +50,7 @@ pub extern "C" fn laspidru_document_open(alloc: Global, handle: &mut Handle, tex
         (λ text. (result ≡ OK) × (handle.new.value ≡ Some (Document text))) }
     ensures unchanged { result ≢ OK → handle.new.value ≡ handle.old.value }
 {
-    if handle.is_full(alloc) {
-        return IN_USE;
-    }
+    or_return!(handle.check_empty(alloc));
     let text = or_return!(text_of(text));
     let Ok(document) = opened(alloc, text) else {
         return OUT_OF_MEMORY;
@@ -69,29 +66,21 @@ pub extern "C" fn laspidru_close(alloc: Global, handle: &mut Handle)
     drop(handle.take(alloc));
 }
 
-/// Applies the changes of a batch to an object.
-fn change_object(
+/// Applies the changes of a batch to a document.
+fn change_document(
     alloc: Global,
-    object: &mut Object,
+    document: &mut IndexedText,
     encoding: Encoding,
-    edits: &[Edit],
-    texts: &[u8],
+    passed: Passed<'_>,
     fault: &mut FaultAt,
 ) -> u32
-    requires { refused_edit edits.now texts.now ≡ None }
-    ensures answer { IsAnswerOrNoMemory
-        (fitting encoding edits.now (edits_of edits.now texts.now) (as_document object.old))
-        result (λ asked. IsChanged asked result (Some object.new) fault.new) }
-    ensures unchanged { result ≢ OK → object.new ≡ object.old }
+    ensures answer { IsAnswerOrNoMemory (changes_on encoding passed.entry document.old) result
+        (λ asked. IsChanged asked result (Some (Document document.new)) fault.new) }
+    ensures unchanged { result ≢ OK → document.new ≡ document.old }
     ensures fault { result ≢ INSIDE_CHARACTER → result ≢ REVERSED_RANGE → fault.new ≡ fault.old }
 {
-    let Object::Document(document) = object else {
-        return OTHER_KIND;
-    };
-    if !fits(edits) || document.text().len() > MAX_OLD_TEXT {
-        return TOO_LONG;
-    }
-    let Ok(changes) = changes_of(alloc, edits, texts) else {
+    or_return!(passed.check_on(document.text()));
+    let Ok(changes) = passed.changes(alloc) else {
         return OUT_OF_MEMORY;
     };
     match document.change(encoding, &changes, MAX_OLD_TEXT) {
@@ -124,9 +113,10 @@ pub extern "C" fn laspidru_document_change(
     ensures unchanged { result ≢ OK → handle.new.value ≡ handle.old.value }
     ensures fault { result ≢ INSIDE_CHARACTER → result ≢ REVERSED_RANGE → fault.new ≡ fault.old }
 {
-    let encoding = or_return!(edits_encoding_of(encoding, edits, texts));
-    with_object!(handle, alloc, |object| {
-        change_object(alloc, &mut object, encoding, edits, texts, fault)
+    let encoding = or_return!(encoding_of(encoding));
+    let passed = or_return!(Passed::new(edits, texts));
+    with_object!(handle, alloc, mut Object::Document(document) => {
+        change_document(alloc, document, encoding, passed, fault)
     })
 }
 

@@ -1,80 +1,61 @@
 //! The functions on text edits.
 
 ghost use Rattle.std.specs.Prelude.{◌≡◌, ◌≢◌, ◌≤◌, ◌⊎◌, IfErr, IfOk, None, Ok, OnErr, OnOk, Some};
-ghost use Rattle.std.specs.Prelude.{length, map, true};
-ghost use Rattle.std.specs.Str.{is_utf8};
+ghost use Rattle.std.specs.Prelude.{length, map};
 ghost use Rattle.lsp_edit.specs.Edited.{content_change};
+ghost use Rattle.laspidru.specs.declared.object.Object.TheVariants.{Document as DocumentOf};
 ghost use Rattle.laspidru.specs.Edits.{AreApplied, AreBatched, AreFaulty, IsBatchOfAsked};
 ghost use Rattle.laspidru.specs.Edits.{IsEditsReport, IsTooMuch, IsUnlessFaulty, edits_asked};
-ghost use Rattle.laspidru.specs.Edits.{edits_on, fitting, range_or, refused_edit, replacement_of};
-ghost use Rattle.laspidru.specs.Edits.{replacement_with, replacements_of, text_left};
+ghost use Rattle.laspidru.specs.Edits.{replacement_by, replacement_of, text_left};
+ghost use Rattle.laspidru.specs.inside.Passed.{edits_in, replacements_in, replacements_on};
 ghost use Rattle.laspidru.specs.Codes.{IsAnswerOrNoMemory, unless};
 ghost use Rattle.laspidru.specs.Objects.{as_document, in_handle, in_use};
 ghost use Rattle.laspidru.specs.inside.Subjects.{subject_text};
 
-use crate::changes::{edits_encoding_of, fits, is_end, position_of};
+use crate::changes::{Passed, encoding_of, is_end};
 use crate::codes::{
-    IN_USE, INSIDE_CHARACTER, OK, OTHER_KIND, OUT_OF_MEMORY, OVERLAP, REVERSED_RANGE, TOO_LONG,
-    or_return,
+    INSIDE_CHARACTER, OK, OUT_OF_MEMORY, OVERLAP, REVERSED_RANGE, TOO_LONG, or_return,
 };
 use crate::handle::{Handle, with_object};
 use crate::object::Object;
-use crate::structs::{CPosition, Edit, EditsFault};
+use crate::structs::{Edit, EditsFault};
 use lsp_buffer::TextBuffer;
 use lsp_edit::{BatchFault, Change, IndexedText, MAX_OLD_TEXT, TextEdit, TextEditFault};
 use lsp_store::Document;
-use lsp_text::{Encoding, Range};
+use lsp_text::{Encoding, Position, Range};
 use std::alloc::{AllocError, Global};
 
-/// Returns the range of an edit. One of the whole text ends after its last line.
-fn range_of(is_whole: bool, start: CPosition, end: CPosition) -> Range
-    ensures { result ≡ range_or is_whole start end }
+/// From the start of a text to after its last line.
+const WHOLE: Range = Range {
+    start: Position {
+        line: 0,
+        character: 0,
+    },
+    stop: Position {
+        line: u32::MAX,
+        character: u32::MAX,
+    },
+};
+
+/// Returns a change as a text edit.
+fn text_edit_of(change: Change) -> TextEdit
+    ensures { replacement_of result ≡ replacement_by change }
 {
-    let (start, end) = if is_whole {
-        let after_all = CPosition {
-            line: u32::MAX,
-            character: u32::MAX,
-        };
-        let zero = CPosition {
-            line: 0,
-            character: 0,
-        };
-        (zero, after_all)
-    } else {
-        (start, end)
-    };
-    Range {
-        start: position_of(start),
-        stop: position_of(end),
+    TextEdit {
+        range: change.range.unwrap_or(WHOLE),
+        new_text: change.text,
     }
 }
 
-/// Returns an edit with its text.
-#[tactic(auto, using(crate::proofs::Utf8::utf8_is))]
-fn text_edit_of(alloc: Global, edit: Edit, own: &[u8]) -> Result<TextEdit, AllocError>
-    requires { is_utf8 own.now ≡ true }
-    ensures { IfOk result (λ passed. replacement_of passed ≡ replacement_with edit own.now) }
+/// Returns edits that were passed as text edits.
+fn text_edits_of(alloc: Global, passed: Passed<'_>) -> Result<Vec<TextEdit>, AllocError>
+    ensures { IfOk result (λ edits. map replacement_of edits.items ≡ replacements_in passed.entry) }
 {
-    // SAFETY: `refusal_of` has read each text.
-    let new_text = unsafe { std::str::from_utf8_unchecked(own) }.to_string(alloc)?;
-    let range = range_of(edit.is_whole, edit.start, edit.end);
-    Ok(TextEdit { range, new_text })
-}
-
-/// Returns the text edits, each with its part of the texts.
-fn text_edits_of(alloc: Global, edits: &[Edit], texts: &[u8]) -> Result<Vec<TextEdit>, AllocError>
-    requires { refused_edit edits.now texts.now ≡ None }
-    ensures { IfOk result (λ passed.
-        map replacement_of passed.items ≡ replacements_of edits.now texts.now) }
-{
-    let mut passed = Vec::new(alloc);
-    let mut rest = texts;
-    for edit in edits {
-        let (own, more) = rest.split_at(edit.len);
-        rest = more;
-        passed.push(text_edit_of(alloc, *edit, own)?)?;
+    let mut edits = Vec::new(alloc);
+    for change in passed.changes(alloc)? {
+        edits.push(text_edit_of(change))?;
     }
-    Ok(passed)
+    Ok(edits)
 }
 
 /// Returns the code of a fault. A fault of an edit is written to `out`, another leaves it as it is.
@@ -122,24 +103,22 @@ fn batch_of(
     alloc: Global,
     subject: &Subject<'_>,
     encoding: Encoding,
-    edits: &[Edit],
-    texts: &[u8],
+    passed: Passed<'_>,
     fault: &mut EditsFault,
 ) -> Result<Vec<Change>, u32>
-    requires { refused_edit edits.now texts.now ≡ None }
-    ensures ok { let asked = edits_on encoding edits.now texts.now (subject_text subject.now) in
+    ensures ok { let asked = edits_in encoding passed.entry (subject_text subject.now) in
         IfOk result (λ changes. IsBatchOfAsked asked changes.items) }
-    ensures error { let asked = edits_on encoding edits.now texts.now (subject_text subject.now) in
+    ensures error { let asked = edits_in encoding passed.entry (subject_text subject.now) in
         IfErr result (λ code. (code ≡ OUT_OF_MEMORY) ⊎ AreFaulty asked code fault.new) }
     ensures no_fault { IfOk result (λ changes. fault.new ≡ fault.old) }
     ensures unchanged { IfErr result (λ code. IsUnlessFaulty code (fault.new ≡ fault.old)) }
 {
-    let Ok(passed) = text_edits_of(alloc, edits, texts) else {
+    let Ok(edits) = text_edits_of(alloc, passed) else {
         return Err(OUT_OF_MEMORY);
     };
     let batch = match subject {
-        Subject::Own(document) => document.batch_of_edits(encoding, &passed),
-        Subject::Open(document) => document.batch_of_edits(encoding, &passed),
+        Subject::Own(document) => document.batch_of_edits(encoding, &edits),
+        Subject::Open(document) => document.batch_of_edits(encoding, &edits),
     };
     match batch {
         Ok(changes) => Ok(changes),
@@ -152,26 +131,20 @@ pub(crate) fn put_batch_of_edits(
     alloc: Global,
     subject: &Subject<'_>,
     encoding: Encoding,
-    edits: &[Edit],
-    texts: &[u8],
+    passed: Passed<'_>,
     batch: &mut Handle,
     fault: &mut EditsFault,
 ) -> u32
-    requires checked { refused_edit edits.now texts.now ≡ None }
-    requires empty { batch.old.value ≡ None }
-    ensures answer { let passed = replacements_of edits.now texts.now in IsAnswerOrNoMemory
-        (fitting encoding edits.now passed (Ok (subject_text subject.now))) result
+    requires { batch.old.value ≡ None }
+    ensures answer { IsAnswerOrNoMemory
+        (replacements_on encoding passed.entry (subject_text subject.now)) result
         (λ asked. AreBatched asked result batch.new.value fault.new) }
     ensures unchanged { result ≢ OK → batch.new.value ≡ None }
     ensures fault { IsUnlessFaulty result (fault.new ≡ fault.old) }
 {
-    if !fits(edits) || subject.text().len() > MAX_OLD_TEXT {
-        return TOO_LONG;
-    }
-    match batch_of(alloc, subject, encoding, edits, texts, fault) {
-        Ok(changes) => batch.fill(alloc, Object::Batch(changes)),
-        Err(code) => code,
-    }
+    or_return!(passed.check_on(subject.text()));
+    let changes = or_return!(batch_of(alloc, subject, encoding, passed, fault));
+    batch.fill(alloc, Object::Batch(changes))
 }
 
 /// Puts the canonical batch of what text edits mean on the text into an empty handle (LSP 3.17,
@@ -199,13 +172,12 @@ pub extern "C" fn laspidru_document_batch_of_edits(
     ensures unchanged { result ≢ OK → batch.new.value ≡ batch.old.value }
     ensures fault { IsUnlessFaulty result (fault.new ≡ fault.old) }
 {
-    let encoding = or_return!(edits_encoding_of(encoding, edits, texts));
-    if batch.is_full(alloc) {
-        return IN_USE;
-    }
+    let encoding = or_return!(encoding_of(encoding));
+    let passed = or_return!(Passed::new(edits, texts));
+    or_return!(batch.check_empty(alloc));
     with_object!(handle, alloc, Object::Document(document) => {
         let subject = Subject::Own(document);
-        put_batch_of_edits(alloc, &subject, encoding, edits, texts, batch, fault)
+        put_batch_of_edits(alloc, &subject, encoding, passed, batch, fault)
     })
 }
 
@@ -228,34 +200,24 @@ fn change_by(document: &mut IndexedText, encoding: Encoding, batch: &[Change]) -
     }
 }
 
-/// Makes text edits on an object.
-fn object_apply_edits(
+/// Makes text edits on a document.
+fn apply_edits(
     alloc: Global,
-    object: &mut Object,
+    document: &mut IndexedText,
     encoding: Encoding,
-    edits: &[Edit],
-    texts: &[u8],
+    passed: Passed<'_>,
     fault: &mut EditsFault,
 ) -> u32
-    requires { refused_edit edits.now texts.now ≡ None }
-    ensures answer { let passed = replacements_of edits.now texts.now in IsAnswerOrNoMemory
-        (fitting encoding edits.now passed (as_document object.old)) result
-        (λ asked. AreApplied asked result (Some object.new) fault.new) }
-    ensures unchanged { result ≢ OK → object.new ≡ object.old }
+    ensures answer { IsAnswerOrNoMemory (replacements_on encoding passed.entry document.old) result
+        (λ asked. AreApplied asked result (Some (DocumentOf document.new)) fault.new) }
+    ensures unchanged { result ≢ OK → document.new ≡ document.old }
     ensures fault { IsUnlessFaulty result (fault.new ≡ fault.old) }
 {
-    let Object::Document(document) = object else {
-        return OTHER_KIND;
-    };
-    if !fits(edits) || document.text().len() > MAX_OLD_TEXT {
-        return TOO_LONG;
-    }
+    or_return!(passed.check_on(document.text()));
     let subject = Subject::Own(document);
-    let batch = or_return!(batch_of(alloc, &subject, encoding, edits, texts, fault));
-    match change_by(document, encoding, &batch) {
-        Ok(()) => OK,
-        Err(code) => code,
-    }
+    let batch = or_return!(batch_of(alloc, &subject, encoding, passed, fault));
+    or_return!(change_by(document, encoding, &batch));
+    OK
 }
 
 /// Makes text edits, or none of them (LSP 3.17, TextEdit[]). All their ranges count in the text as
@@ -276,8 +238,9 @@ pub extern "C" fn laspidru_document_apply_edits(
     ensures unchanged { result ≢ OK → handle.new.value ≡ handle.old.value }
     ensures fault { IsUnlessFaulty result (fault.new ≡ fault.old) }
 {
-    let encoding = or_return!(edits_encoding_of(encoding, edits, texts));
-    with_object!(handle, alloc, |object| {
-        object_apply_edits(alloc, &mut object, encoding, edits, texts, fault)
+    let encoding = or_return!(encoding_of(encoding));
+    let passed = or_return!(Passed::new(edits, texts));
+    with_object!(handle, alloc, mut Object::Document(document) => {
+        apply_edits(alloc, document, encoding, passed, fault)
     })
 }

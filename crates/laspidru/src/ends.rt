@@ -4,14 +4,14 @@ ghost use Rattle.std.specs.Prelude.{◌≡◌, ◌≢◌, IsOkAnd, None, Ok, Som
 ghost use Rattle.laspidru.specs.Codes.{IsAnswer, IsAnswerOrNoMemory, IsRefusedOr, OnRefused};
 ghost use Rattle.laspidru.specs.Codes.{and_then};
 ghost use Rattle.laspidru.specs.Ends.{IsHandled, IsHandledBy, IsState, IsTaken, agreed_encoding};
-ghost use Rattle.laspidru.specs.Ends.{as_end, as_framing, closed, deaf, handling_of, listening};
-ghost use Rattle.laspidru.specs.Ends.{party_phase, session_over, store_in};
+ghost use Rattle.laspidru.specs.Ends.{as_end, as_framing, closed, handling_of, listening};
+ghost use Rattle.laspidru.specs.Ends.{party_phase, store_in};
 ghost use Rattle.laspidru.specs.Framers.{IsBodyAnswer};
 ghost use Rattle.laspidru.specs.Objects.{IsCopy, in_handle, rest_asked};
 
 use crate::answers::{Answer, State, answer_of, reply_of};
 use crate::bytes::copy_from;
-use crate::codes::{ENDED, OK, OTHER_KIND, OUT_OF_MEMORY, WRONG_PHASE};
+use crate::codes::{ENDED, OK, OUT_OF_MEMORY, WRONG_PHASE};
 use crate::end::End;
 use crate::framer::copy_body;
 use crate::handle::{Handle, with_object};
@@ -72,35 +72,19 @@ fn phase_of_party(party: &Party) -> (u32, u32)
     }
 }
 
-/// Returns the code of a server that handles no message in this phase.
-fn ended_code(phase: Phase) -> Option<u32>
-    ensures { result ≡ session_over phase }
-{
-    match phase {
-        Phase::New | Phase::Running | Phase::Down => None,
-        Phase::Ended => Some(ENDED),
-    }
-}
-
-/// Returns the code of a client that handles no message in this phase.
-fn deaf_code(phase: ClientPhase) -> Option<u32>
-    ensures { result ≡ deaf phase }
-{
-    match phase {
-        ClientPhase::Asked | ClientPhase::Ready | ClientPhase::Closing | ClientPhase::Closed => {
-            None
-        }
-        ClientPhase::New | ClientPhase::Done | ClientPhase::Failed(_) => Some(WRONG_PHASE),
-    }
-}
-
 /// Returns the code of an end that handles no message in its phase.
 fn closed_code(party: &Party) -> Option<u32>
     ensures { result ≡ closed party.now }
 {
     match party {
-        Party::Server(server) => ended_code(server.phase()),
-        Party::Client(client) => deaf_code(client.phase()),
+        Party::Server(server) => match server.phase() {
+            Phase::New | Phase::Running | Phase::Down => None,
+            Phase::Ended => Some(ENDED),
+        },
+        Party::Client(client) => match client.phase() {
+            ClientPhase::New | ClientPhase::Done | ClientPhase::Failed(_) => Some(WRONG_PHASE),
+            _ => None,
+        },
     }
 }
 
@@ -139,20 +123,6 @@ fn handled(
     }
 }
 
-/// Passes a body to an object's end.
-#[tactic(auto, using(crate::proofs::Bodies::handled_in))]
-fn object_deliver(alloc: Global, object: &mut Object, body: &[u8], out: &mut Answer) -> u32
-    ensures answer { IsRefusedOr (as_end object.old) result (λ held.
-        IsAnswerOrNoMemory (handling_of held.party body.now) result
-        (IsHandled held result (Some object.new) out.new)) }
-    ensures unchanged { result ≢ OK → (object.new ≡ object.old) × (out.new ≡ out.old) }
-{
-    let Object::End(held) = object else {
-        return OTHER_KIND;
-    };
-    handled(alloc, &mut held.party, body, &mut held.frame, out)
-}
-
 /// Handles the body of a message of the other end (LSP 3.17, Base Protocol). The answer is that of
 /// `Server::handle`, or of `Client::deliver`, and the end keeps the frame that is to be sent
 /// until the next message or call.
@@ -160,6 +130,7 @@ fn object_deliver(alloc: Global, object: &mut Object, body: &[u8], out: &mut Ans
 /// Codes, in this order: EMPTY, OTHER_KIND; ENDED of a server, WRONG_PHASE of a client;
 /// OUT_OF_MEMORY, after which the body may be passed again. Costs `Server::handle`, or
 /// `Client::deliver`.
+#[tactic(auto, using(crate::proofs::Bodies::handled_in))]
 #[unsafe(no_mangle)]
 pub extern "C" fn laspidru_deliver(
     alloc: Global,
@@ -173,8 +144,8 @@ pub extern "C" fn laspidru_deliver(
     ensures unchanged { result ≢ OK
         → (handle.new.value ≡ handle.old.value) × (out.new ≡ out.old) }
 {
-    with_object!(handle, alloc, |object| {
-        object_deliver(alloc, &mut object, body, out)
+    with_object!(handle, alloc, mut Object::End(held) => {
+        handled(alloc, &mut held.party, body, &mut held.frame, out)
     })
 }
 
@@ -198,30 +169,6 @@ fn take(alloc: Global, held: &mut End, piece: &[u8], taken: &mut Taken, out: &mu
     OK
 }
 
-/// Takes bytes of a piece by an object's end.
-#[tactic(auto, using(crate::proofs::Bodies::taken_in, crate::proofs::Bodies::unrefused))]
-fn object_take(
-    alloc: Global,
-    object: &mut Object,
-    piece: &[u8],
-    taken: &mut Taken,
-    out: &mut Answer,
-) -> u32
-    ensures answer { IsRefusedOr (listening (as_end object.old)) result (λ held.
-        IsOkAnd (as_end object.new) (λ new.
-        IsTaken held piece.now result new taken.new out.old out.new)) }
-    ensures unchanged { OnRefused (listening (as_end object.old))
-        ((object.new ≡ object.old) × (taken.new ≡ taken.old) × (out.new ≡ out.old)) }
-{
-    let Object::End(held) = object else {
-        return OTHER_KIND;
-    };
-    if let Some(code) = closed_code(&held.party) {
-        return code;
-    }
-    take(alloc, held, piece, taken, out)
-}
-
 /// Takes bytes of the next piece of an end's stream: all of them, or those up to the end of one
 /// message, and handles that message (LSP 3.17, Base Protocol). `taken` is what
 /// `laspidru_framer_feed` writes. Once the message is whole, `out` is the answer of
@@ -231,6 +178,7 @@ fn object_take(
 /// change nothing. Then FAILED; OUT_OF_MEMORY, or BAD_FRAME. After OUT_OF_MEMORY a message may be
 /// whole and not handled: the next call handles it. Costs a pass over the bytes taken, their copy,
 /// and `laspidru_deliver`.
+#[tactic(auto, using(crate::proofs::Bodies::taken_in, crate::proofs::Bodies::unrefused))]
 #[unsafe(no_mangle)]
 pub extern "C" fn laspidru_take(
     alloc: Global,
@@ -245,8 +193,9 @@ pub extern "C" fn laspidru_take(
     ensures unchanged { OnRefused (listening (in_handle as_end handle.old.value))
         ((handle.new.value ≡ handle.old.value) × (taken.new ≡ taken.old) × (out.new ≡ out.old)) }
 {
-    with_object!(handle, alloc, |object| {
-        object_take(alloc, &mut object, piece, taken, out)
+    with_object!(handle, alloc, mut Object::End(held) => match closed_code(&held.party) {
+        Some(code) => code,
+        None => take(alloc, held, piece, taken, out),
     })
 }
 
@@ -275,11 +224,12 @@ pub extern "C" fn laspidru_body(
     ensures handle { handle.new.value ≡ handle.old.value }
     ensures unchanged { result ≢ OK → (out.new ≡ out.old) × (copied.new ≡ copied.old) }
 {
-    with_object!(handle, alloc, |object| match &*object {
+    with_object!(
+        handle,
+        alloc,
         Object::Framer(framer) => copy_body(framer, start, out, copied),
         Object::End(held) => end_body(held, start, out, copied),
-        _ => OTHER_KIND,
-    })
+    )
 }
 
 /// Copies the bytes of the frame to send from `start` on, as many as `out` has room for, and

@@ -10,7 +10,7 @@ ghost use Rattle.laspidru.specs.Streams.{framing_of};
 
 use crate::answers::limits_of;
 use crate::bytes::copy_from;
-use crate::codes::{BAD_FRAME, IN_USE, NO_MESSAGE, OK, OTHER_KIND, or_return};
+use crate::codes::{BAD_FRAME, NO_MESSAGE, OK, or_return};
 use crate::handle::{Handle, with_object};
 use crate::object::Object;
 use crate::taken::{Taken, feed};
@@ -26,9 +26,7 @@ pub extern "C" fn laspidru_framer_new(alloc: Global, handle: &mut Handle, max_bo
         (result ≡ OK) × (handle.new.value ≡ Some (FramerOf (framing_of limits)))) }
     ensures unchanged { result ≢ OK → handle.new.value ≡ handle.old.value }
 {
-    if handle.is_full(alloc) {
-        return IN_USE;
-    }
+    or_return!(handle.check_empty(alloc));
     let limits = or_return!(limits_of(
         max_body,
         Limits::DEFAULT_TEXT,
@@ -37,20 +35,6 @@ pub extern "C" fn laspidru_framer_new(alloc: Global, handle: &mut Handle, max_bo
         false,
     ));
     handle.fill(alloc, Object::Framer(Framer::new(alloc, limits)))
-}
-
-/// Feeds a piece of a stream to an object's framer.
-fn object_feed(object: &mut Object, piece: &[u8], out: &mut Taken) -> u32
-    ensures answer { IsRefusedOr (as_framer object.old) result
-        (λ framing. IsOkAnd (as_framer object.new)
-        (λ new. IsPieceFed framing piece.now result new out.new)) }
-    ensures unchanged { result ≢ OK → result ≢ BAD_FRAME
-        → (object.new ≡ object.old) × (out.new ≡ out.old) }
-{
-    let Object::Framer(framer) = object else {
-        return OTHER_KIND;
-    };
-    feed(framer, piece, out)
 }
 
 /// Takes bytes of the next piece of a stream: all of them, or those up to the end of one message
@@ -71,9 +55,7 @@ pub extern "C" fn laspidru_framer_feed(
     ensures unchanged { result ≢ OK → result ≢ BAD_FRAME
         → (handle.new.value ≡ handle.old.value) × (out.new ≡ out.old) }
 {
-    with_object!(handle, alloc, |object| {
-        object_feed(&mut object, piece, out)
-    })
+    with_object!(handle, alloc, mut Object::Framer(framer) => feed(framer, piece, out))
 }
 
 /// Copies the body that a framer has buffered.
@@ -87,19 +69,6 @@ pub(crate) fn copy_body(framer: &Framer, start: usize, out: &mut [u8], copied: &
     copy_from(body, start, out, copied)
 }
 
-/// Releases the message that an object's framer has buffered.
-fn object_next(object: &mut Object) -> u32
-    ensures answer { IsAnswer (as_framer object.old) result
-        (λ framing. IsOkAnd (as_framer object.new) (λ new. IsReleased framing new)) }
-    ensures unchanged { result ≢ OK → object.new ≡ object.old }
-{
-    let Object::Framer(framer) = object else {
-        return OTHER_KIND;
-    };
-    framer.next();
-    OK
-}
-
 /// Releases the buffered message, so that the next one is taken. Does nothing if no whole message
 /// is buffered. Codes, in this order: EMPTY, OTHER_KIND. Takes no memory.
 #[unsafe(no_mangle)]
@@ -108,7 +77,10 @@ pub extern "C" fn laspidru_framer_next(alloc: Global, handle: &mut Handle) -> u3
         (λ framing. IsOkAnd (in_handle as_framer handle.new.value) (IsReleased framing)) }
     ensures unchanged { result ≢ OK → handle.new.value ≡ handle.old.value }
 {
-    with_object!(handle, alloc, |object| object_next(&mut object))
+    with_object!(handle, alloc, mut Object::Framer(framer) => {
+        framer.next();
+        OK
+    })
 }
 
 /// Returns whether no byte of a message is buffered and no fault was found, so that the stream may

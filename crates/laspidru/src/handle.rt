@@ -1,11 +1,13 @@
 //! A handle: room for an object that C holds.
 
-ghost use Rattle.std.specs.Prelude.{◌≡◌, ◌≢◌, ◌⊎◌, Option, Some, None, IsSome, option_map};
+ghost use Rattle.std.specs.Prelude.{◌≡◌, ◌≢◌, ◌⊎◌, Option, Some, None, IfErr, IsSome, OnOk};
+ghost use Rattle.std.specs.Prelude.{option_map};
 ghost use Rattle.std.specs.Option.{is_some};
 ghost use Rattle.laspidru.specs.declared.object.Object.{Object as StoredObject};
 ghost use Rattle.laspidru.specs.inside.Stored.{object_if};
+ghost use Rattle.laspidru.specs.Objects.{in_use};
 
-use crate::codes::{OK, OUT_OF_MEMORY};
+use crate::codes::{IN_USE, OK, OUT_OF_MEMORY};
 use crate::object::Object;
 use crate::raw_box::RawBox;
 use std::alloc::Global;
@@ -14,8 +16,9 @@ use std::mem::replace;
 use std::ptr::null_mut;
 
 /// Takes the object out of a handle, computes a code with it, and puts it back. The code of an empty
-/// handle is EMPTY, and that of an object that the pattern doesn't match is OTHER_KIND. It is no
-/// closure, since a proof doesn't know what a closure that isn't called leaves of `out`.
+/// handle is EMPTY, and that of an object that no pattern matches is OTHER_KIND. With `mut` the code
+/// may change the object. It is no closure, since a proof doesn't know what a closure that isn't
+/// called leaves of `out`.
 macro_rules! with_object {
     ($handle:ident, $alloc:ident, |$object:ident| $code:expr) => {{
         let Some(mut $object) = $handle.take($alloc) else {
@@ -25,9 +28,15 @@ macro_rules! with_object {
         $handle.put($object);
         code
     }};
-    ($handle:ident, $alloc:ident, $kind:pat => $code:expr) => {
-        $crate::handle::with_object!($handle, $alloc, |object| match &*object {
+    ($handle:ident, $alloc:ident, mut $kind:pat => $code:expr) => {
+        $crate::handle::with_object!($handle, $alloc, |object| match &mut *object {
             $kind => $code,
+            _ => $crate::codes::OTHER_KIND,
+        })
+    };
+    ($handle:ident, $alloc:ident, $($kind:pat => $code:expr),+ $(,)?) => {
+        $crate::handle::with_object!($handle, $alloc, |object| match &*object {
+            $($kind => $code,)+
             _ => $crate::codes::OTHER_KIND,
         })
     };
@@ -122,16 +131,17 @@ impl Handle {
         }
     }
 
-    /// Returns whether it has an object.
-    pub(crate) fn is_full(&mut self, alloc: Global) -> bool
-        ensures full { result ≡ is_some self.old.value }
+    /// Returns the code of a handle that has an object already.
+    pub(crate) fn check_empty(&mut self, alloc: Global) -> Result<(), u32>
+        ensures ok { OnOk result (self.old.value ≡ None) }
+        ensures error { IfErr result (λ code. in_use self.old.value ≡ Some code) }
         ensures unchanged { self.new.value ≡ self.old.value }
     {
         let Some(object) = self.take(alloc) else {
-            return false;
+            return Ok(());
         };
         self.put(object);
-        true
+        Err(IN_USE)
     }
 
     /// Puts an object into an empty handle, unless out of memory.

@@ -20,8 +20,8 @@
 //!   in it; `end`: an end in it, with its last frame and its `stream`; `party`: which end it is.
 //! - `codes`: the codes that the functions return, and `laws` their numbers; `structs`: the plain
 //!   structs that C passes and gets.
-//! - `changes`: a batch as C passes it, and the report of its fault; `bytes`: bytes that C passes
-//!   or gets; `positions`: positions, byte offsets and lines of a text.
+//! - `changes`: edits that C passes, and the report of a change's fault; `bytes`: bytes that C
+//!   passes or gets; `positions`: positions, byte offsets and lines of a text.
 //! - `answers`: a server's settings, and what C gets of an end; `reports`: a client's; `taken`:
 //!   what is taken of a stream; `endings`: the settings of a command on a log, and its ending.
 //! - `command`: the commands over bytes; `log_reader`: a log in memory, as a command reads it;
@@ -59,6 +59,7 @@ mod taken;
 mod texts;
 
 pub use answers::{Answer, Opened, Settings, State};
+pub use changes::Passed;
 pub use client::Call;
 pub use codes::{
     ALREADY_OPEN, BAD_ENCODING, BAD_FRAME, BAD_LENGTH, BAD_LOG, BAD_MAX_BODY, BAD_MAX_CHANGES,

@@ -9,7 +9,7 @@ ghost use Rattle.laspidru.specs.Objects.{IsCopy, in_handle, in_use, rest_asked};
 mod compared;
 
 use crate::bytes::{checked_text, copy_from};
-use crate::codes::{IN_USE, OK, OUT_OF_MEMORY, OUT_OF_RANGE, or_return};
+use crate::codes::{OK, OUT_OF_MEMORY, OUT_OF_RANGE, or_return};
 use crate::command::{Command, CommandName, CommandRun, command_named, command_of, run_command};
 use crate::endings::{Ending, LogSettings, ending_of, log_settings_of};
 use crate::handle::{Handle, with_object};
@@ -108,9 +108,7 @@ pub extern "C" fn laspidru_log_run(
     ensures unchanged { IsUnlessEnded result
         ((handle.new.value ≡ handle.old.value) × (out.new ≡ out.old)) }
 {
-    if handle.is_full(alloc) {
-        return IN_USE;
-    }
+    or_return!(handle.check_empty(alloc));
     let Some(name) = command_named(command) else {
         return OUT_OF_RANGE;
     };

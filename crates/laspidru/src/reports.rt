@@ -2,8 +2,7 @@
 
 ghost use Rattle.std.specs.Prelude.{◌≡◌, ◌≢◌};
 ghost use Rattle.lsp_client.specs.Seen.{delivered_view};
-ghost use Rattle.laspidru.specs.Servers.{store_code};
-ghost use Rattle.laspidru.specs.Clients.{IsStoreReport, delivered_out, phase_numbers};
+ghost use Rattle.laspidru.specs.Clients.{delivered_out, phase_numbers};
 ghost use Rattle.laspidru.specs.Clients.{reason_number, sent_frame};
 ghost use Rattle.laspidru.specs.Ends.{encoding_number, server_phase};
 ghost use Rattle.laspidru.specs.inside.Clients.{IsCallReport, call_code};
@@ -46,19 +45,6 @@ pub(crate) fn call_code_of(fault: ClientFault) -> u32
     }
 }
 
-/// Returns the code of a refusal of the documents. A faulty change is written to `out`; else it
-/// stays as it is.
-pub(crate) fn report_store(fault: StoreFault, out: &mut FaultAt) -> u32
-    ensures code { result ≡ store_code fault }
-    ensures report { IsStoreReport fault out.new }
-    ensures unchanged { result ≢ INSIDE_CHARACTER → result ≢ REVERSED_RANGE → out.new ≡ out.old }
-{
-    match fault {
-        StoreFault::Edit(fault) => report_change(fault, out),
-        _ => store_code_of(fault),
-    }
-}
-
 /// Returns the code of a refused call. A faulty change is written to `out`; else it stays as it is.
 pub(crate) fn report_call(fault: ClientFault, out: &mut FaultAt) -> u32
     ensures code { result ≡ call_code fault }
@@ -66,8 +52,8 @@ pub(crate) fn report_call(fault: ClientFault, out: &mut FaultAt) -> u32
     ensures unchanged { result ≢ INSIDE_CHARACTER → result ≢ REVERSED_RANGE → out.new ≡ out.old }
 {
     match fault {
-        ClientFault::Store(fault) => report_store(fault, out),
-        ClientFault::WrongPhase { .. } | ClientFault::NoMemory => call_code_of(fault),
+        ClientFault::Store(StoreFault::Edit(fault)) => report_change(fault, out),
+        _ => call_code_of(fault),
     }
 }
 

@@ -7,7 +7,7 @@ ghost use Rattle.laspidru.specs.Objects.{in_use};
 ghost use Rattle.laspidru.specs.Servers.{config_asked, server_end};
 
 use crate::answers::{Settings, config_of};
-use crate::codes::{IN_USE, OK, or_return};
+use crate::codes::{OK, or_return};
 use crate::end::End;
 use crate::handle::Handle;
 use crate::object::Object;
@@ -29,9 +29,7 @@ pub extern "C" fn laspidru_server_new(
         (result ≡ OK) × (handle.new.value ≡ Some (EndOf (server_end config)))) }
     ensures unchanged { result ≢ OK → handle.new.value ≡ handle.old.value }
 {
-    if handle.is_full(alloc) {
-        return IN_USE;
-    }
+    or_return!(handle.check_empty(alloc));
     let config = or_return!(config_of(settings));
     let limits = config.limits;
     let held = End {

@@ -3,7 +3,7 @@
 ghost use Rattle.std.specs.Prelude.{◌≡◌, ◌<◌, ◌-◌, ◌++◌, IfOk, IfSome, OnOk, length, map, option_map, suc};
 ghost use Rattle.std.specs.Option.{unwrap_or};
 ghost use Rattle.line_diff.specs.Common.{are_equal};
-ghost use Rattle.line_diff.specs.Hunks.{gap_within, hunks_of, next_gap, pair_in, unless_empty};
+ghost use Rattle.line_diff.specs.Hunks.{hunks_of, next_gap, pair_in, unless_empty};
 
 use crate::lines::line_at;
 use std::alloc::{AllocError, Global};
@@ -53,14 +53,15 @@ fn pair_in(count: usize, lines: &[&str], others: &[&str]) -> Option<usize>
 }
 
 /// Returns what comes before the nearest line that is common to both texts, if this is fewer lines
-/// than a limit.
-fn gap_within(farthest: usize, lines: &[&str], others: &[&str]) -> Option<Gap>
-    ensures value { result ≡ gap_within farthest (map (λ line. line.now) lines.entry.now)
+/// than a limit. Looks no farther than both texts go.
+fn next_gap(farthest: usize, lines: &[&str], others: &[&str]) -> Option<Gap>
+    ensures value { result ≡ next_gap farthest (map (λ line. line.now) lines.entry.now)
         (map (λ line. line.now) others.entry.now) }
     ensures within { IfSome result (λ gap. (gap.lines < length lines.now)
         × (gap.others < length others.now)) }
 {
-    for sum in 0..farthest {
+    let most = farthest.min(lines.len() + others.len());
+    for sum in 0..most {
         if let Some(first) = pair_in(sum + 1, lines, others) {
             return Some(Gap {
                 lines: first,
@@ -69,16 +70,6 @@ fn gap_within(farthest: usize, lines: &[&str], others: &[&str]) -> Option<Gap>
         }
     }
     None
-}
-
-/// Returns the same, and looks no farther than both texts go.
-fn next_gap(farthest: usize, lines: &[&str], others: &[&str]) -> Option<Gap>
-    ensures value { result ≡ next_gap farthest (map (λ line. line.now) lines.entry.now)
-        (map (λ line. line.now) others.entry.now) }
-    ensures within { IfSome result (λ gap. (gap.lines < length lines.now)
-        × (gap.others < length others.now)) }
-{
-    gap_within(farthest.min(lines.len() + others.len()), lines, others)
 }
 
 /// Appends a hunk, unless no line is in it.

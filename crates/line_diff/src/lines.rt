@@ -45,8 +45,5 @@ pub(crate) fn line_at<'a>(lines: &[&'a str], index: usize) -> Option<&'a str>
     ensures { option_map (λ line. line.now) result
         ≡ slice_get (map (λ line. line.now) lines.entry.now) index }
 {
-    match lines.get(index) {
-        Some(line) => Some(*line),
-        None => None,
-    }
+    lines.get(index).copied()
 }

@@ -114,20 +114,14 @@ impl<'a> Numbers<'a> {
 pub fn row_at<'a>(rows: &[&'a [u64]], index: usize) -> &'a [u64]
     ensures { result.now ≡ row_at (map (λ row. row.now) rows.entry.now) index }
 {
-    match rows.get(index) {
-        Some(row) => *row,
-        None => &[],
-    }
+    rows.get(index).copied().unwrap_or(&[])
 }
 
 /// Returns a number, or 0 where there is none.
 pub fn number_at(numbers: &[u64], index: usize) -> u64
     ensures { result ≡ number_at numbers.now index }
 {
-    match numbers.get(index) {
-        Some(number) => *number,
-        None => 0,
-    }
+    numbers.get(index).copied().unwrap_or(0)
 }
 
 /// Returns the greatest of a number and others.

@@ -2,7 +2,7 @@
 
 ghost use Rattle.std.specs.Prelude.{◌≡◌, ◌++◌, ◌-◌, IfOk, OnOk, decimal, flat_map, map};
 ghost use Rattle.line_diff.specs.Lines.{lines_of};
-ghost use Rattle.line_diff.specs.Report.{alike_words, alone_words, difference_words, ends_words, file_line, file_line_at, first_end_words};
+ghost use Rattle.line_diff.specs.Report.{alike_words, alone_words, ends_words, file_line, file_line_at, first_end_words};
 ghost use Rattle.line_diff.specs.Report.{hunk_head, hunk_words, judgement, last_maker_words, line_makers, maker_words, missing_words};
 ghost use Rattle.line_diff.specs.Report.{later_number, number_words, other_for, own_line, own_line_at};
 ghost use Rattle.line_diff.specs.Report.{report_of, text_at, words_from};
@@ -43,10 +43,7 @@ pub(crate) fn push_number(buffer: &mut Vec<u8>, number: u64) -> Result<(), Alloc
 fn text_at<'a>(lines: &[&'a str], index: usize) -> &'a str
     ensures { result.now ≡ text_at (map (λ line. line.now) lines.entry.now) index }
 {
-    match line_at(lines, index) {
-        Some(line) => line,
-        None => "",
-    }
+    line_at(lines, index).unwrap_or("")
 }
 
 /// Writes the later ones of several numbers.
@@ -257,33 +254,6 @@ impl<'a> Sides<'a> {
     }
 }
 
-/// Writes how a text and a file differ, line by line.
-fn push_differences(
-    alloc: Global,
-    buffer: &mut Vec<u8>,
-    text: &str,
-    numbers: Numbers<'_>,
-    file: &str,
-) -> Result<(), AllocError>
-    ensures { OnOk result (buffer.new.items ≡ buffer.old.items
-        ++ difference_words numbers.entry.owners.now numbers.entry.places.now (lines_of text.now)
-        (lines_of file.now)) }
-{
-    let lines = lines_of(alloc, text)?;
-    let others = lines_of(alloc, file)?;
-    let rows = numbers.rows(alloc, &lines)?;
-    let found = hunks_of(alloc, FARTHEST, &lines, &others)?;
-    push_words(buffer, "not the file's:\n")?;
-    let sides = Sides {
-        rows,
-        lines,
-        others,
-    };
-    sides.push_hunks(buffer, &found)?;
-    push_words(buffer, LAST_WORDS)?;
-    Ok(())
-}
-
 /// Writes what one of both has alone.
 fn push_alone(
     buffer: &mut Vec<u8>,
@@ -364,7 +334,7 @@ fn push_alike(
     Ok(())
 }
 
-/// Writes whether a text is a file's, and else how they differ.
+/// Writes whether a text is a file's, and else how they differ: if they aren't alike, line by line.
 #[tactic(auto, unfolding(crate::specs::Report::judgement))]
 fn push_judgement(
     alloc: Global,
@@ -382,7 +352,19 @@ fn push_judgement(
     if are_alike(alloc, text.as_bytes(), file.as_bytes())? {
         return push_alike(buffer, text.as_bytes(), numbers.owners, file.as_bytes());
     }
-    push_differences(alloc, buffer, text, numbers, file)
+    let lines = lines_of(alloc, text)?;
+    let others = lines_of(alloc, file)?;
+    let rows = numbers.rows(alloc, &lines)?;
+    let found = hunks_of(alloc, FARTHEST, &lines, &others)?;
+    push_words(buffer, "not the file's:\n")?;
+    let sides = Sides {
+        rows,
+        lines,
+        others,
+    };
+    sides.push_hunks(buffer, &found)?;
+    push_words(buffer, LAST_WORDS)?;
+    Ok(())
 }
 
 /// Writes whether a text, whose bytes and places have these numbers, is a file's after the change of

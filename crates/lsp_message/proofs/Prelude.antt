@@ -45,7 +45,7 @@ pub use Rattle.lsp_message.specs.inside.Message.{answer_of, call_of, outcome_of,
 pub use Rattle.lsp_message.specs.inside.Params.{content_changes_in}
 pub use Rattle.lsp_message.specs.inside.Reading.{items_at, members_at, rest_of, value_at}
 pub use Rattle.lsp_message.specs.inside.Scalars.{kept, kept_number, number_data}
-pub use Rattle.lsp_message.specs.inside.Tokens.{Appends, range_tokens, tokens_of}
+pub use Rattle.lsp_message.specs.inside.Tokens.{Appends, joined, member_tokens, tokens_of}
 pub use Rattle.lsp_message.specs.laws.Messages.{IdLaw, IsIdOf, IsTwo, MessageRows, NamedLaw, NamesRequest, NotificationLaw, RefusalLaw, RefusedRows, error_of, id_of, method_of, params_of, result_of, version_of}
 pub use Rattle.lsp_message.specs.laws.Sent.{IsProper, IsProperChange, IsProperDocument, IsProperEdit, IsProperId, IsProperPosition, IsProperRange, IsReadBack, sent}
 pub use Rattle.lsp_text.specs.declared.encoding.Encoding.{Encoding}

@@ -1,5 +1,5 @@
 -- Tokens that are written one after another.
-use Rattle.lsp_message.proofs.Prelude.{◌≡◌, ℤ, pos, negsuc, List, [], ◌∷◌, ◌++◌, map, Option, Some, None, refl, sym, ap, ◌∙◌, append_assoc, on_ok_weaker, signed_decimal, flat_map, Result, Ok, OnOk, Token, items_tokens, members_tokens, Data, Members, of_integer, items_of, number_text, items_outline, members_outline, Range, range_before, Appends, tokens_of, range_tokens}
+use Rattle.lsp_message.proofs.Prelude.{◌≡◌, ℤ, pos, negsuc, List, [], ◌∷◌, ◌++◌, map, refl, sym, ap, ◌∙◌, append_assoc, on_ok_weaker, signed_decimal, flat_map, Result, Ok, OnOk, Token, items_tokens, members_tokens, Data, Members, no_members, member, of_integer, items_of, number_text, items_outline, members_outline, Appends, joined, member_tokens, tokens_of}
 use Rattle.json.specs.Written.{Written, Writes}
 use Rattle.json.specs.Token as token
 
@@ -26,16 +26,23 @@ pub integer_text : (n : ℤ) → number_text (of_integer n) ≡ signed_decimal n
 integer_text (pos n) = refl
 integer_text (negsuc n) = refl
 
--- the range of a change is its first member, where it has one
-pub range_first : (r : Option Range) (rest : Members) → members_tokens (members_outline (range_before r rest))
-    ≡ range_tokens r ++ members_tokens (members_outline rest)
-range_first None rest = refl
-range_first (Some r) rest = refl
+-- the tokens of joined members
+pub joined_tokens : (ms more : Members) → member_tokens (joined ms more) ≡ member_tokens ms ++ member_tokens more
+joined_tokens no_members more = refl
+joined_tokens (member name d ms) more =
+    ap (λ ts. token.key name ∷ (tokens_of d ++ ts)) (joined_tokens ms more)
+    ∙ sym (append_assoc (token.key name ∷ tokens_of d) (member_tokens ms) (member_tokens more))
+
+-- the tokens of an object's members, with the closing brace
+pub object_tokens : (ms : Members) → members_tokens (members_outline ms) ≡ member_tokens ms ++ token.end_object ∷ []
+object_tokens no_members = refl
+object_tokens (member name d ms) =
+    ap (λ ts. token.key name ∷ (tokens_of d ++ ts)) (object_tokens ms)
+    ∙ sym (append_assoc (token.key name ∷ tokens_of d) (member_tokens ms) (token.end_object ∷ []))
 
 -- the tokens of a list's items, with the closing bracket
-pub items_in_turn : {X Y : Type 0} (f : Y → Data) (g : X → Y) (xs : List X)
-    → items_tokens (items_outline (items_of (map f (map g xs)))) ≡ flat_map (λ x. tokens_of (f (g x))) xs
-    ++ token.end_array ∷ []
-items_in_turn f g [] = refl
-items_in_turn f g (x ∷ xs) = ap (λ ts. tokens_of (f (g x)) ++ ts) (items_in_turn f g xs)
-    ∙ sym (append_assoc (tokens_of (f (g x))) _ _)
+pub array_tokens : {X : Type 0} (f : X → Data) (xs : List X)
+    → items_tokens (items_outline (items_of (map f xs))) ≡ flat_map (λ x. tokens_of (f x)) xs ++ token.end_array ∷ []
+array_tokens f [] = refl
+array_tokens f (x ∷ xs) = ap (λ ts. tokens_of (f x) ++ ts) (array_tokens f xs)
+    ∙ sym (append_assoc (tokens_of (f x)) _ _)

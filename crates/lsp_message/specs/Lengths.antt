@@ -1,9 +1,20 @@
 -- What notes of a body go by: the `rangeLength` of its changes (LSP 3.17,
--- TextDocumentContentChangeEvent), or its params.
+-- TextDocumentContentChangeEvent), or the params of a `didSave`.
 use Rattle.std.specs.Prelude.{◌∷◌}
-use Rattle.lsp_message.specs.Prelude.{ℕ, List, [], Option, Some, None, codes, Data, Items, no_items, item}
+use Rattle.lsp_message.specs.Prelude.{ℕ, Bool, true, false, List, [], Option, Some, None, bytes_eq, codes, Data, Items, no_items, item}
+use Rattle.lsp_message.specs.Incoming.{IncomingData, did_change, other_notification}
 use Rattle.lsp_message.specs.Message.{Reading, message, notification}
 use Rattle.lsp_message.specs.Values.{array_in, member_at, natural_in}
+
+-- Is this the method of a document that was saved (LSP 3.17, DidSaveTextDocument Notification)?
+abbrev pub is_save : List ℕ → Bool
+is_save method = bytes_eq method (codes "textDocument/didSave")
+
+-- Do notes go by more of a message than what it asks?
+abbrev pub is_noted : IncomingData → Bool
+is_noted (did_change (Some change)) = true
+is_noted (other_notification method) = is_save method
+is_noted m = false
 
 -- That of each item of `contentChanges`, if it has one.
 abbrev pub lengths_in : Items → List (Option ℕ)

@@ -1,6 +1,6 @@
 -- The types of `src/` as the definitions see them: `x_view` is the data of an `x`.
 use Rattle.std.specs.Prelude.{◌≡◌, ◌≢◌, ◌<◌}
-use Rattle.lsp_message.specs.Prelude.{ℕ, ℤ, List, length, slice_index, map, option_map, string_bytes, view, Message, ReadFault, NotJson, NotAMessage, NoMemory}
+use Rattle.lsp_message.specs.Prelude.{ℕ, ℤ, Some, true, List, length, slice_index, map, option_map, string_bytes, view, Message, ReadFault, NotJson, NotAMessage, NoMemory}
 use Rattle.std.specs.Str.{IsUtf8}
 use Rattle.serde_json.specs.Errors.{IsMemory}
 use Rattle.serde_json.specs.declared.error.Error.{Error}
@@ -19,7 +19,7 @@ use Rattle.lsp_message.specs.declared.reader.incoming.Incoming.{Incoming}
 use Rattle.lsp_message.specs.declared.reader.incoming.Incoming.TheVariants as asked
 use Rattle.lsp_message.specs.declared.reader.noted.Noted.{Noted}
 use Rattle.lsp_message.specs.Incoming as incoming
-use Rattle.lsp_message.specs.Lengths.{lengths_of, notification_params}
+use Rattle.lsp_message.specs.Lengths.{is_save, lengths_of, notification_params}
 use Rattle.lsp_message.specs.Message as spec
 use Rattle.lsp_message.specs.Outgoing as out
 use Rattle.lsp_message.specs.Params.{DocumentItem, ContentChangeData, ChangeData, CloseData}
@@ -91,13 +91,15 @@ incoming_view (asked.DidChange params) = incoming.did_change (option_map change_
 incoming_view (asked.DidClose params) = incoming.did_close (option_map close_view params)
 incoming_view (asked.OtherNotification method) = incoming.other_notification (string_bytes method)
 
--- What was read of a body: what it asks, and what notes go by. The params are kept of
--- notifications of other methods.
+-- What was read of a body: what it asks, and what notes go by, of a change its lengths, and of a
+-- `didSave` its params.
 pub record IsNoted (body : spec.Reading) (m : Incoming) (noted : Noted) : Type 0 where
   pub asks : incoming_view m ≡ incoming.incoming_of body
-  pub lengths : noted.lengths.items ≡ lengths_of body
+  pub lengths : (change : ChangeData)
+      → incoming.incoming_of body ≡ incoming.did_change (Some change)
+      → noted.lengths.items ≡ lengths_of body
   pub params : (method : List ℕ) → incoming.incoming_of body ≡ incoming.other_notification method
-      → option_map view noted.params ≡ notification_params body
+      → is_save method ≡ true → option_map view noted.params ≡ notification_params body
 
 -- A message that is written, with its texts as bytes.
 abbrev pub outgoing_view : Outgoing → out.OutgoingData

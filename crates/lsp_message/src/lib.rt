@@ -7,7 +7,8 @@
 //! - `agreement`: what a client offers and what a server announces.
 //! - `outgoing`: the messages that are written, and the errors of replies.
 //! - `writer`: the canonical body of each of them, and its frame. `lifecycle` has the messages of a
-//!   session's lifecycle and the replies, `documents` those on documents.
+//!   session's lifecycle and the replies, `documents` those on documents; `value` and `object` have
+//!   what is written as JSON.
 //! - `members`: the members of a JSON object, moved out of it.
 //! - `laws`: what holds of bodies and messages by their definitions.
 #![tactic(auto)]

@@ -1,15 +1,14 @@
 //! Which message a body is (LSP 3.17, Base Protocol).
 
-ghost use Rattle.std.specs.Prelude.{◌≡◌, ◌↔◌, Some, IfOk, IfErr, IsErrAnd, IsTrue, MatchResult, codes, option_map, slice_index, string_bytes};
-ghost use Rattle.serde_json.specs.Find.{get_member};
-ghost use Rattle.serde_json.specs.View.{view, members_view};
+ghost use Rattle.std.specs.Prelude.{◌≡◌, ◌↔◌, Some, IfOk, IfErr, IsErrAnd, IsTrue, MatchResult, option_map, slice_index, string_bytes};
+ghost use Rattle.serde_json.specs.View.{view};
 ghost use Rattle.lsp_message.specs.Message.{reading, message, id_in, id_found, message_of, is_version_two};
 ghost use Rattle.lsp_message.specs.Seen.{id_view, message_view, IsReadFault, IsFaultOfError};
 ghost use Rattle.lsp_message.specs.inside.Message.{call_of, answer_of, outcome_of, reading_by};
 ghost use Rattle.lsp_message.specs.inside.Seen.{Answers};
 
 use crate::members::take;
-use serde_json::{Map, Value};
+use serde_json::Value;
 use std::alloc::Global;
 use thiserror::Error;
 
@@ -123,70 +122,30 @@ fn message_from(parsed: Result<Value, serde_json::Error>) -> Found
 fn message_of(value: Value) -> Found
     ensures { Answers result (message_of (view value)) }
 {
-    match value {
-        Value::Object(members) => message_by(Members::of(members)),
-        _ => Err(ReadFault::NotAMessage { id: None }),
-    }
+    let Value::Object(mut members) = value else {
+        return Err(ReadFault::NotAMessage { id: None });
+    };
+    let version = take(&mut members, "jsonrpc");
+    let method = take(&mut members, "method");
+    let id = take(&mut members, "id");
+    let params = take(&mut members, "params");
+    let error = take(&mut members, "error");
+    let outcome = take(&mut members, "result");
+    message_by(version, method, id, params, error, outcome)
 }
 
-/// The members of an object that decide which message it is.
-#[derive(Drop)]
-struct Members {
+fn message_by(
     version: Option<Value>,
     method: Option<Value>,
     id: Option<Value>,
     params: Option<Value>,
     error: Option<Value>,
     outcome: Option<Value>,
-}
-
-impl Members {
-    fn of(mut members: Map<String, Value>) -> Self
-        ensures version { option_map view result.version
-            ≡ get_member (codes "jsonrpc") (members_view members.entries) }
-        ensures method { option_map view result.method
-            ≡ get_member (codes "method") (members_view members.entries) }
-        ensures id { option_map view result.id
-            ≡ get_member (codes "id") (members_view members.entries) }
-        ensures params { option_map view result.params
-            ≡ get_member (codes "params") (members_view members.entries) }
-        ensures error { option_map view result.error
-            ≡ get_member (codes "error") (members_view members.entries) }
-        ensures outcome { option_map view result.outcome
-            ≡ get_member (codes "result") (members_view members.entries) }
-    {
-        let version = take(&mut members, "jsonrpc");
-        let method = take(&mut members, "method");
-        let id = take(&mut members, "id");
-        let params = take(&mut members, "params");
-        let error = take(&mut members, "error");
-        let outcome = take(&mut members, "result");
-        Members {
-            version,
-            method,
-            id,
-            params,
-            error,
-            outcome,
-        }
-    }
-}
-
-fn message_by(members: Members) -> Found
+) -> Found
     ensures { Answers result
-        (reading_by (option_map view members.version) (option_map view members.method)
-        (option_map view members.id)
-        (option_map view members.params) (option_map view members.error)
-        (option_map view members.outcome)) }
+        (reading_by (option_map view version) (option_map view method) (option_map view id)
+        (option_map view params) (option_map view error) (option_map view outcome)) }
 {
-    let Members {
-        version,
-        method,
-        id,
-        params,
-        error,
-        outcome,
-    } = members;
     if !is_version_two(version.as_ref()) {
         return Err(ReadFault::NotAMessage { id: id_found(id) });
     }

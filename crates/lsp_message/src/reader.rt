@@ -1,7 +1,7 @@
 //! Reads what a body asks of a language server, in one pass over the tokens of its JSON.
 //!
-//! No tree is built, but for `initialize`, and by [`Incoming::read_noted`] where the body is no
-//! keystroke: the members that the protocol names are kept, and all others are skipped. The result
+//! No tree is built, but for `initialize`, and by [`Incoming::read_noted`] of a change that is no
+//! keystroke and of a `didSave`: the members that the protocol names are kept, and all others are skipped. The result
 //! is what `specs/Incoming.antt` defines for the value that `serde_json` reads, for each body.
 //!
 //! ```text

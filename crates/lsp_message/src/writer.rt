@@ -4,23 +4,26 @@
 //! text of `serde_json` is proved.
 
 ghost use Rattle.std.specs.Prelude.{◌≡◌, ◌++◌, IfOk, OnErr, OnOk};
+ghost use Rattle.serde_json.specs.Written.{compact_text};
 ghost use Rattle.lsp_frame.specs.Frame.{frame};
 ghost use Rattle.lsp_message.specs.Outgoing as spec;
 ghost use Rattle.lsp_message.specs.Written as values;
 ghost use Rattle.lsp_message.specs.laws.Sent.{IsProper, IsReadAsSent, IsReadBack};
 ghost use Rattle.lsp_message.specs.Seen.{did_change_of, outgoing_view};
-ghost use Rattle.lsp_message.specs.inside.Tokens.{Appends, tokens_of};
 
 mod documents;
 mod lifecycle;
-mod members;
+mod object;
+mod value;
 
 use crate::outgoing::Outgoing;
-use crate::writer::documents::{write_change, write_close, write_document, write_open};
+use crate::writer::documents::{DidChange, TextDocumentItem};
 use crate::writer::lifecycle::{
-    write_error_reply, write_exit, write_initialize, write_initialize_result, write_initialized,
-    write_shutdown, write_shutdown_result,
+    VERSION, write_error_reply, write_initialize, write_initialize_result, write_notification,
+    write_response,
 };
+use crate::writer::object::{Member, Object};
+use crate::writer::value::WriteValue;
 use json::Writer;
 use lsp_edit::Change;
 use lsp_frame::frame;
@@ -44,9 +47,9 @@ pub fn write(alloc: Global, message: &Outgoing) -> Result<Vec<u8>, AllocError>
     ensures unique { (m n : spec.OutgoingData) → IsProper m → IsProper n
         → spec.body_of m ≡ spec.body_of n → m ≡ n }
 {
-    let mut writer = Writer::new(Vec::with_capacity(alloc, USUAL_LENGTH)?);
-    write_message(&mut writer, message)?;
-    Ok(writer.into_inner())
+    let mut body = Vec::with_capacity(alloc, USUAL_LENGTH)?;
+    push(&mut body, message)?;
+    Ok(body)
 }
 
 /// Appends the body of a `textDocument/didChange`, whose URI and changes are borrowed.
@@ -67,15 +70,12 @@ pub fn push_change(
     ensures unique { (m n : spec.OutgoingData) → IsProper m → IsProper n
         → spec.body_of m ≡ spec.body_of n → m ≡ n }
 {
-    let alloc = *bytes.allocator();
-    let len = bytes.len();
-    let mut writer = Writer::new(mem::replace(bytes, Vec::new(alloc)));
-    let written = write_change(&mut writer, uri, version, changes);
-    *bytes = writer.into_inner();
-    if written.is_err() {
-        bytes.truncate(len);
-    }
-    written
+    let message = DidChange {
+        uri,
+        version,
+        changes,
+    };
+    push(bytes, &message)
 }
 
 /// Appends the object of a document, compact: a `TextDocumentItem` (LSP 3.17, TextDocumentItem)
@@ -94,15 +94,13 @@ pub fn push_document(
         (record { uri = uri.now; language = language.now; version = version; text = text.now })) }
     ensures unchanged { OnErr result (bytes.new.items ≡ bytes.old.items) }
 {
-    let alloc = *bytes.allocator();
-    let len = bytes.len();
-    let mut writer = Writer::new(mem::replace(bytes, Vec::new(alloc)));
-    let written = write_document(&mut writer, uri, language, version, text);
-    *bytes = writer.into_inner();
-    if written.is_err() {
-        bytes.truncate(len);
-    }
-    written
+    let document = TextDocumentItem {
+        uri,
+        language,
+        version,
+        text,
+    };
+    push(bytes, &document)
 }
 
 /// Returns the frame of a message (LSP 3.17, Base Protocol): the body of [`write`] after its
@@ -117,24 +115,64 @@ pub fn message_frame(alloc: Global, message: &Outgoing) -> Result<Vec<u8>, Alloc
     frame(alloc, &body)
 }
 
-fn write_message(writer: &mut Writer, message: &Outgoing) -> Result<(), AllocError>
-    ensures { OnOk result
-        (Appends writer.old writer.new (tokens_of (values.value_of (outgoing_view message.now)))) }
+/// Appends the compact text of a value.
+///
+/// Fails only where memory runs out, and then the bytes are unchanged.
+fn push<V: WriteValue>(bytes: &mut Vec<u8>, value: &V) -> Result<(), AllocError>
+    ensures ok { OnOk result
+        (bytes.new.items ≡ bytes.old.items ++ compact_text (V.value value.now)) }
+    ensures unchanged { OnErr result (bytes.new.items ≡ bytes.old.items) }
 {
-    match message {
-        Outgoing::Initialize(offers) => write_initialize(writer, *offers),
-        Outgoing::Initialized => write_initialized(writer),
-        Outgoing::DidOpen(params) => write_open(writer, params),
-        Outgoing::DidChange(params) => {
-            write_change(writer, params.uri.as_str(), params.version, &params.changes)
+    let alloc = *bytes.allocator();
+    let len = bytes.len();
+    let mut writer = Writer::new(mem::replace(bytes, Vec::new(alloc)));
+    let written = value.write(&mut writer);
+    *bytes = writer.into_inner();
+    if written.is_err() {
+        bytes.truncate(len);
+    }
+    written
+}
+
+impl WriteValue for Outgoing {
+    ghost value = { λ message. values.value_of (outgoing_view message) };
+
+    fn write(&self, writer: &mut Writer) -> Result<(), AllocError> {
+        match self {
+            Outgoing::Initialize(offers) => write_initialize(writer, *offers),
+            Outgoing::Initialized => write_notification(writer, "initialized", Object(())),
+            Outgoing::DidOpen(params) => {
+                let document = TextDocumentItem {
+                    uri: params.uri.as_str(),
+                    language: params.language.as_str(),
+                    version: params.version,
+                    text: params.text.as_str(),
+                };
+                let params = Object(Member("textDocument", document));
+                write_notification(writer, "textDocument/didOpen", params)
+            }
+            Outgoing::DidChange(params) => {
+                let message = DidChange {
+                    uri: params.uri.as_str(),
+                    version: params.version,
+                    changes: &params.changes,
+                };
+                message.write(writer)
+            }
+            Outgoing::DidClose(params) => {
+                let document = Object(Member("uri", params.uri.as_str()));
+                let params = Object(Member("textDocument", document));
+                write_notification(writer, "textDocument/didClose", params)
+            }
+            Outgoing::Shutdown => {
+                Object((Member("id", 2_u32), VERSION, Member("method", "shutdown"))).write(writer)
+            }
+            Outgoing::Exit => Object((VERSION, Member("method", "exit"))).write(writer),
+            Outgoing::InitializeResult { id, encoding, kind } => {
+                write_initialize_result(writer, id, *encoding, *kind)
+            }
+            Outgoing::ShutdownResult { id } => write_response(writer, id, ()),
+            Outgoing::ErrorReply { id, error } => write_error_reply(writer, id.as_ref(), *error),
         }
-        Outgoing::DidClose(params) => write_close(writer, params),
-        Outgoing::Shutdown => write_shutdown(writer),
-        Outgoing::Exit => write_exit(writer),
-        Outgoing::InitializeResult { id, encoding, kind } => {
-            write_initialize_result(writer, id, *encoding, *kind)
-        }
-        Outgoing::ShutdownResult { id } => write_shutdown_result(writer, id),
-        Outgoing::ErrorReply { id, error } => write_error_reply(writer, id.as_ref(), *error),
     }
 }

@@ -62,7 +62,7 @@ pub use Rattle.lsp_log.specs.declared.record.Version.TheVariants.{One, Two}
 pub use Rattle.lsp_log.specs.declared.splitter.Splitter.{Splitter}
 pub use Rattle.lsp_log.specs.laws.Logs.{BufferedLaw, FirstLaw, IsFirstOf, RestLaw, VersionLaw}
 pub use Rattle.lsp_message.proofs.ReadBack.{body_of-unique, is_read_back, reading-body_of}
-pub use Rattle.lsp_message.specs.Lengths.{lengths_of, notification_params}
+pub use Rattle.lsp_message.specs.Lengths.{is_save, lengths_of, notification_params}
 pub use Rattle.lsp_message.specs.Message.{IdData, MessageData, OutcomeData, Reading, id_in, json_of, message_of, reading, text, whole}
 pub use Rattle.lsp_message.specs.Outgoing.{OutgoingData, body_of, document_text, error_reply, initialize_result}
 pub use Rattle.lsp_message.specs.Params.{ChangeData, CloseData, ContentChangeData, DocumentItem, change_by, change_of, close_by, close_of, content_change_in, document_and_changes, document_in, open_by, open_of, version_from, version_in}

@@ -1,7 +1,7 @@
 -- `check --explain`: a line of `check` for each record, with the reason where it was refused and
 -- the notes where it is suspicious; at the end what came how often, and what to do next.
 use Rattle.std.specs.Prelude.{◌==◌, ◌&&◌, ◌||◌, ◌∷◌, ◌++◌, if◌then◌else◌}
-use Rattle.lsp_replay.specs.Prelude.{ℕ, Bool, false, not, List, [], Option, Some, None, codes, decimal, LimitsData, notification_params, reading, ChangeData, IncomingData, incoming_of, other_notification, Sender, Record, Settings, Listing, Note, Data}
+use Rattle.lsp_replay.specs.Prelude.{ℕ, Bool, false, not, List, [], Option, Some, None, codes, decimal, LimitsData, is_save, notification_params, reading, ChangeData, IncomingData, incoming_of, other_notification, Sender, Record, Settings, Listing, Note, Data}
 use Rattle.lsp_log.specs.declared.record.Sender.TheVariants.{Client}
 use Rattle.lsp_replay.specs.RunOutput.{RunOutput}
 use Rattle.lsp_replay.specs.Commands.{change_in, log_config, output_in, verdict_word}
@@ -43,9 +43,9 @@ explanation limits uri change seen (answered answer) = if is_refused answer then
     ++ renamed_words seen.renamed ++ see_words seen.last else []
 explanation limits uri change seen verdict = []
 
--- The document whose text was saved, of an editor's message that isn't about the documents.
+-- The document whose text was saved, of an editor's message.
 abbrev pub saved_in : Sender → IncomingData → Option Data → Option (List ℕ)
-saved_in Client (other_notification method) params = saved_uri params
+saved_in Client (other_notification method) params = if is_save method then saved_uri params else None
 saved_in side m params = None
 
 -- The document that notes are about: the record's, or that of the text that was saved.
@@ -83,10 +83,8 @@ listed_line listing limits number uri noted change seen verdict notes =
 
 -- What is known of the document of a record.
 abbrev pub seen_in : Known → Option (List ℕ) → Verdict → Seen
-seen_in known uri verdict = record {
-  renamed = is_renamed known uri verdict;
-  last = last_in known uri verdict;
-}
+seen_in known uri verdict =
+    record { renamed = is_renamed known uri verdict; last = last_in known uri verdict }
 
 -- A line of `check --explain`, from what is known of the records before, the session before the
 -- record and the judgement of it. `m` is what the record's body asks.

@@ -1,7 +1,7 @@
 -- What of a message that wasn't refused is suspicious: its notes, and their words.
 -- These are ASCII, with no quotation mark and no backslash.
 use Rattle.std.specs.Prelude.{◌&&◌, ◌||◌, ◌==◌, ◌++◌, if◌then◌else◌, ◌∷◌}
-use Rattle.lsp_replay.specs.Prelude.{ℕ, ℤ, suc, Bool, true, false, not, nat_lt, int_le, length, map, slice_get, slice_range, sum_by, encode_utf8_all, List, [], Option, Some, None, option_and_then, option_map, Result, Ok, Err, codes, decimal, flat_map, signed_decimal, bytes_eq, chars, Data, units_in, Utf16, Utf32, Position, Range, ContentChange, Fault, meaning, ends_of, Side, Start, Stop, announced_of, IdData, reading, DocumentItem, ChangeData, Announced, lengths_of, notification_params, entry_at, greatest_batch, changed, ignored, IncomingData, did_open, did_change, other_notification, incoming_of, ServerData, content_change_from_data, session_encoding, one_more, Sender, Note}
+use Rattle.lsp_replay.specs.Prelude.{ℕ, ℤ, suc, Bool, true, false, not, nat_lt, int_le, length, map, slice_get, slice_range, sum_by, encode_utf8_all, List, [], Option, Some, None, option_and_then, option_map, Result, Ok, Err, codes, decimal, flat_map, signed_decimal, bytes_eq, chars, Data, units_in, Utf16, Utf32, Position, Range, ContentChange, Fault, meaning, ends_of, Side, Start, Stop, announced_of, IdData, reading, DocumentItem, ChangeData, Announced, is_save, lengths_of, notification_params, entry_at, greatest_batch, changed, ignored, IncomingData, did_open, did_change, other_notification, incoming_of, ServerData, content_change_from_data, session_encoding, one_more, Sender, Note}
 use Rattle.std.specs.Result.{result_ok}
 use Rattle.line_diff.specs.Lines.{ends_line}
 use Rattle.lsp_text.specs.Positions.{denoted, exact_position}
@@ -184,16 +184,13 @@ saved_notes entry saved = []
 -- The notes of a notification with this method that isn't about the documents. Of a `didSave` of
 -- an open document with the text "abc" the text "abc" has none, "abX" has one.
 abbrev pub saving_notes : List DocumentItem → List ℕ → Option Data → List Note
-saving_notes table method params = if bytes_eq method (codes "textDocument/didSave") then
+saving_notes table method params = if is_save method then
     saved_notes (option_and_then (entry_at table) (saved_uri params)) (saved_text params) else []
 
 -- What the notes of changes go by, in the encoding of the session.
 abbrev pub terms_in : ServerData → Bool → List (Option ℕ) → Terms
-terms_in s ranged lengths = record {
-  units = units_in (session_encoding s);
-  lengths = lengths;
-  ranged = ranged;
-}
+terms_in s ranged lengths =
+    record { units = units_in (session_encoding s); lengths = lengths; ranged = ranged }
 
 -- What there is to note of a message on the documents before it, unless it is refused, by the
 -- `rangeLength` of its changes or its params. `ranged`: did the server ask for ranges?

@@ -20,7 +20,7 @@ pub use Rattle.lsp_log.specs.declared.record.Sender.{Sender}
 pub use Rattle.lsp_log.specs.declared.record.Version.{Version}
 pub use Rattle.lsp_log.specs.declared.record.Version.TheVariants.{Two}
 pub use Rattle.lsp_message.specs.Agreement.{announced_of}
-pub use Rattle.lsp_message.specs.Lengths.{lengths_of, notification_params}
+pub use Rattle.lsp_message.specs.Lengths.{is_save, lengths_of, notification_params}
 pub use Rattle.lsp_message.specs.Message.{IdData, Reading, reading, text, whole}
 pub use Rattle.lsp_message.specs.Params.{ChangeData, ContentChangeData, DocumentItem}
 pub use Rattle.lsp_message.specs.Seen.{IsNoted, change_view}

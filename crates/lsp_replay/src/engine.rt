@@ -10,7 +10,7 @@ ghost use Rattle.lsp_stream.specs.Ports.{ports};
 ghost use Rattle.lsp_stream.specs.Turns.{AppendsFront, AppendsShort, WritesFew, WritesWithin};
 ghost use Rattle.lsp_stream.specs.inside.Turns.{LeavesFlushed};
 ghost use Rattle.lsp_log.specs.Log.{LogRules, Record};
-ghost use Rattle.lsp_log.specs.Splitting.{IsFed, IsReady};
+ghost use Rattle.lsp_log.specs.Splitting.{IsReady};
 ghost use Rattle.lsp_log.specs.laws.Logs.{VersionLaw, FirstLaw};
 ghost use Rattle.lsp_replay.specs.RunOutput.{RunOutput};
 ghost use Rattle.lsp_replay.specs.Engine.{WroteRecords};
@@ -49,53 +49,8 @@ fn accept(version: Version, refuses_two: bool) -> Result<(), EngineFault>
     }
 }
 
-/// Hands the buffered record to the handler, if it is complete, writes its output, and releases it.
-fn take_record<W: Sink, H: Handler>(
-    splitter: &mut Splitter,
-    handler: &mut H,
-    writer: &mut W,
-    buffer: &mut Vec<u8>,
-    flushes: bool,
-    turns: &mut Turns,
-) -> Result<Option<Outcome>, EngineFault>
-    requires { IsFed splitter.old }
-    ensures ready { OnOk result (IsReady splitter.new) }
-    ensures version { splitter.new.version ≡ splitter.old.version }
-    ensures progress { IfOk result
-        (λ end. (log_rules : LogRules) (run_output : List Record → RunOutput)
-        (received : Option (List ℕ)) (input more : List ℕ) →
-        IsProgress log_rules run_output received input more splitter.old (H.run_output handler.old)
-        (W.seen writer.old).written →
-        MatchOption end
-        (IsProgress log_rules run_output received input more splitter.new (H.run_output handler.new)
-        (W.seen writer.new).written)
-        (λ outcome. Stopped log_rules run_output input received (W.seen writer.new).written
-        (Ok outcome))) }
-    ensures error { IfErr result
-        (λ fault. (log_rules : LogRules) (run_output : List Record → RunOutput)
-        (received : Option (List ℕ)) (input more : List ℕ) →
-        IsProgress log_rules run_output received input more splitter.old (H.run_output handler.old)
-        (W.seen writer.old).written →
-        IsPieceFault log_rules run_output (flushes && not (W.seen writer.new).flushed) input
-        received (W.seen writer.new).written fault) }
-    ensures calls { WritesWithin turns.old.left turns.new.left
-        (W.seen writer.old) (W.seen writer.new) result }
-    ensures all_flushed { LeavesFlushed flushes (W.seen writer.old) (W.seen writer.new) result }
-    ensures few { WritesFew (W.seen writer.old) (W.seen writer.new) result }
-{
-    reading_laws();
-    let Some(found) = splitter.record() else {
-        return Ok(None);
-    };
-    buffer.clear();
-    let given = handler.handle(&found, buffer)?;
-    let output = given.output.bytes(found.raw, buffer);
-    write_given(writer, output, flushes, turns)?;
-    splitter.next();
-    Ok(given.end)
-}
-
-/// Handles the records that become complete with the bytes of a piece, up to one that ends the run.
+/// Hands each record that becomes complete with the bytes of a piece to the handler, up to one that
+/// ends the run, and writes its output before it goes on.
 fn take_piece<W: Sink, H: Handler>(
     splitter: &mut Splitter,
     handler: &mut H,
@@ -130,10 +85,19 @@ fn take_piece<W: Sink, H: Handler>(
     ensures all_flushed { LeavesFlushed flushes (W.seen writer.old) (W.seen writer.new) result }
     ensures few { WritesFew (W.seen writer.old) (W.seen writer.new) result }
 {
+    reading_laws();
     let mut at = 0;
     'bytes: while at < piece.len() {
         at += splitter.feed(&piece[at..])?;
-        if let Some(outcome) = take_record(splitter, handler, writer, buffer, flushes, turns)? {
+        let Some(found) = splitter.record() else {
+            continue;
+        };
+        buffer.clear();
+        let given = handler.handle(&found, buffer)?;
+        let output = given.output.bytes(found.raw, buffer);
+        write_given(writer, output, flushes, turns)?;
+        splitter.next();
+        if let Some(outcome) = given.end {
             return Ok(Some(outcome));
         }
     }

@@ -1,11 +1,11 @@
 //! What the loop writes for the records of a log and for its end.
 
-ghost use Rattle.std.specs.Prelude.{◌≡◌, ◌<◌, ◌++◌, ◌∷◌, ◌⊎◌, [], ℕ, List, None, false, IfOk, IfErr, MatchOption};
+ghost use Rattle.std.specs.Prelude.{◌≡◌, [], ℕ, List, None, IfOk, IfErr};
 ghost use Rattle.lsp_frame.specs.Frame.{IsFrameOf};
 ghost use Rattle.lsp_log.specs.Log as log;
 ghost use Rattle.lsp_log.specs.Splitting.{record_of};
-ghost use Rattle.lsp_replay.specs.RunOutput.{RunOutput, stopped};
-ghost use Rattle.lsp_replay.specs.inside.RunOutput.{IsQuiet, after, output_of, IsRecordFault};
+ghost use Rattle.lsp_replay.specs.RunOutput.{RunOutput};
+ghost use Rattle.lsp_replay.specs.inside.RunOutput.{IsFaultAt, IsGiven, IsLastPart, IsQuiet, output_of};
 
 use crate::outcome::Outcome;
 use lsp_log::Record;
@@ -74,27 +74,17 @@ pub trait Handler {
         requires is_frame_of { (max_body : ℕ)
             × IsFrameOf max_body item.now.raw.now item.now.body.now }
         requires empty { buffer.old.items ≡ [] }
-        ensures ok { IfOk result (λ given. (more : List log.Record) →
-            run_output self.old (record_of item.now ∷ more)
-            ≡ after (output_of given.output item.now.raw.now buffer.new.items) given.end
-            (run_output self.new more)) }
-        ensures error { IfErr result
-            (λ fault. (fault ≡ EngineFault.NoMemory)
-            ⊎ (IsRecordFault fault × ((more : List log.Record) →
-            run_output self.old (record_of item.now ∷ more) ≡ stopped [] (Err fault)))) };
+        ensures ok { IfOk result (IsGiven (run_output self.old) (run_output self.new)
+            (record_of item.now) buffer.new.items) }
+        ensures error { IfErr result (IsFaultAt (run_output self.old) (record_of item.now)) };
 
     /// Writes a part of the output at the end of the input into `buffer`; with the last part it
     /// returns the outcome. `line_due` says whether it is the first part, and the input a log of
     /// version 2 without records.
     fn finish(&mut self, line_due: bool, buffer: &mut Vec<u8>) -> Finished
         requires { buffer.old.items ≡ [] }
-        ensures ok { IfOk result (λ end. MatchOption end
-            (((run_output self.old []).last line_due
-            ≡ buffer.new.items ++ (run_output self.new []).last false)
-            × ((run_output self.new []).outcome ≡ (run_output self.old []).outcome)
-            × (parts self.new < parts self.old))
-            (λ outcome. ((run_output self.old []).last line_due ≡ buffer.new.items)
-            × (outcome ≡ (run_output self.old []).outcome))) }
+        ensures ok { IfOk result (IsLastPart (run_output self.old []) (run_output self.new [])
+            (parts self.old) (parts self.new) line_due buffer.new.items) }
         ensures error { IfErr result (λ fault. fault ≡ EngineFault.NoMemory) };
 
     // Without records nothing is written, and nothing ends the run.

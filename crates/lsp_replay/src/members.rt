@@ -1,6 +1,6 @@
 //! What a line of JSON is put together from.
 
-ghost use Rattle.std.specs.Prelude.{◌≡◌, ◌++◌, OnOk, decimal, option_map};
+ghost use Rattle.std.specs.Prelude.{◌≡◌, ◌++◌, [], if◌then◌else◌, OnOk, decimal, option_map};
 ghost use Rattle.std.specs.Fmt.{signed_decimal};
 ghost use Rattle.lsp_replay.specs.Trace.{json_string, member};
 
@@ -57,4 +57,15 @@ pub fn push_words(buffer: &mut Vec<u8>, words: &str) -> Result<(), AllocError>
     ensures { OnOk result (buffer.new.items ≡ buffer.old.items ++ words.now) }
 {
     buffer.extend_from_slice(words.as_bytes())
+}
+
+/// Writes words, if something holds.
+pub fn push_if(buffer: &mut Vec<u8>, holds: bool, words: &str) -> Result<(), AllocError>
+    ensures { OnOk result
+        (buffer.new.items ≡ buffer.old.items ++ (if holds then words.now else [])) }
+{
+    if holds {
+        push_words(buffer, words)?;
+    }
+    Ok(())
 }

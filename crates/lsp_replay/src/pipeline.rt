@@ -49,8 +49,8 @@ impl<P: Printer> Pipeline<P> {
     /// left out.
     fn admit(&mut self, head: Head, read: &RecordBody<'_>) -> Result<Option<Head>, AllocError>
         ensures admitted { IfOk result (λ written. (body : List ℕ) → IsReadOf head body read.now
-            → IsAdmitted (P.reached self.old.printer) self.old.selection self.new.selection head
-            body written) }
+            → IsAdmitted (P.state self.old.printer).session self.old.selection self.new.selection
+            head body written) }
         ensures printer { self.new.printer ≡ self.old.printer }
     {
         match &mut self.selection {
@@ -74,12 +74,13 @@ impl<P: Printer> Pipeline<P> {
 }
 
 impl<P: Printer> Handler for Pipeline<P> {
-    ghost run_output = { λ p. piped p.selection (P.run_output p.printer) (P.reached p.printer) };
+    ghost run_output = { λ p.
+        piped p.selection (P.state p.printer).run_output (P.state p.printer).session };
 
     ghost parts = { λ p. P.parts p.printer };
 
-    ghost quiet = { λ p. piped_quiet p.selection (P.run_output p.printer) (P.reached p.printer)
-        (P.quiet p.printer) };
+    ghost quiet = { λ p. piped_quiet p.selection (P.state p.printer).run_output
+        (P.state p.printer).session (P.state p.printer).quiet };
 
     fn handle(&mut self, item: &Record<'_>, buffer: &mut Vec<u8>) -> Printed {
         let read = RecordBody::read(
@@ -113,14 +114,14 @@ pub fn run<R: Source, W: Sink, P: Printer + Drop>(
     max_turns: u64,
 ) -> Result<Outcome, EngineFault>
     ensures run { IsLoopRun (reading_by rules)
-        (piped selection (P.run_output printer) (P.reached printer)) false max_turns
+        (piped selection (P.state printer).run_output (P.state printer).session) false max_turns
         (ports (R.seen reader.old) (W.seen writer.old))
         (ports (R.seen reader.new) (W.seen writer.new)) result }
     // Where the end has one part, what is written when memory runs out is the output of records,
     // each whole.
     ensures whole { ((p : P) → P.parts p ≡ 0) → result ≡ Err EngineFault.NoMemory →
         WroteRecords (reading_by rules)
-        (piped selection (P.run_output printer) (P.reached printer))
+        (piped selection (P.state printer).run_output (P.state printer).session)
         (R.seen reader.old).left (R.seen reader.new).left
         (W.seen writer.old).written (W.seen writer.new).written }
     // What its callers take from `lsp_log`.
@@ -130,34 +131,4 @@ pub fn run<R: Source, W: Sink, P: Printer + Drop>(
     let mut ends = Duplex::new(reader, writer);
     let mut pipeline = Pipeline::new(alloc, printer, selection);
     run_on(alloc, &mut ends, &mut pipeline, rules, false, max_turns)
-}
-
-/// Runs a command over both ends of a connection. All that it writes is flushed before more is read.
-pub fn run_live<R: Source, W: Sink, P: Printer + Drop>(
-    alloc: Global,
-    ends: &mut Duplex<'_, R, W>,
-    printer: P,
-    rules: InputRules,
-    max_turns: u64,
-) -> Result<Outcome, EngineFault>
-    ensures run { IsLoopRun (reading_by rules) (P.run_output printer) true max_turns
-        (ports (R.seen ends.old.reader.now) (W.seen ends.old.writer.now))
-        (ports (R.seen ends.new.reader.now) (W.seen ends.new.writer.now)) result }
-    // Where the end has one part, what is written when memory runs out is the output of records,
-    // each whole.
-    ensures whole { ((p : P) → P.parts p ≡ 0) → result ≡ Err EngineFault.NoMemory →
-        WroteRecords (reading_by rules) (P.run_output printer)
-        (R.seen ends.old.reader.now).left (R.seen ends.new.reader.now).left
-        (W.seen ends.old.writer.now).written (W.seen ends.new.writer.now).written }
-    // No read came before all that was written was flushed.
-    ensures in_time { (W.seen ends.old.writer.now).flushed ≡ true →
-        ends.new.read_early ≡ ends.old.read_early }
-    ensures same_reader { ends.new.reader.ghost_name ≡ ends.old.reader.ghost_name }
-    ensures same_writer { ends.new.writer.ghost_name ≡ ends.old.writer.ghost_name }
-    // What its callers take from `lsp_log`.
-    ensures version { VersionLaw }
-    ensures first { FirstLaw }
-{
-    let mut pipeline = Pipeline::new(alloc, printer, None);
-    run_on(alloc, ends, &mut pipeline, rules, true, max_turns)
 }

@@ -84,7 +84,7 @@ impl<'a> RecordBody<'a> {
     {
         match head.side {
             Sender::Client if notes => {
-                let (incoming, noted) = Incoming::read_noted(alloc, body)?;
+                let (incoming, noted) = Incoming::read_noted(alloc, body, scratch)?;
                 Ok(RecordBody::Client(head.version, incoming, noted))
             }
             Sender::Client => {

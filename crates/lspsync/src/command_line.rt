@@ -9,9 +9,9 @@
 ghost use Rattle.std.specs.Prelude.{◌≡◌, ◌≢◌, ◌||◌, codes, true, false};
 ghost use Rattle.std.specs.Prelude.{IfOk, IfSome, IsSome, map, option_map};
 ghost use Rattle.std.specs.String.{string_bytes};
-ghost use Rattle.lspsync.specs.Call.{AreDetails, AreSettings, AreWordsReadAs};
-ghost use Rattle.lspsync.specs.Call.{IsCallNamed, IsConfig, IsExplained, IsFound, IsListing};
-ghost use Rattle.lspsync.specs.Call.{IsLogPart, encoding_given, ending_given, saved_given};
+ghost use Rattle.lspsync.specs.Call.{AreSettings, AreWordsReadAs, IsCallNamed, IsConfig};
+ghost use Rattle.lspsync.specs.Call.{IsExplained, IsFound, IsLogPart, encoding_given};
+ghost use Rattle.lspsync.specs.Call.{ending_given, saved_given};
 ghost use Rattle.lspsync.specs.Loaded.{with_text};
 ghost use Rattle.lspsync.specs.Call.{file_named, files_given, is_whole, sync_given};
 
@@ -209,9 +209,13 @@ fn check_call(options: &ArgMatches<'_>) -> Option<Call>
     let settings = settings_of(options, false)?;
     let live = options.get_flag("live");
     if is_explained(options) {
+        let listing = Listing {
+            brief: options.get_flag("brief"),
+            all: options.get_flag("all"),
+        };
         return Some(Call::Explain {
             settings,
-            listing: listing_of(options),
+            listing,
             live,
         });
     }
@@ -235,26 +239,20 @@ fn is_any(explain: bool, brief: bool, all: bool) -> bool
     explain || brief || all
 }
 
-/// Returns which records `check` has lines of, and with which notes.
-fn listing_of(options: &ArgMatches<'_>) -> Listing
-    ensures { IsListing options.now result }
-{
-    Listing {
-        brief: options.get_flag("brief"),
-        all: options.get_flag("all"),
-    }
-}
-
 /// Returns the call of `trace`.
 fn trace_call(options: &ArgMatches<'_>) -> Option<Call>
     ensures some { IfSome result (IsCallNamed (codes "trace") options.now) }
     ensures none { (call : Call) → IsCallNamed (codes "trace") options.now call → IsSome result }
 {
     let settings = settings_of(options, false)?;
+    let details = Details {
+        texts: options.get_flag("texts"),
+        bodies: options.get_flag("bodies"),
+    };
     let live = options.get_flag("live");
     Some(Call::Trace {
         settings,
-        details: details_of(options),
+        details,
         live,
     })
 }
@@ -292,10 +290,7 @@ fn compare_call(alloc: Global, options: &ArgMatches<'_>) -> Result<Option<Call>,
     ensures none { IfOk result (λ found. (call : Call) →
         IsCallNamed (codes "compare") options.now call → IsSome found) }
 {
-    let Some(settings) = settings_of(options, false) else {
-        return Ok(None);
-    };
-    let Some(ending) = ending_of(options) else {
+    let (Some(settings), Some(ending)) = (settings_of(options, false), ending_of(options)) else {
         return Ok(None);
     };
     let against = Against {
@@ -339,16 +334,6 @@ fn part_of(alloc: Global, options: &ArgMatches<'_>) -> Result<Part, AllocError>
         None => None,
     };
     Ok(Part { at, uri })
-}
-
-/// Returns what `trace` is to write of each record.
-fn details_of(options: &ArgMatches<'_>) -> Details
-    ensures { AreDetails options.now result }
-{
-    Details {
-        texts: options.get_flag("texts"),
-        bodies: options.get_flag("bodies"),
-    }
 }
 
 fn config_of(options: &ArgMatches<'_>) -> Option<Config>

@@ -4,7 +4,6 @@
 //! - `run`: the program over any reader, folder and writers; the engines are those of `lsp_replay`.
 //! - `files`: files of logs, by their names.
 //! - `ends`: how a run ends, and what is said of it.
-//! - `live`: the commands that may flush what they print before more is read.
 //! - `command_line`: the words that the program is called with.
 //! - `fault_text`: the text of a fault's line, and its cause.
 //! - `beginning`: what a file that is no log seems to be.
@@ -21,7 +20,6 @@ mod encodings;
 mod ends;
 mod fault_text;
 mod files;
-mod live;
 mod openings;
 mod process;
 mod reached;

@@ -15,13 +15,13 @@ ghost use Rattle.lspsync.specs.Run.{answer_after_flush, engine_of, shown_name};
 use crate::command_line::{Call, Task, parse};
 use crate::ends::{Ending, both, end_well, report};
 use crate::files::{Folder, LogFile, end_file, read_text, unreadable};
-use crate::live::{run_check, run_explain, run_trace};
 use crate::wanted::wanted_by;
 use clap::error as clap_error;
 use lsp_program::{MAX_TURNS, USAGE, flush, print, print_text};
 use lsp_replay::{
-    Comparison, EngineFault, Outcome, Sink, Source, Told, compare, convert, normalise,
-    normalise_documents, replay, replay_part, serve,
+    Comparison, Duplex, EngineFault, Outcome, Sink, Source, Told, check, check_live, compare,
+    convert, explain, explain_live, normalise, normalise_documents, replay, replay_part, serve,
+    trace, trace_live,
 };
 use std::alloc::Global;
 
@@ -207,6 +207,18 @@ fn answer_with(
     }
 }
 
+/// Runs an engine. If it is live it flushes what it prints before it reads more.
+macro_rules! run_lines {
+    ($live:ident, $run:ident, $run_live:ident
+    => $alloc:ident, $input:ident, $output:ident, $($setting:ident),+) => {{
+        if $live {
+            let mut ends = Duplex::new($input, $output);
+            return $run_live($alloc, &mut ends, $($setting,)+ MAX_TURNS);
+        }
+        $run($alloc, $input, $output, $($setting,)+ MAX_TURNS)
+    }};
+}
+
 /// Runs the engine that a call names.
 fn obey<R: Source, W: Sink>(
     alloc: Global,
@@ -220,17 +232,19 @@ fn obey<R: Source, W: Sink>(
 {
     match call {
         Call::Serve(config) => serve(alloc, input, output, config, MAX_TURNS),
-        Call::Check { settings, live } => run_check(alloc, input, output, settings, live),
+        Call::Check { settings, live } => {
+            run_lines!(live, check, check_live => alloc, input, output, settings)
+        }
         Call::Explain {
             settings,
             listing,
             live,
-        } => run_explain(alloc, input, output, settings, listing, live),
+        } => run_lines!(live, explain, explain_live => alloc, input, output, settings, listing),
         Call::Trace {
             settings,
             details,
             live,
-        } => run_trace(alloc, input, output, settings, details, live),
+        } => run_lines!(live, trace, trace_live => alloc, input, output, settings, details),
         Call::Replay(settings) => replay(alloc, input, output, settings, MAX_TURNS),
         Call::ReplayPart(settings, part) => {
             replay_part(alloc, input, output, settings, part, MAX_TURNS)

@@ -1,13 +1,12 @@
 -- The calls of a client, and of a refused call its code and what is written of it.
-use Rattle.std.specs.Prelude.{◌≡◌}
-use Rattle.laspidru.specs.Prelude.{ℕ, None, Call, starts, shuts_down, closes, orders, ClientFault, OUT_OF_MEMORY, WRONG_PHASE, FaultAt}
+use Rattle.laspidru.specs.Prelude.{ℕ, Call, starts, shuts_down, closes, edits, orders, ClientFault, OUT_OF_MEMORY, WRONG_PHASE, FaultAt}
 use Rattle.lsp_client.specs.Step.{exits}
 use Rattle.lsp_client.specs.declared.fault.ClientFault.TheVariants as client
 use Rattle.laspidru.specs.declared.client.call.Call.{Call as Made}
 use Rattle.laspidru.specs.declared.client.call.Call.TheVariants.{Start, Shutdown, Exit, Open, Edit, Close}
-use Rattle.laspidru.specs.Clients.{IsStoreReport, edit_asked, open_asked}
+use Rattle.laspidru.specs.Clients.{IsStoreReport, open_asked}
 use Rattle.laspidru.specs.Servers.{store_code}
-use Rattle.laspidru.specs.Edits.{refused_edit}
+use Rattle.laspidru.specs.inside.Passed.{changes_in}
 
 -- A call as the client has it.
 abbrev pub call_made : Made → Call
@@ -16,14 +15,8 @@ call_made Shutdown = shuts_down
 call_made Exit = exits
 call_made (Open uri language version text) =
     orders (open_asked uri.now language.now version text.now)
-call_made (Edit uri version edits texts) =
-    orders (edit_asked uri.now version edits.now texts.now)
+call_made (Edit uri version passed) = orders (edits uri.now version (changes_in passed))
 call_made (Close uri) = orders (closes uri.now)
-
--- The edits of a call have their texts.
-abbrev pub IsChecked : Made → Type 0
-IsChecked (Edit uri version edits texts) = refused_edit edits.now texts.now ≡ None
-IsChecked other = Unit {0}
 
 -- The code of a refused call.
 abbrev pub call_code : ClientFault → ℕ

@@ -1,32 +1,32 @@
 //! A call of a client.
 
-ghost use Rattle.std.specs.Prelude.{◌≡◌, ◌≢◌, IfErr, IfOk, None, OnErr, Some, string_bytes};
+ghost use Rattle.std.specs.Prelude.{◌≡◌, ◌≢◌, IfErr, IfOk, OnErr, string_bytes};
 ghost use Rattle.lsp_client.specs.Seen.{IsFaultOf, IsSent};
-ghost use Rattle.lsp_client.specs.Step.{call_result, orders};
-ghost use Rattle.laspidru.specs.Edits.{refused_edit};
-ghost use Rattle.laspidru.specs.Clients.{IsCallOn, IsWritten, as_client, edit_asked, open_asked};
+ghost use Rattle.lsp_client.specs.Step.{call_result, edits, orders};
+ghost use Rattle.laspidru.specs.Clients.{IsCallOn, IsWritten, as_client, open_asked};
 ghost use Rattle.laspidru.specs.Codes.{IsRefusedOr};
-ghost use Rattle.laspidru.specs.inside.Clients.{IsChecked, call_made};
+ghost use Rattle.laspidru.specs.inside.Clients.{call_made};
+ghost use Rattle.laspidru.specs.inside.Passed.{changes_in};
 ghost use Rattle.laspidru.specs.Objects.{in_handle};
 
-use crate::changes::changes_of;
+use crate::changes::Passed;
 use crate::codes::{INSIDE_CHARACTER, OK, OTHER_KIND, REVERSED_RANGE};
 use crate::handle::{Handle, with_object};
 use crate::object::Object;
 use crate::party::Party;
 use crate::reports::report_call;
-use crate::structs::{Edit, FaultAt};
+use crate::structs::FaultAt;
 use lsp_client::{Client, ClientFault, Phase};
 use std::alloc::{AllocError, Global};
 
-/// A call of a client. An edit is of a URI, to a version, by edits that have their texts.
+/// A call of a client. An edit is of a URI, to a version.
 #[derive(Clone, Copy)]
 pub enum Call<'a> {
     Start,
     Shutdown,
     Exit,
     Open(&'a str, &'a str, i32, &'a str),
-    Edit(&'a str, i32, &'a [Edit], &'a [u8]),
+    Edit(&'a str, i32, Passed<'a>),
     Close(&'a str),
 }
 
@@ -81,20 +81,17 @@ fn edited(
     client: &mut Client,
     uri: &str,
     version: i32,
-    edits: &[Edit],
-    texts: &[u8],
+    passed: Passed<'_>,
 ) -> Result<Vec<u8>, ClientFault>
-    requires { refused_edit edits.now texts.now ≡ None }
-    ensures ok { IfOk result (λ frame.
-        IsSent (call_result client.old (orders (edit_asked uri.now version edits.now texts.now)))
-        frame.items client.new) }
+    ensures ok { let order = edits uri.now version (changes_in passed.entry) in
+        IfOk result (λ frame. IsSent (call_result client.old (orders order)) frame.items client.new) }
     ensures unchanged { OnErr result (client.new ≡ client.old) }
-    ensures error { IfErr result (IsFaultOf (call_result client.old
-        (orders (edit_asked uri.now version edits.now texts.now)))) }
+    ensures error { let order = edits uri.now version (changes_in passed.entry) in
+        IfErr result (IsFaultOf (call_result client.old (orders order))) }
 {
     match client.phase() {
         Phase::Ready => {
-            let changes = changes_of(alloc, edits, texts)?;
+            let changes = passed.changes(alloc)?;
             client.edit(uri, version, &changes)
         }
         phase => Err(ClientFault::WrongPhase { phase }),
@@ -103,7 +100,6 @@ fn edited(
 
 /// Makes a call.
 fn called(alloc: Global, client: &mut Client, call: Call<'_>) -> Result<Vec<u8>, ClientFault>
-    requires { IsChecked call }
     ensures ok { IfOk result (λ frame.
         IsSent (call_result client.old (call_made call.entry)) frame.items client.new) }
     ensures unchanged { OnErr result (client.new ≡ client.old) }
@@ -116,55 +112,20 @@ fn called(alloc: Global, client: &mut Client, call: Call<'_>) -> Result<Vec<u8>,
         Call::Open(uri, language, version, text) => {
             opened(alloc, client, uri, language, version, text)
         }
-        Call::Edit(uri, version, edits, texts) => {
-            edited(alloc, client, uri, version, edits, texts)
-        }
+        Call::Edit(uri, version, passed) => edited(alloc, client, uri, version, passed),
         Call::Close(uri) => client.close(uri),
     }
 }
 
-/// Makes a call by an object's client. A faulty change is written to `fault`.
-#[tactic(auto, using(crate::proofs::Calls::accepted, crate::proofs::Calls::call_refused, crate::proofs::Calls::report_written, crate::proofs::Calls::none_written))]
-fn object_call(
-    alloc: Global,
-    object: &mut Object,
-    call: Call<'_>,
-    fault: &mut FaultAt,
-    len: &mut usize,
-) -> u32
-    requires { IsChecked call }
-    ensures answer { IsCallOn (as_client object.old) (call_made call.entry) result (Some object.new)
-        len.new }
-    ensures report { IsRefusedOr (as_client object.old) result (λ asked.
-        IsWritten (call_result asked.0 (call_made call.entry)) result fault.new) }
-    ensures unchanged { result ≢ OK → (object.new ≡ object.old) × (len.new ≡ len.old) }
-    ensures fault { result ≢ INSIDE_CHARACTER → result ≢ REVERSED_RANGE → fault.new ≡ fault.old }
-{
-    let Object::End(held) = object else {
-        return OTHER_KIND;
-    };
-    let Party::Client(client) = &mut held.party else {
-        return OTHER_KIND;
-    };
-    match called(alloc, client, call) {
-        Ok(frame) => {
-            *len = frame.len();
-            held.frame = frame;
-            OK
-        }
-        Err(error) => report_call(error, fault),
-    }
-}
-
 /// Makes a call by the client of a handle. A faulty change is written to `fault`.
-pub(crate) fn make_reported(
+#[tactic(auto, using(crate::proofs::Calls::accepted, crate::proofs::Calls::call_refused, crate::proofs::Calls::report_written, crate::proofs::Calls::none_written))]
+pub(crate) fn object_call(
     alloc: Global,
     handle: &mut Handle,
     call: Call<'_>,
     fault: &mut FaultAt,
     len: &mut usize,
 ) -> u32
-    requires { IsChecked call }
     ensures answer { IsCallOn (in_handle as_client handle.old.value) (call_made call.entry) result
         handle.new.value len.new }
     ensures report { IsRefusedOr (in_handle as_client handle.old.value) result (λ asked.
@@ -173,14 +134,21 @@ pub(crate) fn make_reported(
         → (handle.new.value ≡ handle.old.value) × (len.new ≡ len.old) }
     ensures fault { result ≢ INSIDE_CHARACTER → result ≢ REVERSED_RANGE → fault.new ≡ fault.old }
 {
-    with_object!(handle, alloc, |object| {
-        object_call(alloc, &mut object, call, fault, len)
+    with_object!(handle, alloc, mut Object::End(held) => match &mut held.party {
+        Party::Client(client) => match called(alloc, client, call) {
+            Ok(frame) => {
+                *len = frame.len();
+                held.frame = frame;
+                OK
+            }
+            Err(error) => report_call(error, fault),
+        },
+        Party::Server(_) => OTHER_KIND,
     })
 }
 
 /// Makes a call without edits by the client of a handle.
 pub(crate) fn make_call(alloc: Global, handle: &mut Handle, call: Call<'_>, len: &mut usize) -> u32
-    requires { IsChecked call }
     ensures answer { IsCallOn (in_handle as_client handle.old.value) (call_made call.entry) result
         handle.new.value len.new }
     ensures unchanged { result ≢ OK
@@ -190,5 +158,5 @@ pub(crate) fn make_call(alloc: Global, handle: &mut Handle, call: Call<'_>, len:
         change: 0,
         at_end: false,
     };
-    make_reported(alloc, handle, call, &mut fault, len)
+    object_call(alloc, handle, call, &mut fault, len)
 }

@@ -8,8 +8,8 @@ ghost use Rattle.laspidru.specs.Codes.{IsRefusedOr, both, unless};
 ghost use Rattle.laspidru.specs.Objects.{in_handle, uri_asked};
 
 use crate::bytes::checked_text;
-use crate::changes::refusal_of;
-use crate::client::call::{Call, make_call, make_reported};
+use crate::changes::Passed;
+use crate::client::call::{Call, make_call, object_call};
 use crate::codes::{INSIDE_CHARACTER, OK, REVERSED_RANGE, or_return};
 use crate::handle::Handle;
 use crate::structs::{Edit, FaultAt};
@@ -77,16 +77,8 @@ pub extern "C" fn laspidru_client_edit(
     ensures fault { result ≢ INSIDE_CHARACTER → result ≢ REVERSED_RANGE → fault.new ≡ fault.old }
 {
     let uri = or_return!(checked_text(uri));
-    if let Some(code) = refusal_of(edits, texts) {
-        return code;
-    }
-    make_reported(
-        alloc,
-        handle,
-        Call::Edit(uri, version, edits, texts),
-        fault,
-        len,
-    )
+    let passed = or_return!(Passed::new(edits, texts));
+    object_call(alloc, handle, Call::Edit(uri, version, passed), fault, len)
 }
 
 /// Closes a document: the frame of `textDocument/didClose` is to be sent (LSP 3.17,

@@ -8,8 +8,8 @@ ghost use Rattle.laspidru.specs.Messages.{edits_named};
 ghost use Rattle.laspidru.specs.Objects.{in_handle, in_use};
 
 use crate::bytes::checked_text;
-use crate::changes::edits_encoding_of;
-use crate::codes::{IN_USE, OK, or_return};
+use crate::changes::{Passed, encoding_of};
+use crate::codes::{OK, or_return};
 use crate::edits::{Subject, put_batch_of_edits};
 use crate::ends::with_open;
 use crate::handle::Handle;
@@ -43,12 +43,11 @@ pub extern "C" fn laspidru_open_batch_of_edits(
     ensures fault { IsUnlessFaulty result (fault.new ≡ fault.old) }
 {
     let uri = or_return!(checked_text(uri));
-    let encoding = or_return!(edits_encoding_of(encoding, edits, texts));
-    if batch.is_full(alloc) {
-        return IN_USE;
-    }
+    let encoding = or_return!(encoding_of(encoding));
+    let passed = or_return!(Passed::new(edits, texts));
+    or_return!(batch.check_empty(alloc));
     with_open!(handle, alloc, uri, |document| {
         let subject = Subject::Open(document);
-        put_batch_of_edits(alloc, &subject, encoding, edits, texts, batch, fault)
+        put_batch_of_edits(alloc, &subject, encoding, passed, batch, fault)
     })
 }

@@ -1,21 +1,22 @@
 //! The function on canonical messages of an end's open documents.
 
 ghost use Rattle.std.specs.Prelude.{◌≡◌, ◌≢◌, ◌⊎◌, None};
-ghost use Rattle.laspidru.specs.Edits.{edits_of, refused_edit};
 ghost use Rattle.laspidru.specs.Codes.{IsAnswerOrNoMemory, unless};
 ghost use Rattle.laspidru.specs.Ends.{as_end};
 ghost use Rattle.laspidru.specs.Messages.{IsMessageLeft, MessageAsked, canonical_message_of};
 ghost use Rattle.laspidru.specs.Messages.{message_asked};
 ghost use Rattle.laspidru.specs.Objects.{in_handle, in_use};
+ghost use Rattle.laspidru.specs.inside.Passed.{changes_in};
 
 use crate::bytes::checked_text;
-use crate::changes::{changes_of, edits_encoding_of};
-use crate::codes::{IN_USE, INSIDE_CHARACTER, OK, OUT_OF_MEMORY, REVERSED_RANGE, or_return};
+use crate::changes::{Passed, encoding_of};
+use crate::codes::{INSIDE_CHARACTER, OK, OUT_OF_MEMORY, REVERSED_RANGE, or_return};
 use crate::ends::store_of;
 use crate::handle::{Handle, with_object};
 use crate::object::Object;
-use crate::reports::report_store;
+use crate::reports::report_call;
 use crate::structs::{Edit, FaultAt};
+use lsp_client::ClientFault;
 use lsp_store::Store;
 use lsp_text::Encoding;
 use std::alloc::Global;
@@ -28,31 +29,29 @@ fn put_message(
     uri: &str,
     version: i32,
     encoding: Encoding,
-    edits: &[Edit],
-    texts: &[u8],
+    passed: Passed<'_>,
     output: &mut Handle,
     fault: &mut FaultAt,
     len: &mut usize,
 ) -> u32
-    requires checked { refused_edit edits.now texts.now ≡ None }
-    requires empty { output.old.value ≡ None }
+    requires { output.old.value ≡ None }
     ensures answer { let asked : MessageAsked = record {
       store = store.now;
       uri = uri.now;
       version = version;
       encoding = encoding;
-      edits = edits_of edits.now texts.now;
+      edits = changes_in passed.entry;
     } in (result ≡ OUT_OF_MEMORY)
         ⊎ IsMessageLeft (canonical_message_of asked) result output.new.value len.new fault.new }
     ensures unchanged { result ≢ OK → (output.new.value ≡ None) × (len.new ≡ len.old) }
     ensures fault { result ≢ INSIDE_CHARACTER → result ≢ REVERSED_RANGE → fault.new ≡ fault.old }
 {
-    let Ok(changes) = changes_of(alloc, edits, texts) else {
+    let Ok(changes) = passed.changes(alloc) else {
         return OUT_OF_MEMORY;
     };
     let frame = match store.canonical_message(uri, version, encoding, &changes) {
         Ok(frame) => frame,
-        Err(error) => return report_store(error, fault),
+        Err(error) => return report_call(ClientFault::Store(error), fault),
     };
     let count = frame.len();
     let code = output.fill(alloc, Object::Output(frame));
@@ -96,12 +95,11 @@ pub extern "C" fn laspidru_open_canonical_message(
     ensures fault { result ≢ INSIDE_CHARACTER → result ≢ REVERSED_RANGE → fault.new ≡ fault.old }
 {
     let uri = or_return!(checked_text(uri));
-    let encoding = or_return!(edits_encoding_of(encoding, edits, texts));
-    if output.is_full(alloc) {
-        return IN_USE;
-    }
+    let encoding = or_return!(encoding_of(encoding));
+    let passed = or_return!(Passed::new(edits, texts));
+    or_return!(output.check_empty(alloc));
     with_object!(handle, alloc, Object::End(held) => {
         let store = store_of(&held.party);
-        put_message(alloc, store, uri, version, encoding, edits, texts, output, fault, len)
+        put_message(alloc, store, uri, version, encoding, passed, output, fault, len)
     })
 }

@@ -8,7 +8,7 @@ ghost use Rattle.laspidru.specs.Logs.{IsKeptRun, IsUnlessEnded, comparison_asked
 ghost use Rattle.laspidru.specs.Objects.{in_use};
 
 use crate::bytes::checked_text;
-use crate::codes::{IN_USE, OUT_OF_MEMORY, or_return};
+use crate::codes::{OUT_OF_MEMORY, or_return};
 use crate::command::Command;
 use crate::endings::{Ending, LogSettings, log_settings_of};
 use crate::handle::Handle;
@@ -73,9 +73,7 @@ pub extern "C" fn laspidru_log_compare(
     ensures unchanged { IsUnlessEnded result
         ((handle.new.value ≡ handle.old.value) × (out.new ≡ out.old)) }
 {
-    if handle.is_full(alloc) {
-        return IN_USE;
-    }
+    or_return!(handle.check_empty(alloc));
     let uri = or_return!(checked_text(uri));
     let saved = or_return!(checked_text(saved));
     let taken = or_return!(log_settings_of(settings));

@@ -44,10 +44,7 @@ impl<'a> ChangeMembers<'a> {
         ensures { IfOk result (λ r. (ms : Members) → IsChangeOf self.entry ms
             → option_map content_change_view r ≡ content_change_in (object ms)) }
     {
-        let Some(text) = self.text else {
-            return Ok(None);
-        };
-        let Some(range) = self.range else {
+        let (Some(text), Some(range)) = (self.text, self.range) else {
             return Ok(None);
         };
         let text = String::from_str(alloc, text)?;

@@ -48,16 +48,12 @@ impl<'a> DocumentMembers<'a> {
         ensures { IfOk result (λ r. (ms : Members) → IsDocumentOf self.entry ms
             → option_map open_view r ≡ open_by ms) }
     {
-        let Some(uri) = self.uri else {
-            return Ok(None);
-        };
-        let Some(language) = self.language else {
-            return Ok(None);
-        };
-        let Some(version) = self.version else {
-            return Ok(None);
-        };
-        let Some(text) = self.text else {
+        let (Some(uri), Some(language), Some(version), Some(text)) = (
+            self.uri,
+            self.language,
+            self.version,
+            self.text,
+        ) else {
             return Ok(None);
         };
         let uri = String::from_str(alloc, uri)?;

@@ -3,13 +3,13 @@
 //! Reads `json`'s tokens and builds no tree, but for `initialize`. It is proved to be `reading`
 //! of `lsp_message`, which is what `read` is: nothing is compared at run time.
 
-ghost use Rattle.std.specs.Prelude.{◌≡◌, ℕ, List, option_map, Some, None, Err, IfOk, IfSome, IsUtf8, OnErr, string_bytes};
+ghost use Rattle.std.specs.Prelude.{◌≡◌, ℕ, List, false, option_map, Some, None, Err, IfOk, IfSome, IsUtf8, OnErr, string_bytes};
 ghost use Rattle.serde_json.specs.Data.{Data};
 ghost use Rattle.serde_json.specs.Read.{read as read_value};
 ghost use Rattle.serde_json.specs.View.{view};
 ghost use Rattle.lsp_message.specs.Message as spec;
 ghost use Rattle.lsp_message.specs.Message.{reading, message_of, not_json};
-ghost use Rattle.lsp_message.specs.Lengths.{notification_params};
+ghost use Rattle.lsp_message.specs.Lengths.{is_noted};
 ghost use Rattle.lsp_message.specs.Params.{change_of, ParamsMayAllocate};
 ghost use Rattle.lsp_message.specs.Seen.{id_view, message_view, IsNoted, IsReadFault, incoming_view};
 ghost use Rattle.lsp_message.specs.Incoming.{incoming_of, incoming_by, request_of, notification_of, other_notification, did_change};
@@ -22,7 +22,7 @@ use crate::params::{
 use crate::reader::fault::Fault;
 use crate::reader::keystroke::read_keystroke;
 use crate::reader::message::MessageMembers;
-use crate::reader::noted::{Noted, lengths_found};
+use crate::reader::noted::{Noted, is_noted, lengths_found, may_be_noted};
 use crate::reader::object::{Object, read_object};
 use json::{Reader, Scratch};
 use serde_json::Value;
@@ -98,13 +98,25 @@ impl Incoming {
         read_body(alloc, body, scratch)
     }
 
-    /// Reads what a body asks, as [`Incoming::read`], and what notes of it go by.
+    /// Reads what a body asks, as [`Incoming::read_with`], and what notes of it go by.
     ///
-    /// A keystroke is read by its bytes. For any other body a tree of its JSON is built.
-    pub fn read_noted(alloc: Global, body: &[u8]) -> Result<(Incoming, Noted), AllocError>
+    /// A keystroke is read by its bytes, and a body that notes don't go by by its tokens. Of another
+    /// change, and of a `textDocument/didSave`, a tree is built. A body is read once, unless one of
+    /// these two escapes the name of its method, or hides it between other members.
+    pub fn read_noted(
+        alloc: Global,
+        body: &[u8],
+        scratch: &mut Scratch,
+    ) -> Result<(Incoming, Noted), AllocError>
         ensures ok { IfOk result (λ r. IsNoted (reading body.now) r.0 r.1) }
         ensures memory { OnErr result (IsUtf8 body.now) }
     {
+        if !may_be_noted(body) {
+            let incoming = Incoming::read_with(alloc, body, scratch)?;
+            if !is_noted(&incoming) {
+                return Ok((incoming, Noted::nothing(alloc)));
+            }
+        }
         let Ok(text) = std::str::from_utf8(body) else {
             return Ok((Incoming::NotJson, Noted::nothing(alloc)));
         };
@@ -174,7 +186,7 @@ fn read_tree(alloc: Global, body: &[u8]) -> Result<(Incoming, Noted), AllocError
 fn unread_body(fault: ReadFault) -> Result<Incoming, AllocError>
     ensures ok { IfOk result (λ m. (body : List ℕ) → IsReadFault body fault
         → (incoming_view m ≡ incoming_of (reading body))
-        × (notification_params (reading body) ≡ None)) }
+        × (is_noted (incoming_of (reading body)) ≡ false)) }
     ensures memory { OnErr result (fault ≡ ReadFault.NoMemory) }
 {
     match fault {

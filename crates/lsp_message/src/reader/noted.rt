@@ -1,40 +1,67 @@
 //! What notes of a body go by, beside what the body asks.
 
-ghost use Rattle.std.specs.Prelude.{◌≡◌, IfOk, None, Some, codes, option_map};
+ghost use Rattle.std.specs.Prelude.{◌≡◌, IfOk, Some, codes, false, option_map};
 ghost use Rattle.serde_json.specs.View.{items_view, view};
 ghost use Rattle.lsp_message.specs.Incoming.{incoming_of};
-ghost use Rattle.lsp_message.specs.Lengths.{lengths_found, lengths_in, notification_params};
+ghost use Rattle.lsp_message.specs.Lengths.{is_noted, lengths_found, lengths_in};
 ghost use Rattle.lsp_message.specs.Message.{Reading};
 ghost use Rattle.lsp_message.specs.Seen.{IsNoted, incoming_view};
 ghost use Rattle.lsp_message.specs.Values.{array_in, member_at, natural_in};
 ghost use Rattle.lsp_message.specs.declared.reader.incoming.Incoming.{Incoming};
 
+use crate::reader::incoming::Incoming;
 use serde_json::Value;
 use std::alloc::{AllocError, Global};
+
+/// How many bytes at a body's ends are searched for the name of a method.
+const NEAR: usize = 128;
+
+/// How the methods of a change and a `didSave` go on after `textDocument`.
+const NOTED: [&[u8]; 2] = [b"/didC", b"/didS"];
 
 /// What notes of a body go by, beside what the body asks.
 #[derive(Debug, PartialEq, Drop)]
 pub struct Noted {
-    /// The `rangeLength` of each change. It is `None` for a change without one, and for one that is
-    /// no whole number in the range of `u64`.
+    /// The `rangeLength` of each change of a `textDocument/didChange`. It is `None` for a change
+    /// without one, and for one that is no whole number in the range of `u64`.
     pub lengths: Vec<Option<u64>>,
-    /// The params of a notification of another method than those of [`Incoming`].
-    ///
-    /// [`Incoming`]: crate::Incoming
+    /// The params of a `textDocument/didSave`.
     pub params: Option<Value>,
 }
 
 impl Noted {
-    /// Returns what notes of a body without changes and params go by.
+    /// Returns what notes of a body go by that is no change and no `didSave`.
     pub(crate) fn nothing(alloc: Global) -> Noted
         ensures { (r : Reading) (m : Incoming) → incoming_view m ≡ incoming_of r
-            → notification_params r ≡ None → IsNoted r m result }
+            → is_noted (incoming_of r) ≡ false → IsNoted r m result }
     {
         Noted {
             lengths: Vec::new(alloc),
             params: None,
         }
     }
+}
+
+/// Returns whether notes go by more of a message than what it asks.
+pub(crate) fn is_noted(incoming: &Incoming) -> bool
+    ensures { result ≡ is_noted (incoming_view incoming.now) }
+{
+    match incoming {
+        Incoming::DidChange(Some(_)) => true,
+        Incoming::OtherNotification { method } => method.as_str() == "textDocument/didSave",
+        _ => false,
+    }
+}
+
+/// Returns whether one end of a body names a method like those of a change and a `didSave`. What is
+/// read of the body doesn't depend on it, only in how many passes.
+pub(crate) fn may_be_noted(body: &[u8]) -> bool {
+    let near = body.len().min(NEAR);
+    names_noted(&body[..near]) || names_noted(&body[body.len() - near..])
+}
+
+fn names_noted(bytes: &[u8]) -> bool {
+    bytes.windows(NOTED[0].len()).any(|name| name.first() == Some(&b'/') && NOTED.contains(&name))
 }
 
 /// Returns the `rangeLength` of each change in a notification's params.

@@ -93,10 +93,7 @@ impl<'a> ParamsMembers<'a> {
         let Some(changes) = changes else {
             return Ok(None);
         };
-        let Some(uri) = document.uri else {
-            return Ok(None);
-        };
-        let Some(version) = document.version else {
+        let (Some(uri), Some(version)) = (document.uri, document.version) else {
             return Ok(None);
         };
         let uri = String::from_str(alloc, uri)?;

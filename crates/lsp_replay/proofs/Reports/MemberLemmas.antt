@@ -11,6 +11,13 @@ pub one_member : {A E : Type 0} (r : Result A E) (new old front value : List ℕ
 one_member (Ok a) new old front value is = is ∙ append_assoc old front value
 one_member (Err e) new old front value is = tt
 
+-- three words
+pub three_words : {A E : Type 0} (r : Result A E) (new old one two a b c : List ℕ) → one ≡ old ++ a → two ≡ one ++ b
+    → OnOk r (new ≡ two ++ c) → OnOk r (new ≡ old ++ (a ++ b ++ c))
+three_words (Ok x) new old one two a b c first second is =
+    is ∙ ap (λ z. z ++ c) (second ∙ ap (λ z. z ++ b) first ∙ append_assoc old a b) ∙ append_assoc old (a ++ b) c
+three_words (Err e) new old one two a b c first second is = tt
+
 parts : (old a b c d e f g : List ℕ) → old ++ a ++ b ++ c ++ d ++ e ++ f ++ g ≡ old ++ (a ++ b ++ c ++ d ++ e ++ f ++ g)
 parts old a b c d e f g = simp append_assoc
 

@@ -1,6 +1,7 @@
 -- What only proofs and private contracts use of `RunOutput`.
-use Rattle.std.specs.Prelude.{◌≡◌}
-use Rattle.lsp_replay.specs.Prelude.{ℕ, List, [], drop, Option, Some, None, Ok, Record, Outcome, EngineFault, Read, Write, Frame, Truncated, BodyTooLong, NoMemory, TooManyTurns, BadLog}
+use Rattle.std.specs.Prelude.{◌≡◌, ◌⊎◌, ◌<◌, ◌++◌, ◌∷◌, MatchOption}
+use Rattle.lsp_replay.specs.Prelude.{ℕ, Bool, false, List, [], drop, Option, Some, None, Ok, Err, Record, Outcome, EngineFault, Read, Write, Frame, Truncated, BodyTooLong, NoMemory, TooManyTurns, BadLog}
+use Rattle.lsp_replay.specs.declared.handler.Given.{Given}
 use Rattle.lsp_replay.specs.declared.handler.Output.{Output}
 use Rattle.lsp_replay.specs.declared.handler.Output.TheVariants as output
 use Rattle.lsp_replay.specs.RunOutput.{RunOutput, written_first, stopped}
@@ -33,3 +34,24 @@ IsRecordFault (BodyTooLong place) = Unit {0}
 IsRecordFault NoMemory = ⊥
 IsRecordFault TooManyTurns = ⊥
 IsRecordFault (BadLog place) = Unit {0}
+
+-- ---- what is given for a record and for the end, by the outputs of a run before it and after it
+
+-- A record's output, and whether it ends the run. `buffer` was filled for it.
+abbrev pub IsGiven : (List Record → RunOutput) → (List Record → RunOutput) → Record → List ℕ
+    → Given → Type 0
+IsGiven old new r buffer given = (more : List Record) →
+    old (r ∷ more) ≡ after (output_of given.output r.raw buffer) given.end (new more)
+
+-- A fault: memory has run out, or the record ends the run with it.
+abbrev pub IsFaultAt : (List Record → RunOutput) → Record → EngineFault → Type 0
+IsFaultAt old r fault = (fault ≡ NoMemory)
+    ⊎ (IsRecordFault fault × ((more : List Record) → old (r ∷ more) ≡ stopped [] (Err fault)))
+
+-- A part of the output at the end; with the last part comes the outcome. So many parts may still
+-- come before it and after it.
+abbrev pub IsLastPart : RunOutput → RunOutput → ℕ → ℕ → Bool → List ℕ → Option Outcome → Type 0
+IsLastPart old new parts_old parts_new line_due buffer end = MatchOption end
+    ((old.last line_due ≡ buffer ++ new.last false) × (new.outcome ≡ old.outcome)
+    × (parts_new < parts_old))
+    (λ outcome. (old.last line_due ≡ buffer) × (outcome ≡ old.outcome))

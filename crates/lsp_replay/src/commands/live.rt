@@ -7,8 +7,9 @@ ghost use Rattle.lsp_replay.specs.Run.{IsEngineRun, check_engine, live};
 ghost use Rattle.lsp_replay.specs.Trace.{trace_engine};
 
 use crate::commands::{Details, Listing, Settings};
+use crate::engine::run_on;
 use crate::outcome::Outcome;
-use crate::pipeline::run_live;
+use crate::pipeline::Pipeline;
 use lsp_stream::{Duplex, EngineFault, Sink, Source};
 use std::alloc::Global;
 
@@ -33,7 +34,8 @@ pub fn check_live<R: Source, W: Sink>(
     ensures same_writer { ends.new.writer.ghost_name ≡ ends.old.writer.ghost_name }
 {
     let rules = settings.rules(false);
-    run_live(alloc, ends, settings.checking(alloc), rules, max_turns)
+    let mut pipeline = Pipeline::new(alloc, settings.checking(alloc), None);
+    run_on(alloc, ends, &mut pipeline, rules, true, max_turns)
 }
 
 /// Writes what [`explain`](crate::explain) does, and flushes as [`check_live`] does.
@@ -55,7 +57,8 @@ pub fn explain_live<R: Source, W: Sink>(
 {
     let rules = settings.rules(false);
     let explain = settings.explaining(alloc, listing);
-    run_live(alloc, ends, explain, rules, max_turns)
+    let mut pipeline = Pipeline::new(alloc, explain, None);
+    run_on(alloc, ends, &mut pipeline, rules, true, max_turns)
 }
 
 /// Writes what [`trace`](crate::trace) does, and flushes as [`check_live`] does.
@@ -77,5 +80,6 @@ pub fn trace_live<R: Source, W: Sink>(
 {
     let rules = settings.rules(false);
     let trace = settings.tracing(alloc, details);
-    run_live(alloc, ends, trace, rules, max_turns)
+    let mut pipeline = Pipeline::new(alloc, trace, None);
+    run_on(alloc, ends, &mut pipeline, rules, true, max_turns)
 }

@@ -2,6 +2,7 @@
 
 ghost use Rattle.std.specs.Prelude.{◌≡◌, ◌++◌, IfOk, OnOk, option_map, List, string_bytes, true, ℕ};
 ghost use Rattle.serde_json.specs.View.{view};
+ghost use Rattle.lsp_message.specs.Lengths.{is_save};
 ghost use Rattle.lsp_message.specs.Message.{reading};
 ghost use Rattle.lsp_message.specs.Seen.{change_view};
 ghost use Rattle.lsp_server.specs.Seen.{incoming_view};
@@ -54,14 +55,22 @@ pub(super) fn about_of(
     })
 }
 
-/// Returns the URI of the document whose text was saved, of a message that isn't about the
-/// documents.
+/// Returns whether this is the method of a document that was saved.
+fn is_save(method: &str) -> bool
+    ensures { result ≡ is_save method.now }
+{
+    method == "textDocument/didSave"
+}
+
+/// Returns the URI of the document whose text was saved.
 fn saved_in<'a>(incoming: &Incoming, noted: &'a Noted) -> Option<&'a str>
     ensures { option_map (λ uri. uri.now) result ≡ saved_in Sender.Client
         (incoming_view incoming.now) (option_map view noted.now.params) }
 {
     match incoming {
-        Incoming::OtherNotification { .. } => saved_uri(noted.params.as_ref()),
+        Incoming::OtherNotification { method } if is_save(method) => {
+            saved_uri(noted.params.as_ref())
+        }
         _ => None,
     }
 }
@@ -156,7 +165,7 @@ fn saving_notes(
         (option_map (λ params. view params.now) params.entry)) }
 {
     let mut notes = Vec::new(alloc);
-    if method == "textDocument/didSave" {
+    if is_save(method) {
         push_saved_note(alloc, &mut notes, server.store(), params)?;
     }
     Ok(notes)

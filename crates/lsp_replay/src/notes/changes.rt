@@ -5,7 +5,7 @@ ghost use Rattle.std.specs.Str.{bytes_eq, chars};
 ghost use Rattle.lsp_text.specs.Units.{units_in};
 ghost use Rattle.lsp_edit.specs.Edited.{content_change};
 ghost use Rattle.lsp_replay.specs.Notes.{batch_notes, change_notes, end_notes, is_same, length_at, length_notes};
-ghost use Rattle.lsp_replay.specs.Notes.{notes_from, range_notes, same_notes, taken_as, whole_notes};
+ghost use Rattle.lsp_replay.specs.Notes.{range_notes, same_notes, taken_as, whole_notes};
 ghost use Rattle.lsp_replay.specs.inside.Noting.{terms_view};
 
 pub(crate) mod replaced;
@@ -56,30 +56,17 @@ pub fn push_batch_notes(
             Ok(())
         }
         [change] => push_change_notes(alloc, notes, text, terms, 0, change),
-        _ => push_several(alloc, notes, text, terms, changes),
-    }
-}
-
-/// Notes what is suspicious of changes, each on the text that the one before it leaves.
-fn push_several(
-    alloc: Global,
-    notes: &mut Vec<Note>,
-    text: &TextBuffer,
-    terms: &Terms<'_>,
-    changes: &[Change],
-) -> Result<(), AllocError>
-    requires { length text.now ≤ 1073741824 }
-    ensures { OnOk result (notes.new.items ≡ notes.old.items
-        ++ notes_from (terms_view terms.now) 0 text.now (map content_change changes.now)) }
-{
-    let mut left = text.clone_in(alloc)?;
-    for (index, change) in changes.iter().enumerate() {
-        push_change_notes(alloc, notes, &left, terms, index, change)?;
-        if !leave(alloc, &mut left, terms.encoding, change)? {
-            return Ok(());
+        _ => {
+            let mut left = text.clone_in(alloc)?;
+            for (index, change) in changes.iter().enumerate() {
+                push_change_notes(alloc, notes, &left, terms, index, change)?;
+                if !leave(alloc, &mut left, terms.encoding, change)? {
+                    return Ok(());
+                }
+            }
+            Ok(())
         }
     }
-    Ok(())
 }
 
 /// Notes what is suspicious of a change on a text.

@@ -1,9 +1,9 @@
 //! `check`: what a server answers to each record of a log, line by line.
 
-ghost use Rattle.std.specs.Prelude.{◌≡◌, ◌++◌, refl, OnOk, decimal};
+ghost use Rattle.std.specs.Prelude.{◌≡◌, ◌++◌, OnOk, decimal};
 ghost use Rattle.lsp_server.specs.Seen.{answer_view};
 ghost use Rattle.lsp_replay.specs.Commands.{checking, check_line, code_word, verdict_word, word_of};
-ghost use Rattle.lsp_replay.specs.inside.Commands.{run_output_in};
+ghost use Rattle.lsp_replay.specs.inside.Commands.{state_in};
 ghost use Rattle.lsp_replay.specs.inside.Verdicts.{verdict_view};
 
 use crate::handler::{Finished, Given, Output, Printed};
@@ -22,13 +22,9 @@ pub struct Check {
 }
 
 impl Printer for Check {
-    ghost run_output = { λ check. run_output_in checking check.session };
-
-    ghost reached = { λ check. check.session };
+    ghost state = { λ check. state_in checking tt check.session };
 
     const NOTES: bool = false;
-
-    ghost quiet = { λ _. record { silent = refl; unstopped = refl } };
 
     fn session(&self) -> &Session {
         &self.session

@@ -1,12 +1,12 @@
 //! `compare`: whether a document's last text is that of a file, and else which message made it so.
 
-ghost use Rattle.std.specs.Prelude.{◌≡◌, refl, IfOk, OnOk, option_map, string_bytes};
+ghost use Rattle.std.specs.Prelude.{◌≡◌, IfOk, OnOk, option_map, string_bytes};
 ghost use Rattle.line_diff.specs.Compared.{equality};
 ghost use Rattle.lsp_store.specs.Table.{entry_at};
-ghost use Rattle.lsp_replay.specs.Commands.{output_in};
 ghost use Rattle.lsp_replay.specs.Compared.{compared_outcome, comparing, learned, taken_if};
 ghost use Rattle.lsp_replay.specs.Session.{session_outcome};
 ghost use Rattle.lsp_replay.specs.inside.Bodies.{body_view};
+ghost use Rattle.lsp_replay.specs.inside.Commands.{state_in};
 ghost use Rattle.lsp_replay.specs.inside.Compared.{ending_read, splices_read};
 ghost use Rattle.lsp_replay.specs.inside.Verdicts.{verdict_view};
 
@@ -124,13 +124,9 @@ impl Compare {
 }
 
 impl Printer for Compare {
-    ghost run_output = { λ compare. output_in comparing compare.comparison compare.session };
-
-    ghost reached = { λ compare. compare.session };
+    ghost state = { λ compare. state_in comparing compare.comparison compare.session };
 
     const NOTES: bool = false;
-
-    ghost quiet = { λ _. record { silent = refl; unstopped = refl } };
 
     fn session(&self) -> &Session {
         &self.session

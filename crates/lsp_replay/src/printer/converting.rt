@@ -1,8 +1,8 @@
 //! `convert`: makes a log of version 2, with the server's replies, of a log of version 1.
 
-ghost use Rattle.std.specs.Prelude.{◌≡◌, ◌++◌, refl, OnOk};
+ghost use Rattle.std.specs.Prelude.{◌≡◌, ◌++◌, OnOk};
 ghost use Rattle.lsp_replay.specs.Commands.{converting, line_before, reply_record};
-ghost use Rattle.lsp_replay.specs.inside.Commands.{run_output_in};
+ghost use Rattle.lsp_replay.specs.inside.Commands.{state_in};
 ghost use Rattle.lsp_replay.specs.inside.Verdicts.{verdict_view};
 
 use crate::handler::{Finished, Given, Output, Printed};
@@ -30,13 +30,9 @@ impl Convert {
 }
 
 impl Printer for Convert {
-    ghost run_output = { λ convert. run_output_in converting convert.session };
-
-    ghost reached = { λ convert. convert.session };
+    ghost state = { λ convert. state_in converting tt convert.session };
 
     const NOTES: bool = false;
-
-    ghost quiet = { λ _. record { silent = refl; unstopped = refl } };
 
     fn session(&self) -> &Session {
         &self.session

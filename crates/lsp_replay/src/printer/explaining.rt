@@ -1,14 +1,14 @@
 //! `check` with reasons: what a server answers to each record of a log, why it was refused, and
 //! what is suspicious of it.
 
-ghost use Rattle.std.specs.Prelude.{◌≡◌, ◌++◌, refl, OnOk, codes, decimal, flat_map, option_map, string_bytes, true};
+ghost use Rattle.std.specs.Prelude.{◌≡◌, ◌++◌, ◌&&◌, not, OnOk, codes, decimal, flat_map, option_map, string_bytes, true};
 ghost use Rattle.lsp_message.specs.Seen.{change_view};
-ghost use Rattle.lsp_replay.specs.Commands.{output_in};
 ghost use Rattle.lsp_replay.specs.Counts.{counts_words};
 ghost use Rattle.lsp_replay.specs.Lines.{lines};
-ghost use Rattle.lsp_replay.specs.Tallies.{tally_words};
+ghost use Rattle.lsp_replay.specs.Tallies.{has_repeated, tally_words};
 ghost use Rattle.lsp_replay.specs.Explained.{advice, closing_lines, document_words, explaining, explanation, first_advice};
-ghost use Rattle.lsp_replay.specs.Explained.{habit_advice, is_listed, lenient_advice, line_with, remark, see_words};
+ghost use Rattle.lsp_replay.specs.Explained.{is_listed, line_with, remark, see_words};
+ghost use Rattle.lsp_replay.specs.inside.Commands.{state_in};
 ghost use Rattle.lsp_replay.specs.inside.Facts.{explained_by, listed_by, noted_by, seen_by};
 ghost use Rattle.lsp_replay.specs.inside.Verdicts.{verdict_view};
 
@@ -17,7 +17,7 @@ use crate::counts::Counts;
 use crate::counts::tallies::{Tally, has_repeated, has_tallies};
 use crate::facts::{Facts, Known, has_notes};
 use crate::handler::{Finished, Given, Output, Printed};
-use crate::members::{push_json_string, push_number, push_words};
+use crate::members::{push_if, push_json_string, push_number, push_words};
 use crate::notes::Note;
 use crate::printer::Printer;
 use crate::printer::checking::push_verdict;
@@ -41,6 +41,19 @@ pub struct Explain {
 }
 
 impl Explain {
+    /// Writes the line of a record, if it has one.
+    fn push_facts(&self, buffer: &mut Vec<u8>, facts: &Facts) -> Result<(), AllocError>
+        ensures { OnOk result (buffer.new.items ≡ buffer.old.items
+            ++ explained_by self.now.listing self.now.session.server.config.limits facts.now) }
+    {
+        let notes = listed_notes(self.listing, facts);
+        if !is_listed(self.listing, &facts.verdict, notes) {
+            return Ok(());
+        }
+        let limits = self.session.server().store().limits();
+        push_line(self.alloc, buffer, limits, facts, notes)
+    }
+
     /// Writes the lines at the end.
     fn push_end(&self, buffer: &mut Vec<u8>) -> Result<(), AllocError>
         ensures { OnOk result (buffer.new.items ≡ buffer.old.items
@@ -50,21 +63,44 @@ impl Explain {
             return push_words(buffer, "The log has no messages.\n");
         }
         push_counts(buffer, self.session.messages(), self.known.counts())?;
-        push_advice(buffer, self.listing, self.session.refusals(), &self.known)
+        self.push_advice(buffer)
+    }
+
+    /// Writes what to do next.
+    fn push_advice(&self, buffer: &mut Vec<u8>) -> Result<(), AllocError>
+        ensures { OnOk result (buffer.new.items ≡ buffer.old.items
+            ++ advice self.now.listing self.now.session.refusals self.now.known) }
+    {
+        let noted = self.known.counts().noted();
+        let refusals = self.session.refusals();
+        push_words(buffer, first_advice(refusals, has_tallies(noted)))?;
+        push_if(
+            buffer,
+            self.known.has_strict_refusal(),
+            "Many servers don't refuse what is S1 or S5 here. `--lenient` doesn't either.\n",
+        )?;
+        push_if(
+            buffer,
+            self.hides_notes(),
+            "A kind of note that comes often is on few lines. `--all`: on each.\n",
+        )
+    }
+
+    /// Returns whether a kind of note came more than once, and not each is on its line.
+    fn hides_notes(&self) -> bool
+        ensures { result ≡ (not self.now.listing.all && has_repeated self.now.known.counts.noted) }
+    {
+        !self.listing.all && has_repeated(self.known.counts().noted())
     }
 }
 
 impl Printer for Explain {
-    ghost run_output = { λ explain.
-        output_in (lines (explaining explain.listing)) explain.known explain.session };
-
-    ghost reached = { λ explain. explain.session };
+    ghost state = { λ explain.
+        state_in (lines (explaining explain.listing)) explain.known explain.session };
 
     ghost NOTES = { true };
 
     const NOTES: bool = true;
-
-    ghost quiet = { λ _. record { silent = refl; unstopped = refl } };
 
     fn session(&self) -> &Session {
         &self.session
@@ -75,8 +111,7 @@ impl Printer for Explain {
         let facts = self
             .known
             .take(&mut self.session, item, read, &mut witness)?;
-        let limits = self.session.server().store().limits();
-        push_facts(self.alloc, buffer, self.listing, limits, &facts)?;
+        self.push_facts(buffer, &facts)?;
         Ok(Given::more(Output::Bytes))
     }
 
@@ -84,24 +119,6 @@ impl Printer for Explain {
         self.push_end(buffer)?;
         Ok(Some(self.session.outcome()))
     }
-}
-
-/// Writes the line of a record, if it has one.
-fn push_facts(
-    alloc: Global,
-    buffer: &mut Vec<u8>,
-    listing: Listing,
-    limits: Limits,
-    facts: &Facts,
-) -> Result<(), AllocError>
-    ensures { OnOk result
-        (buffer.new.items ≡ buffer.old.items ++ explained_by listing limits facts.now) }
-{
-    let notes = listed_notes(listing, facts);
-    if !is_listed(listing, &facts.verdict, notes) {
-        return Ok(());
-    }
-    push_line(alloc, buffer, limits, facts, notes)
 }
 
 /// Returns the notes on the line of a record: those that are no habits, or each.
@@ -249,22 +266,6 @@ fn push_tally(buffer: &mut Vec<u8>, front: &str, tally: &Tally) -> Result<(), Al
     push_words(buffer, "\n")
 }
 
-/// Writes what to do next, after so many refusals.
-fn push_advice(
-    buffer: &mut Vec<u8>,
-    listing: Listing,
-    refusals: u64,
-    known: &Known,
-) -> Result<(), AllocError>
-    ensures { OnOk result
-        (buffer.new.items ≡ buffer.old.items ++ advice listing refusals known.now) }
-{
-    let noted = known.counts().noted();
-    push_words(buffer, first_advice(refusals, has_tallies(noted)))?;
-    push_words(buffer, lenient_advice(known.has_strict_refusal()))?;
-    push_words(buffer, habit_advice(!listing.all && has_repeated(noted)))
-}
-
 /// Returns what to do first, after so many refusals.
 fn first_advice(refusals: u64, suspicious: bool) -> &'static str
     ensures { result.now ≡ first_advice refusals suspicious }
@@ -276,27 +277,5 @@ fn first_advice(refusals: u64, suspicious: bool) -> &'static str
         "Nothing was refused; see the notes. `lspsync replay --at N`: the texts after message N.\n"
     } else {
         "Nothing was refused. `lspsync compare SAVED LOG` says where a saved file differs, and by which messages.\n"
-    }
-}
-
-/// Returns where notes are that aren't on their lines, if some may not be.
-fn habit_advice(repeated: bool) -> &'static str
-    ensures { result.now ≡ habit_advice repeated }
-{
-    if repeated {
-        "A kind of note that comes often is on few lines. `--all`: on each.\n"
-    } else {
-        ""
-    }
-}
-
-/// Returns what to try where something was refused with S1, or with S5 and changes.
-fn lenient_advice(strict_refusal: bool) -> &'static str
-    ensures { result.now ≡ lenient_advice strict_refusal }
-{
-    if strict_refusal {
-        "Many servers don't refuse what is S1 or S5 here. `--lenient` doesn't either.\n"
-    } else {
-        ""
     }
 }

@@ -1,8 +1,7 @@
 //! Which message opened each document of a log first.
 
-ghost use Rattle.std.specs.Prelude.{refl};
-ghost use Rattle.lsp_replay.specs.Commands.{output_in};
 ghost use Rattle.lsp_replay.specs.Openings.{listing_openings};
+ghost use Rattle.lsp_replay.specs.inside.Commands.{state_in};
 
 use crate::handler::{Finished, Given, Output, Printed};
 use crate::openings::Openings;
@@ -21,13 +20,9 @@ pub struct ListOpenings {
 }
 
 impl Printer for ListOpenings {
-    ghost run_output = { λ list. output_in listing_openings list.openings list.session };
-
-    ghost reached = { λ list. list.session };
+    ghost state = { λ list. state_in listing_openings list.openings list.session };
 
     const NOTES: bool = false;
-
-    ghost quiet = { λ _. record { silent = refl; unstopped = refl } };
 
     fn session(&self) -> &Session {
         &self.session

@@ -1,11 +1,11 @@
 //! `normalise`: writes a log in which each accepted change is its canonical message.
 
-ghost use Rattle.std.specs.Prelude.{ℕ, ◌≡◌, ◌≤◌, ◌⊎◌, ◌++◌, List, [], length, drop, Option, Some, refl, IfOk, IfErr, OnOk, Err};
+ghost use Rattle.std.specs.Prelude.{ℕ, ◌≡◌, ◌≤◌, ◌⊎◌, ◌++◌, List, [], length, drop, Option, Some, IfOk, IfErr, OnOk, Err};
 ghost use Rattle.lsp_frame.specs.Frame.{frame};
 ghost use Rattle.lsp_log.specs.Log.{mark_of};
 ghost use Rattle.lsp_replay.specs.inside.RunOutput.{output_of};
 ghost use Rattle.lsp_replay.specs.Commands.{normalising, line_if, front_of, written, writes, ends};
-ghost use Rattle.lsp_replay.specs.inside.Commands.{run_output_in};
+ghost use Rattle.lsp_replay.specs.inside.Commands.{state_in};
 ghost use Rattle.lsp_replay.specs.inside.Verdicts.{IsAppended};
 
 use crate::handler::{Finished, Given, Output, Printed};
@@ -28,13 +28,9 @@ pub struct Normalise {
 }
 
 impl Printer for Normalise {
-    ghost run_output = { λ normalise. run_output_in normalising normalise.session };
-
-    ghost reached = { λ normalise. normalise.session };
+    ghost state = { λ normalise. state_in normalising tt normalise.session };
 
     const NOTES: bool = false;
-
-    ghost quiet = { λ _. record { silent = refl; unstopped = refl } };
 
     fn session(&self) -> &Session {
         &self.session

@@ -1,9 +1,10 @@
 //! `replay` of a part of a log: the documents after a record, or the last text of one document.
 
-ghost use Rattle.std.specs.Prelude.{◌≡◌, ◌++◌, refl, IfOk, OnOk};
+ghost use Rattle.std.specs.Prelude.{◌≡◌, ◌++◌, IfOk, OnOk};
 ghost use Rattle.lsp_replay.specs.Session.{session_outcome};
-ghost use Rattle.lsp_replay.specs.Commands.{output_in, report_from};
+ghost use Rattle.lsp_replay.specs.Commands.{report_from};
 ghost use Rattle.lsp_replay.specs.Parts.{is_last, part_bytes, part_data, part_outcome, replaying_part};
+ghost use Rattle.lsp_replay.specs.inside.Commands.{state_in};
 ghost use Rattle.lsp_replay.specs.inside.Parts.{found_now, text_now};
 
 pub(crate) mod chosen;
@@ -68,14 +69,10 @@ impl ReplayPart {
 }
 
 impl Printer for ReplayPart {
-    ghost run_output = { λ replay.
-        output_in (replaying_part (part_data replay.part)) (found_now replay) replay.session };
-
-    ghost reached = { λ replay. replay.session };
+    ghost state = { λ replay.
+        state_in (replaying_part (part_data replay.part)) (found_now replay) replay.session };
 
     const NOTES: bool = false;
-
-    ghost quiet = { λ _. record { silent = refl; unstopped = refl } };
 
     fn session(&self) -> &Session {
         &self.session

@@ -7,9 +7,9 @@ ghost use Rattle.lsp_message.specs.Seen.{change_view};
 ghost use Rattle.lsp_server.specs.Seen.{answer_view};
 ghost use Rattle.lsp_stream.specs.Ports as ports;
 ghost use Rattle.lsp_replay.specs.Reasons.{edit_reason, end_words, error_reason, position_words, range_sent};
-ghost use Rattle.lsp_replay.specs.Reasons.{idle_words, is_idle, reason_words, refusal_reason, renamed_words, store_reason, version_words};
+ghost use Rattle.lsp_replay.specs.Reasons.{idle_words, is_idle, reason_words, renamed_words, store_reason, version_words};
 
-use crate::members::{push_number, push_signed, push_words};
+use crate::members::{push_if, push_number, push_signed, push_words};
 use crate::session::counting::one_more;
 use lsp_edit::{EditFault, Side};
 use lsp_frame::Limits;
@@ -32,7 +32,10 @@ pub fn push_reason(
 {
     match answer {
         Answer::Reply { code, .. } => push_words(buffer, error_reason(*code)),
-        Answer::Refused(refusal) => push_refusal(buffer, limits, change, *refusal),
+        Answer::Refused(Refusal::InvalidParams) => {
+            push_words(buffer, "the parameters can't be read")
+        }
+        Answer::Refused(Refusal::Store(fault)) => push_store_reason(buffer, limits, change, *fault),
         Answer::Exit(_) => push_words(buffer, "`exit` came without `shutdown`"),
         Answer::Changed | Answer::Dropped | Answer::Ignored => Ok(()),
     }
@@ -49,21 +52,6 @@ fn error_reason(code: Option<ErrorCode>) -> &'static str
         }
         Some(ErrorCode::InvalidParams) => "the parameters of `initialize` can't be read",
         Some(ErrorCode::ServerNotInitialized) => "no request may come before `initialize`",
-    }
-}
-
-fn push_refusal(
-    buffer: &mut Vec<u8>,
-    limits: Limits,
-    change: Option<&ChangeParams>,
-    refusal: Refusal,
-) -> Result<(), AllocError>
-    ensures { OnOk result (buffer.new.items ≡ buffer.old.items
-        ++ refusal_reason limits (option_map (λ p. change_view p.now) change.entry) refusal) }
-{
-    match refusal {
-        Refusal::InvalidParams => push_words(buffer, "the parameters can't be read"),
-        Refusal::Store(fault) => push_store_reason(buffer, limits, change, fault),
     }
 }
 
@@ -130,18 +118,7 @@ fn push_stale(
     push_version(buffer, change)?;
     buffer.extend_from_slice(b" was sent, and the current one is ")?;
     push_signed(buffer, i64::from(held))?;
-    push_idle(buffer, change)
-}
-
-/// Writes that a change has no changes of the text, if it has none.
-fn push_idle(buffer: &mut Vec<u8>, change: Option<&ChangeParams>) -> Result<(), AllocError>
-    ensures { OnOk result (buffer.new.items ≡ buffer.old.items
-        ++ idle_words (option_map (λ p. change_view p.now) change.entry)) }
-{
-    if is_idle(change) {
-        push_words(buffer, ", and it has no changes")?;
-    }
-    Ok(())
+    push_if(buffer, is_idle(change), ", and it has no changes")
 }
 
 /// Returns whether it is a change without changes of the text.
@@ -158,13 +135,11 @@ pub fn is_idle(change: Option<&ChangeParams>) -> bool
 pub fn push_renamed(buffer: &mut Vec<u8>, renamed: bool) -> Result<(), AllocError>
     ensures { OnOk result (buffer.new.items ≡ buffer.old.items ++ renamed_words renamed) }
 {
-    if renamed {
-        push_words(
-            buffer,
-            "; its editor may have renamed a document that was open",
-        )?;
-    }
-    Ok(())
+    push_if(
+        buffer,
+        renamed,
+        "; its editor may have renamed a document that was open",
+    )
 }
 
 /// Writes the version that a change sends.

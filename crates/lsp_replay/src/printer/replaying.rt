@@ -1,8 +1,8 @@
 //! `replay`: the documents that are open at the end of a log.
 
-ghost use Rattle.std.specs.Prelude.{◌≡◌, ◌++◌, ◌-◌, refl, OnOk, length};
+ghost use Rattle.std.specs.Prelude.{◌≡◌, ◌++◌, ◌-◌, OnOk, length};
 ghost use Rattle.lsp_replay.specs.Commands.{replaying_from, document_line};
-ghost use Rattle.lsp_replay.specs.inside.Commands.{run_output_in};
+ghost use Rattle.lsp_replay.specs.inside.Commands.{state_in};
 
 use crate::handler::{Finished, Given, Output, Printed};
 use crate::printer::Printer;
@@ -21,15 +21,11 @@ pub struct Replay {
 }
 
 impl Printer for Replay {
-    ghost run_output = { λ replay. run_output_in (replaying_from replay.next) replay.session };
-
-    ghost reached = { λ replay. replay.session };
+    ghost state = { λ replay. state_in (replaying_from replay.next) tt replay.session };
 
     const NOTES: bool = false;
 
     ghost parts = { λ replay. length replay.session.server.table - replay.next };
-
-    ghost quiet = { λ _. record { silent = refl; unstopped = refl } };
 
     fn session(&self) -> &Session {
         &self.session

@@ -1,10 +1,10 @@
 //! `serve`: runs a server's end between a reader and a writer.
 
-ghost use Rattle.std.specs.Prelude.{◌≡◌, [], Ok, option_map, refl};
+ghost use Rattle.std.specs.Prelude.{◌≡◌, [], Ok, option_map};
 ghost use Rattle.lsp_replay.specs.Session.{session_outcome};
 ghost use Rattle.lsp_replay.specs.Session as spec;
 ghost use Rattle.lsp_replay.specs.Commands.{serving, serve_output};
-ghost use Rattle.lsp_replay.specs.inside.Commands.{run_output_in};
+ghost use Rattle.lsp_replay.specs.inside.Commands.{state_in};
 ghost use Rattle.lsp_replay.specs.inside.Verdicts.{verdict_view};
 
 use crate::handler::{Finished, Given, Output, Printed};
@@ -62,13 +62,9 @@ fn put_reply(buffer: &mut Vec<u8>, verdict: Verdict)
 }
 
 impl Printer for Serve {
-    ghost run_output = { λ serve. run_output_in serving serve.session };
-
-    ghost reached = { λ serve. serve.session };
+    ghost state = { λ serve. state_in serving tt serve.session };
 
     const NOTES: bool = false;
-
-    ghost quiet = { λ _. record { silent = refl; unstopped = refl } };
 
     fn session(&self) -> &Session {
         &self.session

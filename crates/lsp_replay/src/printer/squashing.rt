@@ -2,11 +2,12 @@
 //! message.
 
 ghost use Rattle.lsp_log.specs.Splitting.{record_of};
-ghost use Rattle.std.specs.Prelude.{◌≡◌, ◌++◌, ◌⊎◌, [], refl, IfErr, OnOk, None, Some};
+ghost use Rattle.std.specs.Prelude.{◌≡◌, ◌++◌, ◌⊎◌, [], IfErr, OnOk, None, Some};
 ghost use Rattle.lsp_replay.specs.Commands.{front_of};
+ghost use Rattle.lsp_replay.specs.inside.Commands.{state_in};
 ghost use Rattle.lsp_replay.specs.inside.Reads.{IsReadOf};
 ghost use Rattle.lsp_replay.specs.inside.RunOutput.{IsRecordFault};
-ghost use Rattle.lsp_replay.specs.inside.Squashed.{IsSquashStep, end_bytes, faulty, series_of, squashed_in, step_at};
+ghost use Rattle.lsp_replay.specs.inside.Squashed.{IsSquashStep, end_bytes, faulty, series_of, squash_view, step_at};
 
 use crate::handler::{Finished, Given, Output, Printed};
 use crate::printer::Printer;
@@ -171,13 +172,9 @@ impl Squashing {
 }
 
 impl Printer for Squashing {
-    ghost run_output = { λ squashing. squashed_in squashing.session squashing.series };
-
-    ghost reached = { λ squashing. squashing.session };
+    ghost state = { λ squashing. state_in squash_view squashing.series squashing.session };
 
     const NOTES: bool = false;
-
-    ghost quiet = { λ _. record { silent = refl; unstopped = refl } };
 
     fn session(&self) -> &Session {
         &self.session

@@ -2,15 +2,15 @@
 //!
 //! `first` writes the members that say what a record is, `values` the others.
 
-ghost use Rattle.std.specs.Prelude.{◌≡◌, ◌++◌, ◌&&◌, IfOk, refl, OnOk, codes, decimal, option_map, true};
+ghost use Rattle.std.specs.Prelude.{◌≡◌, ◌++◌, ◌&&◌, IfOk, OnOk, codes, decimal, option_map, true};
 ghost use Rattle.lsp_message.specs.Message.{reading};
 ghost use Rattle.lsp_message.specs.Seen.{change_view};
 ghost use Rattle.lsp_server.specs.Incoming.{incoming_of};
 ghost use Rattle.lsp_stream.specs.Ports as ports;
+ghost use Rattle.lsp_replay.specs.inside.Commands.{state_in};
 ghost use Rattle.lsp_replay.specs.inside.Facts.{members_by, reason_of};
 ghost use Rattle.lsp_replay.specs.inside.Reads.{IsReadOf};
 ghost use Rattle.lsp_replay.specs.inside.Verdicts.{verdict_view};
-ghost use Rattle.lsp_replay.specs.Commands.{output_in};
 ghost use Rattle.lsp_replay.specs.Lines.{lines};
 ghost use Rattle.lsp_replay.specs.Session.{has_changed};
 ghost use Rattle.lsp_replay.specs.Trace.{document_after, first_members, is_json, member, notes_json, tracing};
@@ -124,16 +124,12 @@ impl Trace {
 }
 
 impl Printer for Trace {
-    ghost run_output = { λ trace.
-        output_in (lines (tracing trace.details)) trace.known trace.session };
-
-    ghost reached = { λ trace. trace.session };
+    ghost state = { λ trace.
+        state_in (lines (tracing trace.details)) trace.known trace.session };
 
     ghost NOTES = { true };
 
     const NOTES: bool = true;
-
-    ghost quiet = { λ _. record { silent = refl; unstopped = refl } };
 
     fn session(&self) -> &Session {
         &self.session

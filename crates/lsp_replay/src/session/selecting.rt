@@ -5,7 +5,7 @@ ghost use Rattle.lsp_message.specs.Message.{IdData, message, reading};
 ghost use Rattle.lsp_message.specs.Seen.{id_view, message_view};
 ghost use Rattle.lsp_server.specs.Seen.{incoming_view};
 ghost use Rattle.lsp_replay.specs.Documents.{is_answer_to, is_due, is_kept_method, message_stays, nothing_selected, waiting_for};
-ghost use Rattle.lsp_replay.specs.inside.Bodies.{body_view, from_server};
+ghost use Rattle.lsp_replay.specs.inside.Bodies.{body_view};
 ghost use Rattle.lsp_replay.specs.inside.Reads.{IsReadOf, IsSelection, asked_id, is_waited, stays_read, waiting_read};
 
 use crate::session::results::{copied, message_of, same_id};
@@ -96,13 +96,22 @@ impl Selection {
                   self.old.waiting;
             }) }
     {
-        match read {
-            RecordBody::Client(_, incoming, _) => self.message_stays(
-                session.server.phase(),
-                incoming,
-            ),
-            RecordBody::Server(body) => self.answer_stays(session, body),
+        let body = match read {
+            RecordBody::Client(_, incoming, _) => {
+                return self.message_stays(session.server.phase(), incoming);
+            }
+            RecordBody::Server(body) => body,
+        };
+        if session.expected.is_none() && self.waiting.is_none() {
+            return Ok(false);
         }
+        let answered = answered_id(session.alloc, body)?;
+        let expected = is_waited(&session.expected, &answered);
+        if !is_waited(&self.waiting, &answered) {
+            return Ok(expected);
+        }
+        self.waiting = None;
+        Ok(true)
     }
 
     /// Returns whether a client's message in a phase stays. If it does, and is a request, remembers
@@ -123,29 +132,6 @@ impl Selection {
         if let Some(id) = asked_id(incoming) {
             self.waiting = Some(copied(id)?);
         }
-        Ok(true)
-    }
-
-    /// Returns whether a server's record stays. If it does, remembers whose answer is waited for.
-    fn answer_stays(&mut self, session: &Session, body: &[u8]) -> Result<bool, AllocError>
-        ensures stays { IfOk result (λ stays.
-            stays ≡ stays_read session.now self.old.waiting (from_server body.now)) }
-        ensures waiting { IfOk result (λ stays.
-            self.new ≡ record self.old {
-              waiting
-                  = if stays then waiting_read self.old.waiting (from_server body.now) else
-                  self.old.waiting;
-            }) }
-    {
-        if session.expected.is_none() && self.waiting.is_none() {
-            return Ok(false);
-        }
-        let answered = answered_id(session.alloc, body)?;
-        let expected = is_waited(&session.expected, &answered);
-        if !is_waited(&self.waiting, &answered) {
-            return Ok(expected);
-        }
-        self.waiting = None;
         Ok(true)
     }
 }

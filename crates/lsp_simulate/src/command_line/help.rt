@@ -1,4 +1,4 @@
-//! The texts of help. They are in functions, so that proofs don't unfold them.
+//! The texts of help. The table is in a function, so that proofs don't unfold it.
 
 ghost use Rattle.std.specs.Prelude.{◌≡◌, map};
 ghost use Rattle.lsp_program.specs.Arguments.{rule_by};
@@ -7,16 +7,6 @@ ghost use Rattle.lsp_simulate.specs.CommandLine.{program_rules};
 
 use lsp_program::Value::{ChangeForm, Encoding, Flag, Number};
 use lsp_program::{Argument, BODY, CHANGES, DOCS, TEXT};
-
-/// Returns the text above the list of options.
-pub fn about() -> &'static str {
-    PROGRAM
-}
-
-/// Returns the text below the list of options.
-pub fn notes() -> &'static str {
-    NOTES
-}
 
 /// Returns the options. The defaults of the client's limits are those of `Limits::default()`, and the
 /// server's have none.
@@ -47,11 +37,13 @@ static OPTIONS: [Argument; 14] = [
 // Lines of help have at most 80 columns. `clap` writes 32 before the text of an option, and its default
 // after it.
 
-static PROGRAM: &str =
+/// The text above the list of options.
+pub static ABOUT: &str =
     "Runs both ends of a session of the Language Server Protocol 3.17, by events from
 standard input";
 
-static NOTES: &str = "Each line of standard input is an event, a JSON object:
+/// The text below the list of options.
+pub static NOTES: &str = "Each line of standard input is an event, a JSON object:
   {\"event\":\"start\"}, \"shutdown\", \"exit\"   a call of the client
   {\"event\":\"open\",\"textDocument\":{..}}    with the members of didOpen
   {\"event\":\"edit\",\"textDocument\":{..},\"contentChanges\":[..]}

@@ -1,4 +1,4 @@
-//! The pages of help. They are in functions, so that proofs don't unfold them.
+//! The pages of help. Their tables are in functions, so that proofs don't unfold them.
 
 ghost use Rattle.std.specs.Prelude.{◌≡◌, map};
 ghost use Rattle.lsp_program.specs.Arguments.{rule_by};
@@ -26,16 +26,6 @@ pub struct Page {
     pub arguments: &'static [Argument],
 }
 
-/// Returns the text above the list of commands.
-pub fn about() -> &'static str {
-    PROGRAM
-}
-
-/// Returns the text below the list of commands.
-pub fn notes() -> &'static str {
-    NOTES
-}
-
 /// Returns the pages of all commands.
 pub fn pages() -> &'static [Page]
     ensures { (names : OptionNames) → map (shape_by names) result.now
@@ -51,84 +41,61 @@ pub fn limits() -> &'static [Argument]
     LIMITS.as_slice()
 }
 
+/// A page, with its options and files after the texts.
+macro_rules! page {
+    ($name:literal, $about:ident, $example:ident => $arguments:expr) => {
+        Page {
+            name: $name,
+            about: $about,
+            example: $example,
+            arguments: &$arguments,
+        }
+    };
+}
+
 static PAGES: [Page; 7] = [
-    Page {
-        name: "serve",
-        about: SERVE,
-        example: SERVE_EXAMPLE,
-        arguments: &[
-            ("encoding", Encoding(Some("utf-16")), PREFERRED_ENCODING),
-            ("sync", ChangeForm, SYNC),
-            ("stdio", Flag, STDIO),
-        ],
-    },
-    Page {
-        name: "check",
-        about: CHECK,
-        example: CHECK_EXAMPLE,
-        arguments: &[
-            ("encoding", Encoding(Some("utf-16")), ENCODING),
-            ("explain", Flag, EXPLAIN),
-            ("brief", Flag, BRIEF),
-            ("all", Flag, ALL),
-            ("live", Flag, LIVE),
-            ("FILE", Logs, LOGS),
-        ],
-    },
-    Page {
-        name: "trace",
-        about: TRACE,
-        example: TRACE_EXAMPLE,
-        arguments: &[
-            ("encoding", Encoding(Some("utf-16")), ENCODING),
-            ("texts", Flag, TEXTS),
-            ("bodies", Flag, BODIES),
-            ("live", Flag, LIVE),
-            ("FILE", Logs, LOGS),
-        ],
-    },
-    Page {
-        name: "replay",
-        about: REPLAY,
-        example: REPLAY_EXAMPLE,
-        arguments: &[
-            ("encoding", Encoding(Some("utf-16")), ENCODING),
-            ("at", Number(RECORDS, None), AT),
-            ("uri", Text("URI"), URI),
-            ("FILE", Log, LOG),
-        ],
-    },
-    Page {
-        name: "compare",
-        about: COMPARE,
-        example: COMPARE_EXAMPLE,
-        arguments: &[
-            ("encoding", Encoding(Some("utf-16")), ENCODING),
-            ("SAVED", File, SAVED),
-            ("uri", Text("URI"), ENDING),
-            ("FILE", Log, LOG),
-        ],
-    },
-    Page {
-        name: "normalise",
-        about: NORMALISE,
-        example: NORMALISE_EXAMPLE,
-        arguments: &[
-            ("encoding", Encoding(Some("utf-16")), ENCODING),
-            ("documents", Flag, DOCUMENTS),
-            ("squash", Flag, SQUASH),
-            ("FILE", Log, LOG),
-        ],
-    },
-    Page {
-        name: "convert",
-        about: CONVERT,
-        example: CONVERT_EXAMPLE,
-        arguments: &[
-            ("encoding", Encoding(Some("utf-16")), ENCODING),
-            ("FILE", Log, LOG),
-        ],
-    },
+    page!("serve", SERVE, SERVE_EXAMPLE => [
+        ("encoding", Encoding(Some("utf-16")), PREFERRED_ENCODING),
+        ("sync", ChangeForm, SYNC),
+        ("stdio", Flag, STDIO),
+    ]),
+    page!("check", CHECK, CHECK_EXAMPLE => [
+        ("encoding", Encoding(Some("utf-16")), ENCODING),
+        ("explain", Flag, EXPLAIN),
+        ("brief", Flag, BRIEF),
+        ("all", Flag, ALL),
+        ("live", Flag, LIVE),
+        ("FILE", Logs, LOGS),
+    ]),
+    page!("trace", TRACE, TRACE_EXAMPLE => [
+        ("encoding", Encoding(Some("utf-16")), ENCODING),
+        ("texts", Flag, TEXTS),
+        ("bodies", Flag, BODIES),
+        ("live", Flag, LIVE),
+        ("FILE", Logs, LOGS),
+    ]),
+    page!("replay", REPLAY, REPLAY_EXAMPLE => [
+        ("encoding", Encoding(Some("utf-16")), ENCODING),
+        ("at", Number(RECORDS, None), AT),
+        ("uri", Text("URI"), URI),
+        ("FILE", Log, LOG),
+    ]),
+    page!("compare", COMPARE, COMPARE_EXAMPLE => [
+        ("encoding", Encoding(Some("utf-16")), ENCODING),
+        ("SAVED", File, SAVED),
+        ("uri", Text("URI"), ENDING),
+        ("FILE", Log, LOG),
+    ]),
+    page!("normalise", NORMALISE, NORMALISE_EXAMPLE => [
+        ("encoding", Encoding(Some("utf-16")), ENCODING),
+        ("documents", Flag, DOCUMENTS),
+        ("squash", Flag, SQUASH),
+        ("FILE", Log, LOG),
+    ]),
+    page!("convert", CONVERT, CONVERT_EXAMPLE => [
+        ("encoding", Encoding(Some("utf-16")), ENCODING),
+        ("FILE", Log, LOG),
+    ]),
 ];
 
 static LIMITS: [Argument; 5] = [
@@ -145,10 +112,12 @@ const RECORDS: Range = Range {
     greatest: u64::MAX,
 };
 
-static PROGRAM: &str = "Applies an editor's change messages to a copy of each open text (Language
+/// The text above the list of commands.
+pub static ABOUT: &str = "Applies an editor's change messages to a copy of each open text (Language
 Server Protocol 3.17), and reads recorded sessions";
 
-static NOTES: &str = "A log is what an editor sent to its language server, byte for byte; one of
+/// The text below the list of commands.
+pub static NOTES: &str = "A log is what an editor sent to its language server, byte for byte; one of
 version 2 has both directions. Where the editor starts `some-server`, let it
 start a script with this line, and it is recorded:
   umask 077; tee \"/tmp/session-$$.log\" | some-server \"$@\"

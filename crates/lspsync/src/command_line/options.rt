@@ -3,7 +3,7 @@
 ghost use Rattle.std.specs.Prelude.{◌≡◌, IfOk};
 ghost use Rattle.clap.specs.Words.{app_of, with_subcommand};
 ghost use Rattle.lspsync.specs.CommandLine.{IsProgram};
-ghost use Rattle.lspsync.specs.inside.Options.{IsCommand, shape_by, top_app};
+ghost use Rattle.lspsync.specs.inside.Options.{IsCommand, shape_by};
 
 use crate::command_line::help::{self, Page};
 use clap::Command;
@@ -18,22 +18,15 @@ pub(crate) fn program<'a>(alloc: Global) -> Result<Command<'a>, AllocError>
         change_forms: change_forms(),
     };
     let pages = help::pages();
-    let mut program = top(alloc);
+    let mut program = Command::new(alloc, "lspsync")
+        .about(help::ABOUT)
+        .after_help(help::NOTES)
+        .version(VERSION)
+        .subcommand_required(true);
     for page in pages {
         program = with_command(alloc, program, *page, names)?;
     }
     Ok(program)
-}
-
-/// Returns the program without its commands.
-fn top<'a>(alloc: Global) -> Command<'a>
-    ensures { app_of result ≡ top_app }
-{
-    Command::new(alloc, "lspsync")
-        .about(help::about())
-        .after_help(help::notes())
-        .version(VERSION)
-        .subcommand_required(true)
 }
 
 fn with_command<'a>(

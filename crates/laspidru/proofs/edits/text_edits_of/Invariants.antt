@@ -1,12 +1,14 @@
-use Rattle.laspidru.proofs.Prelude.{refused_edit}
-use Rattle.std.proofs.Common.{◌≡◌, ◌++◌, drop, map, None}
-use Rattle.laspidru.specs.Edits.{replacement_of, replacements_of}
+use Rattle.std.proofs.Common.{◌≡◌, ◌++◌, map}
+use Rattle.std.specs.Vec.Iter.{into_iter_items}
+use Rattle.laspidru.specs.Edits.{replacement_by, replacement_of}
+use Rattle.laspidru.specs.inside.Passed.{replacements_in}
 use Rattle.laspidru.proofs.edits.text_edits_of.Given as goal
 
--- the edits so far and those that are left are all edits, and none of those that are left is refused
-abbrev pub invariant-loop-edit : goal.invariant-loop-edit
-invariant-loop-edit l = record {
-  all : map replacement_of l.passed.items ++ replacements_of (drop l.edit-index l.edits) l.rest
-      ≡ replacements_of l.edits l.texts;
-  taken : refused_edit (drop l.edit-index l.edits) l.rest ≡ None;
+-- the edits so far and the changes that are left are all edits
+abbrev pub invariant-loop-change : goal.invariant-loop-change
+invariant-loop-change l = record {
+  going : goal.iterator-loop-change.can_next l.change-iterator;
+  finite : goal.iterator-loop-change.is_finite l.change-iterator;
+  all : map replacement_of l.edits.items ++ map replacement_by (into_iter_items l.change-iterator)
+      ≡ replacements_in l.passed;
 }

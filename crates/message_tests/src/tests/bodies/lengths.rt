@@ -1,6 +1,6 @@
 //! The `rangeLength` of changes, by their bytes and by a tree.
 
-use lsp_message::Incoming;
+use lsp_message::{Incoming, Scratch};
 use lsp_samples::again;
 use std::alloc::{AllocError, Global};
 use std::test::Fail;
@@ -11,7 +11,7 @@ struct Row {
     lengths: &'static [Option<u64>],
 }
 
-static ROWS: [Row; 5] = [
+static ROWS: [Row; 7] = [
     // By the bytes of a keystroke: in its usual layout, and spaced.
     Row {
         body: br#"{"jsonrpc":"2.0","method":"textDocument/didChange","params":{"textDocument":{"uri":"u","version":2},"contentChanges":[{"range":{"start":{"line":0,"character":1},"end":{"line":0,"character":4}},"rangeLength":3,"text":"a"}]}}"#,
@@ -30,6 +30,16 @@ static ROWS: [Row; 5] = [
         body: br#"{"params":{"contentChanges":[{"text":"a","rangeLength":7},{"text":"b"},{"rangeLength":0,"text":"c"}],"textDocument":{"uri":"u","version":2}},"method":"textDocument/didChange","jsonrpc":"2.0"}"#,
         lengths: &[Some(7), None, Some(0)],
     },
+    // By a tree, after it was read by its tokens: an escape in the method.
+    Row {
+        body: br#"{"jsonrpc":"2.0","method":"textDocument/\u0064idChange","params":{"textDocument":{"uri":"u","version":2},"contentChanges":[{"text":"a","rangeLength":9}]}}"#,
+        lengths: &[Some(9)],
+    },
+    // By its tokens.
+    Row {
+        body: br#"{"jsonrpc":"2.0","method":"$/progress","params":{"contentChanges":[{"text":"a","rangeLength":9}]}}"#,
+        lengths: &[],
+    },
     Row {
         body: b"\xff",
         lengths: &[],
@@ -39,7 +49,13 @@ static ROWS: [Row; 5] = [
 /// Returns whether a body's changes have the lengths of its row. Out of memory is counted, and the
 /// call made again.
 fn is_read(alloc: Global, row: &Row, refused: &mut usize) -> Result<bool, AllocError> {
-    let (_, noted) = again!(refused, AllocError, Incoming::read_noted(alloc, row.body))?;
+    let mut scratch = Scratch::new(alloc);
+    let read = again!(
+        refused,
+        AllocError,
+        Incoming::read_noted(alloc, row.body, &mut scratch)
+    );
+    let (_, noted) = read?;
     Ok(noted.lengths.as_slice() == row.lengths)
 }
 

@@ -1,8 +1,18 @@
-use Rattle.lsp_message.proofs.Prelude.{refl}
+use Rattle.lsp_message.proofs.Prelude.{◌≡◌, ℕ, Bool, true, false, List, Option, refl, if◌then◌else◌, Offers}
+use Rattle.lsp_message.specs.Incoming.{initialize, shutdown, other_request}
+use Rattle.lsp_message.specs.Lengths.{is_noted}
+use Rattle.lsp_message.specs.Message.{IdData}
 use Rattle.lsp_message.proofs.reader.incoming.noted_of.Goals as goal
 
+-- notes go by no more of a request
+unnoted : (first last : Bool) (id : IdData) (offers : Option Offers) (method : List ℕ) → is_noted
+    (if first then initialize id offers else if last then shutdown id else other_request id method) ≡ false
+unnoted true last id offers method = refl
+unnoted false true id offers method = refl
+unnoted false false id offers method = refl
+
 pub returns-in-Request : goal.returns-in-Request
-returns-in-Request c = rw c.in-Request.is (c.nothing.ensures _ _ c.request-incoming.ensures refl)
+returns-in-Request c = rw c.in-Request.is (c.nothing.ensures _ _ c.request-incoming.ensures (unnoted _ _ _ _ _))
 
 pub returns : goal.returns
 returns c = rw c.in-Response.is (c.nothing-in-Response.ensures _ _ refl refl)

@@ -1,10 +1,8 @@
-use Rattle.lsp_message.proofs.Tokens.{put, add, ending}
+use Rattle.lsp_message.proofs.Prelude.{◌≡◌, sym, rules, w32, to_z, of_z, to_z-of_z}
 use Rattle.lsp_message.proofs.writer.lifecycle.write_error_reply.Goals as goal
 
-pub returns : goal.returns
-returns c = ending c.end_object.result
-    (λ e. put c.in_ok-begin_object.ensures
-    (put c.in_ok-key.ensures
-    (add c.in_ok-error_value.ensures
-    (put c.in_ok-key-2.ensures (add c.in_ok-write_id_or_null.ensures (add c.in_ok-text_member.ensures.tokens e))))))
-    c.end_object.ensures
+pub returns-clause-tokens : goal.returns-clause-tokens
+returns-clause-tokens c =
+    let number = c.number.result in
+    let code : to_z w32 (of_z w32 number) ≡ number = to_z-of_z w32 number (search rules) in
+    rw (sym c.text.ensures, sym c.number.ensures, sym code) c.write.ensures.tokens

@@ -10,10 +10,10 @@ returns-clause-ok g c =
     (c.in_ok-head.ensures.admitted c.args.item.now.body.now c.in_ok-read.ensures.read) in
     when_ok c.print.result
     (λ session given step.
-    printed (g.P.Printer.reached c.args.self.now.printer) c.args.item.now.head c.args.item.now.raw.now
+    printed (g.P.Printer.state c.args.self.now.printer).session c.args.item.now.head c.args.item.now.raw.now
     c.args.item.now.body.now c.args.self.now.selection c.admit.new.self.selection c.in-Some.head admitted
-    (g.P.Printer.reached c.print.new.self) session
-    (g.P.Printer.run_output c.args.self.now.printer) (g.P.Printer.run_output c.print.new.self)
+    (g.P.Printer.state c.print.new.self).session session
+    (g.P.Printer.state c.args.self.now.printer).run_output (g.P.Printer.state c.print.new.self).run_output
     (output_of given.output c.args.item.now.raw.now c.print.new.buffer.items) given.end step)
     (rw c.admit.ensures.printer at c.print.ensures.session) (rw c.admit.ensures.printer at c.print.ensures.ok)
 
@@ -23,7 +23,7 @@ returns-clause-error g c =
     (c.in_ok-head.ensures.admitted c.args.item.now.body.now c.in_ok-read.ensures.read) in
     when_err c.print.result
     (λ fault is.
-    failed (g.P.Printer.reached c.args.self.now.printer) c.args.item.now.head c.args.item.now.raw.now
+    failed (g.P.Printer.state c.args.self.now.printer).session c.args.item.now.head c.args.item.now.raw.now
     c.args.item.now.body.now c.args.self.now.selection c.admit.new.self.selection c.in-Some.head admitted
-    (g.P.Printer.run_output c.args.self.now.printer) fault is)
+    (g.P.Printer.state c.args.self.now.printer).run_output fault is)
     (rw c.admit.ensures.printer at c.print.ensures.error)

@@ -1,14 +1,14 @@
 use Rattle.lsp_message.proofs.Prelude.{◌≡◌, Some, sym, ap, ◌∙◌, did_change, incoming_of, lengths_of, message_of, reading}
 use Rattle.lsp_message.proofs.Readings.{reading_of_value, reading_of_none}
 use Rattle.lsp_message.specs.Incoming.{other_notification}
-use Rattle.lsp_message.specs.Lengths.{notification_params}
+use Rattle.lsp_message.specs.Lengths.{is_noted}
 use Rattle.lsp_message.specs.Seen.{change_view}
 use Rattle.lsp_message.proofs.reader.incoming.Incoming.read_noted.Goals as goal
 
 pub returns-in_default-clause-ok : goal.returns-in_default-clause-ok
 returns-in_default-clause-ok c =
     let none = reading_of_none c.args.body.now (λ utf8. absurd (c.in_default.ensures.cases.0 utf8)) in
-    c.nothing.ensures _ _ (sym (ap incoming_of none)) (ap notification_params none)
+    c.nothing-in_default.ensures _ _ (sym (ap incoming_of none)) (ap (λ r. is_noted (incoming_of r)) none)
 
 pub returns-clause-ok : goal.returns-clause-ok
 returns-clause-ok c =
@@ -20,7 +20,7 @@ returns-clause-ok c =
     ap incoming_of is ∙ read.2 in
     record {
       asks = sym asks;
-      lengths = c.in_ok-vec.ensures.items ∙ sym (ap lengths_of is ∙ read.3);
+      lengths = λ change given. c.in_ok-vec.ensures.items ∙ sym (ap lengths_of is ∙ read.3);
       params = λ method other. absurd
           (let wrong : did_change (Some (change_view c.in-Some.params)) ≡ other_notification method = sym asks ∙ other in
           cc);

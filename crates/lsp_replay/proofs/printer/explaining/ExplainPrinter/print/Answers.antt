@@ -11,11 +11,10 @@ returns-clause-ok c = λ more.
     let s = c.args.self.now.session in
     let facts = c.in_ok-facts.ensures.facts in
     let session = c.in_ok-facts.ensures.session in
-    let limits = c.limits-limits.ensures ∙ ap (λ store. store.limits) c.store.ensures
-    ∙ ap (λ server. server.config.limits) c.server.ensures ∙ ap (λ (u : Session). u.server.config.limits) session in
+    let limits = ap (λ (u : Session). u.server.config.limits) session in
     rw c.more.ensures
     (line_first (explaining listing) known s r (λ e. c.in_ok-facts.ensures.in_log (facts.verdict ∙ e))
     c.push_facts.new.buffer.items
-    (line_is listing known s r c.limits-limits.result limits c.in_ok-facts.facts facts c.args.buffer.now.items _
-    c.requires.empty c.in_ok-push_facts.ensures)
+    (line_is listing known s r c.take.new.session.server.config.limits limits c.in_ok-facts.facts facts
+    c.args.buffer.now.items _ c.requires.empty c.in_ok-push_facts.ensures)
     c.take.new.session session c.take.new.self c.in_ok-facts.ensures.known more)
