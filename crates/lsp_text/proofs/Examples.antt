@@ -5,18 +5,13 @@ use Rattle.lsp_text.specs.laws.Examples.{HoldsOnExamples, two_lines, smile}
 
 no_place_in_two : IsPlace two_lines 2 → ⊥
 unfolding encode
-no_place_in_two (zero, within, whole, at) = cc
-no_place_in_two (suc zero, within, whole, at) = cc
-no_place_in_two (suc (suc zero), within, whole, at) = cc
-no_place_in_two (suc (suc (suc zero)), within, whole, at) = cc
-no_place_in_two (suc (suc (suc (suc zero))), within, whole, at) = cc
 no_place_in_two (suc (suc (suc (suc (suc k)))), within, whole, at) = absurd (omega arith)
+no_place_in_two at = cc
 
 no_place_in_smile : IsPlace smile 2 → ⊥
 unfolding encode
-no_place_in_smile (zero, within, whole, at) = cc
-no_place_in_smile (suc zero, within, whole, at) = cc
 no_place_in_smile (suc (suc k), within, whole, at) = absurd (omega arith)
+no_place_in_smile at = cc
 
 pub holds_on_examples : HoldsOnExamples
 unfolding encode

@@ -1,5 +1,5 @@
 -- Units counted byte by byte are those counted character by character.
-use Rattle.lsp_text.proofs.Prelude.{◌≡◌, ℕ, zero, suc, ◌+◌, ◌-◌, ◌≤◌, ◌<◌, Bool, true, false, cond, ltb, List, [], ◌∷◌, ◌++◌, length, get_or, sum_by, Option, Some, None, option_map, ltb as nat_lt, ◌==◌, refl, sym, ap, ◌∙◌, arith, ⊎_elim, leb, ◌&&◌, lt-ltb, le-ltb, encode_utf8_all, len_utf8, length-append, sum_by-append, sum_by-cons, cases_lt, cond_both, nat_tests, length-encode, len_utf8_bounds, encodes-chars, IsUtf8, chars, units_in, Utf16, lead_units_utf16, lead_units_utf32, HaveNone, FirstHas, line_place, byte_place, common_steps}
+use Rattle.lsp_text.proofs.Prelude.{◌≡◌, ℕ, zero, suc, ◌+◌, ◌-◌, ◌≤◌, ◌<◌, Bool, true, false, cond, ltb, List, [], ◌∷◌, ◌++◌, length, get_or, sum_by, Option, Some, None, option_map, ltb as nat_lt, ◌==◌, refl, sym, ap, ◌∙◌, arith, ⊎_elim, ◌&&◌, lt-ltb, le-ltb, encode_utf8_all, len_utf8, length-append, sum_by-append, sum_by-cons, cases_lt, cond_both, ne_eqb, nat_tests, length-encode, len_utf8_bounds, encodes-chars, IsUtf8, chars, units_in, Utf16, lead_units_utf16, lead_units_utf32, HaveNone, FirstHas, line_place, byte_place, common_steps}
 use Rattle.std.proofs.Math.Utf8.{encode}
 use Rattle.std.proofs.lemmas.Grind.{common_steps}
 
@@ -76,40 +76,19 @@ module _ (lead units : ℕ → ℕ) where
 
 -- a byte that no character's UTF-8 begins with
 abbrev pub is_inside : ℕ → Bool
-is_inside b = leb 128 b && ltb b 192
+is_inside b = lead_units_utf32 b == 0
 
-inside_yes : (b : ℕ) → 128 ≤ b → b < 192 → is_inside b ≡ true
-inside_yes b low high = grind (arith, nat_tests)
-
-inside_ascii : (b : ℕ) → b < 128 → is_inside b ≡ false
-inside_ascii b low = grind (arith, nat_tests)
-
-inside_lead : (b : ℕ) → 192 ≤ b → is_inside b ≡ false
-inside_lead b low = grind (arith, nat_tests)
-
-abbrev AllInside : List ℕ → Type 0
-AllInside [] = Unit {0}
-AllInside (b ∷ bytes) = (is_inside b ≡ true) × AllInside bytes
-
-abbrev FirstOutside : List ℕ → Type 0
-FirstOutside [] = ⊥
-FirstOutside (b ∷ bytes) = (is_inside b ≡ false) × AllInside bytes
-
-encode_outside : (c : ℕ) → FirstOutside (encode c)
-unfolding encode
-encode_outside c = grind (arith, common_steps, cond_both, ltb, inside_ascii, inside_yes)
-
-at_inside : (bytes rest : List ℕ) (k : ℕ) → AllInside bytes → k < length bytes → is_inside (get_or (bytes ++ rest) k 0)
-    ≡ true
+at_inside : (bytes rest : List ℕ) (k : ℕ) → HaveNone lead_units_utf32 bytes → k < length bytes
+    → is_inside (get_or (bytes ++ rest) k 0) ≡ true
 at_inside [] rest k all h = absurd (omega arith)
-at_inside (b ∷ bytes) rest zero all h = all.0
+at_inside (b ∷ bytes) rest zero all h = ap (λ (n : ℕ). n == 0) all.0
 at_inside (b ∷ bytes) rest (suc k) all h = at_inside bytes rest k all.1 (omega arith)
 
-at_first : (bytes rest : List ℕ) → FirstOutside bytes → is_inside (get_or (bytes ++ rest) 0 0) ≡ false
+at_first : (bytes rest : List ℕ) → FirstHas lead_units_utf32 bytes 1 → is_inside (get_or (bytes ++ rest) 0 0) ≡ false
 at_first [] rest first = absurd first
-at_first (b ∷ bytes) rest first = first.0
+at_first (b ∷ bytes) rest first = ap (λ (n : ℕ). n == 0) first.0
 
-behind_first : (bytes rest : List ℕ) (k : ℕ) → FirstOutside bytes → 0 < k → k < length bytes
+behind_first : (bytes rest : List ℕ) (k : ℕ) → FirstHas lead_units_utf32 bytes 1 → 0 < k → k < length bytes
     → is_inside (get_or (bytes ++ rest) k 0) ≡ true
 behind_first [] rest k first some h = absurd first
 behind_first (b ∷ bytes) rest zero first some h = absurd (omega arith)
@@ -132,21 +111,17 @@ utf8_past (x ∷ cs) c h =
 pub utf8_at : (cs : List ℕ) (c : ℕ) → c < length (encode_utf8_all cs) → line_place len_utf8 cs c
     ≡ cond (is_inside (get_or (encode_utf8_all cs) c 0)) None (Some c)
 utf8_at [] c h = absurd (omega arith)
-utf8_at (x ∷ cs) zero h = rw (at_first (encode x) (encode_utf8_all cs) (encode_outside x)) refl
+utf8_at (x ∷ cs) zero h = rw (at_first (encode x) (encode_utf8_all cs) (utf32_first x)) refl
 utf8_at (x ∷ cs) (suc k) h =
     let rest = encode_utf8_all cs in
     let size : length (encode x) ≡ len_utf8 x = length-encode x in
     let sum = length-append (encode x) rest ∙ ap (λ n. n + length rest) size in
     ⊎_elim
     (λ (l : suc k < len_utf8 x).
-    grind (arith, common_steps, nat_lt, lt-ltb, encode, behind_first, encode_outside))
+    grind (arith, common_steps, nat_lt, lt-ltb, encode, behind_first, utf32_first))
     (λ (l : len_utf8 x ≤ suc k).
     grind (arith, common_steps, (utf8_at cs (suc k - len_utf8 x) (omega (arith, sum)))))
     (cases_lt (suc k) (len_utf8 x))
-  where
-    shifted : (b : Bool) (n c : ℕ) → n ≤ c → option_map (λ m. n + m) (cond b None (Some (c - n))) ≡ cond b None (Some c)
-    shifted true n c h = refl
-    shifted false n c h = ap Some (omega arith)
 
 -- The same over the bytes of a text.
 pub units_of_text : (lead units : ℕ → ℕ) → ((c : ℕ) → FirstHas lead (encode c) (units c)) → (bytes : List ℕ)
@@ -176,17 +151,13 @@ utf8_at_text : (bytes : List ℕ) → IsUtf8 bytes → (c : ℕ) → c < length 
     ≡ cond (is_inside (get_or bytes c 0)) None (Some c)
 utf8_at_text bytes utf8 c within = grind (arith, common_steps, encodes-chars, utf8_at)
 
-pub utf8_inside_text : (bytes : List ℕ) → IsUtf8 bytes → (c : ℕ) → c < length bytes → 128 ≤ get_or bytes c 0
-    → get_or bytes c 0 < 192 → None ≡ line_place len_utf8 (chars bytes) c
-utf8_inside_text bytes utf8 c within low high =
-    sym (utf8_at_text bytes utf8 c within ∙ ap (λ b. cond b None (Some c)) (inside_yes (get_or bytes c 0) low high))
+pub utf8_inside_text : (bytes : List ℕ) → IsUtf8 bytes → (c : ℕ) → c < length bytes
+    → lead_units_utf32 (get_or bytes c 0) ≡ 0 → None ≡ line_place len_utf8 (chars bytes) c
+utf8_inside_text bytes utf8 c within none =
+    sym (utf8_at_text bytes utf8 c within ∙ ap (λ (n : ℕ). cond (n == 0) None (Some c)) none)
 
-pub utf8_ascii_text : (bytes : List ℕ) → IsUtf8 bytes → (c : ℕ) → c < length bytes → get_or bytes c 0 < 128
-    → Some c ≡ line_place len_utf8 (chars bytes) c
-utf8_ascii_text bytes utf8 c within low =
-    sym (utf8_at_text bytes utf8 c within ∙ ap (λ b. cond b None (Some c)) (inside_ascii (get_or bytes c 0) low))
-
-pub utf8_lead_text : (bytes : List ℕ) → IsUtf8 bytes → (c : ℕ) → c < length bytes → 192 ≤ get_or bytes c 0
-    → Some c ≡ line_place len_utf8 (chars bytes) c
-utf8_lead_text bytes utf8 c within high =
-    sym (utf8_at_text bytes utf8 c within ∙ ap (λ b. cond b None (Some c)) (inside_lead (get_or bytes c 0) high))
+pub utf8_outside_text : (bytes : List ℕ) → IsUtf8 bytes → (c : ℕ) → c < length bytes
+    → (lead_units_utf32 (get_or bytes c 0) ≡ 0 → ⊥) → Some c ≡ line_place len_utf8 (chars bytes) c
+utf8_outside_text bytes utf8 c within some =
+    sym (utf8_at_text bytes utf8 c within
+    ∙ ap (λ b. cond b None (Some c)) (ne_eqb (lead_units_utf32 (get_or bytes c 0)) 0 some))

@@ -1,8 +1,10 @@
 -- The exact position of a place, by the line starts and the bytes of its line.
-use Rattle.lsp_text.proofs.Prelude.{◌≡◌, ℕ, zero, suc, ◌≤◌, ◌<◌, List, [], ◌∷◌, length, slice_index, sum_by, Some, option_map, refl, sym, ap, ◌∙◌, arith, ⊎_elim, subst, len_utf8, chars, IsUtf8, cases_lt, length-take, length-drop, sum_by-cons, encodes-chars, length-le-encodes, Position, place_of, line_at, line_ends, line_start, AreLinesOf, IsPlace, AreStarts, IsLineOf, units_between, exact_position, denoted, common_steps}
+use Rattle.lsp_text.proofs.Prelude.{◌≡◌, ℕ, zero, suc, ◌+◌, ◌≤◌, ◌<◌, List, [], ◌∷◌, length, slice_index, sum_by, Some, option_map, refl, sym, ap, ◌∙◌, arith, ⊎_elim, subst, len_utf8, chars, IsUtf8, cases_lt, length-map, get_or-map, length-take, length-drop, sum_by-cons, encodes-chars, length-le-encodes, Position, place_of, line_at, line_ends, line_start, line_starts, start_places, AreLinesOf, IsPlace, AreStarts, IsLineOf, units_between, exact_position, denoted, common_steps}
 use Rattle.lsp_text.proofs.TextLines.LineLemmas.{line_rises, line_step, reached, in_content_line, line_has_start}
 use Rattle.lsp_text.proofs.Positions.PlaceLemmas.{place_order, place_rises, place_within}
+use Rattle.lsp_text.specs.laws.Positions.{FoundLaw}
 use Rattle.lsp_text.proofs.TextLines.StartLemmas.{starts_of_text}
+use Rattle.lsp_text.proofs.TextLines.StartRowLemmas.{length-line_starts, start_at}
 use Rattle.lsp_text.proofs.TextLines.IndexesLemmas.{indexes_line, indexes_start, indexes_count, starts_from}
 use Rattle.lsp_text.proofs.Positions.PositionLemmas.{exact_denotes}
 use Rattle.lsp_text.proofs.Counting.LeadLemmas.{utf8_units_of_text}
@@ -13,7 +15,7 @@ pub indexes_are : (bytes lines : List ℕ) → IsUtf8 bytes → AreLinesOf lines
 indexes_are bytes lines utf8 indexes = starts_from bytes lines (indexes.starts ∙ sym (starts_of_text bytes utf8))
 
 -- There are no more lines than characters and one.
-line_low : (text : List ℕ) (k : ℕ) → line_at text k ≤ k
+pub line_low : (text : List ℕ) (k : ℕ) → line_at text k ≤ k
 line_low text zero = omega arith
 line_low text (suc k) = omega (arith, (line_step text k).1, line_low text k)
 
@@ -33,15 +35,22 @@ indexes_few bytes lines utf8 indexes =
 pub start_before : (text : List ℕ) (k : ℕ) → k ≤ length text → line_start text (line_at text k) ≤ k
 start_before text k within = grind (arith, common_steps, reached, line_has_start, line_rises)
 
--- The line whose start is the last at or before the place of an index is the index's line.
-pub line_found : (bytes lines : List ℕ) (place line k : ℕ) → AreLinesOf lines bytes → IsLineOf lines place line
-    → k ≤ length (chars bytes) → place_of (chars bytes) k ≡ place → line ≡ line_at (chars bytes) k
-line_found bytes lines place line k indexes found within at =
-    let text = chars bytes in
-    let there : line ≤ line_ends text = indexes_line bytes lines line indexes found.within in
+-- The kept start of a line is the place of the line's start.
+pub start_place : (text : List ℕ) (line : ℕ) → line ≤ line_ends text → slice_index (start_places text) line
+    ≡ place_of text (line_start text line)
+start_place text line there = grind (arith, common_steps, get_or-map, length-line_starts, start_at)
+
+-- The line of a text whose start is the last at or before the place of an index is the index's line.
+pub found_law : FoundLaw
+found_law text k line within found =
+    let lines = start_places text in
+    let count : length lines ≡ line_ends text + 1 =
+    omega (arith, length-map (line_starts text) (place_of text), length-line_starts text) in
+    let inside = found.within in
+    let there : line ≤ line_ends text = omega (arith, count) in
     let start = line_has_start text line there in
-    let low = place_order text (line_start text line) k (omega (arith, start.in_row))
-    (omega (arith, at, indexes_start bytes lines line indexes there, found.at_most)) in
+    let low : line_start text line ≤ k =
+    grind (arith, common_steps, place_order, (line_start text line), (start_place text line there)) in
     let rises : line_at text (line_start text line) ≤ line_at text k = line_rises text (line_start text line) k low in
     let here = in_content_line text line (line_start text line) start.passes in
     ⊎_elim
@@ -49,15 +58,18 @@ line_found bytes lines place line k indexes found within at =
     let m = line_at text k in
     let up : m ≤ line_ends text = line_rises text k (length text) within in
     let before : line_start text m ≤ k = start_before text k within in
-    let above : place < slice_index lines m = found.greatest m h (omega (arith, indexes_count bytes lines indexes)) in
-    absurd (omega (
-      arith,
-      at,
-      indexes_start bytes lines m indexes up,
-      place_rises text (line_start text m) k before within,
-    )))
+    let above : place_of text k < slice_index lines m = found.greatest m h (omega (arith, count)) in
+    absurd (omega (arith, start_place text m up, place_rises text (line_start text m) k before within)))
     (λ (h : line_at text k ≤ line). omega arith)
     (cases_lt line (line_at text k))
+
+-- The same over lines that are kept.
+pub line_found : (bytes lines : List ℕ) (place line k : ℕ) → AreLinesOf lines bytes → IsLineOf lines place line
+    → k ≤ length (chars bytes) → place_of (chars bytes) k ≡ place → line ≡ line_at (chars bytes) k
+line_found bytes lines place line k indexes found within at =
+    found_law (chars bytes) k line within
+    (subst (λ xs. IsLineOf xs (place_of (chars bytes) k) line) indexes.starts
+    (subst (λ p. IsLineOf lines p line) (sym at) found))
 
 -- A line's part up to the place of one of its indexes.
 pub record IsFront (bytes : List ℕ) (start place k : ℕ) : Type 0 where
@@ -105,12 +117,6 @@ pub front_found : (bytes lines shown : List ℕ) (place line k : ℕ) → AreLin
     → IsFront bytes (slice_index lines line) place k
 front_found bytes lines shown place line k indexes same found within at =
     front_from bytes lines place line k indexes (subst (λ xs. IsLineOf xs place line) same found) within at
-
--- An index at a place of the text.
-pub record IsAt (bytes : List ℕ) (place : ℕ) : Type 0 where
-  pub index : ℕ
-  pub within : index ≤ length (chars bytes)
-  pub at : place_of (chars bytes) index ≡ place
 
 -- The pair of an index's line and its units from the line's start is its exact position.
 pub exact_is : (units : ℕ → ℕ) (bytes lines shown : List ℕ) (place line count k : ℕ) → IsUtf8 bytes

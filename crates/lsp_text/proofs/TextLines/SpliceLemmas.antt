@@ -9,7 +9,8 @@ use Rattle.lsp_text.proofs.TextLines.IndexesLemmas.{indexes_from}
 use Rattle.lsp_text.proofs.TextLines.StartRowLemmas.{filter_ascends, ascends_from, line_starts_are}
 use Rattle.std.proofs.lemmas.Grind.{common_steps}
 
-numbers_split : (first m n : ℕ) → numbers_from first (m + n) ≡ numbers_from first m ++ numbers_from (first + m) n
+-- Rows of numbers.
+pub numbers_split : (first m n : ℕ) → numbers_from first (m + n) ≡ numbers_from first m ++ numbers_from (first + m) n
 numbers_split first zero n = grind (arith, common_steps)
 numbers_split first (suc m) n =
     let a : suc m + n ≡ suc (m + n) = omega arith in
@@ -154,7 +155,7 @@ module _ (old bytes : List ℕ) (from to len : ℕ) (is : IsReplaced old bytes f
       ap (λ xs. starts_between old 0 (from - 1) ++ (starts_between bytes (from - 1) (from + len) ++ xs)) (sym back_moves))))
 
 -- What the code does: it cuts the starts at both ends of the edit, puts what it found between, and moves those behind.
-pub record IsPlaced (old bytes starts found now : List ℕ) (from to len keep past : ℕ) : Type 0 where
+pub record IsPlaced (old bytes starts found now : List ℕ) (from to len keep past count : ℕ) : Type 0 where
   pub is : IsReplaced old bytes from to len
   pub starts_are : starts ≡ line_starts old
   pub some_keep : 0 < keep
@@ -162,10 +163,11 @@ pub record IsPlaced (old bytes starts found now : List ℕ) (from to len keep pa
   pub some_past : 0 < past
   pub past_is : IsLineOf starts to (past - 1)
   pub found_is : found ≡ starts_between bytes (from - 1) (from + len)
+  pub counted : count ≡ length found
   pub now_is : now ≡ take keep starts ++ (found ++ drop past starts)
 
-module _ (old bytes starts found now : List ℕ) (from to len keep past : ℕ)
-    (placed : IsPlaced old bytes starts found now from to len keep past) where
+module _ (old bytes starts found now : List ℕ) (from to len keep past count : ℕ)
+    (placed : IsPlaced old bytes starts found now from to len keep past count) where
   cut_keep : IsCut old (from - 1) keep
   cut_keep = starts_cut old (from - 1) keep (omega (arith, placed.is.order, placed.is.within)) placed.some_keep
       (subst (λ xs. IsLineOf xs (from - 1) (keep - 1)) placed.starts_are placed.keep_is)
@@ -180,23 +182,23 @@ module _ (old bytes starts found now : List ℕ) (from to len keep past : ℕ)
   behind_is : drop past starts ≡ starts_between old to (length old)
   behind_is = ap (drop past) placed.starts_are ∙ cut_past.rest_after
 
-  front_length : length (take keep starts ++ found) ≡ keep + length found
-  front_length = grind (arith, common_steps, length-append, length-take)
+  front_length : length (take keep starts ++ found) ≡ keep + count
+  front_length = grind (arith, common_steps, length-append, length-take, placed.counted)
 
   grouped : now ≡ (take keep starts ++ found) ++ drop past starts
   grouped = placed.now_is ∙ sym (append_assoc (take keep starts) found (drop past starts))
 
-  now_front : take (keep + length found) now ≡ take keep starts ++ found
-  now_front = ap (take (keep + length found)) grouped ∙ take_at (take keep starts ++ found) (drop past starts)
-      (keep + length found) front_length
+  now_front : take (keep + count) now ≡ take keep starts ++ found
+  now_front = ap (take (keep + count)) grouped ∙ take_at (take keep starts ++ found) (drop past starts)
+      (keep + count) front_length
 
-  now_behind : drop (keep + length found) now ≡ drop past starts
-  now_behind = ap (drop (keep + length found)) grouped ∙ drop_at (take keep starts ++ found) (drop past starts)
-      (keep + length found) front_length
+  now_behind : drop (keep + count) now ≡ drop past starts
+  now_behind = ap (drop (keep + count)) grouped ∙ drop_at (take keep starts ++ found) (drop past starts)
+      (keep + count) front_length
 
-  behind_at : (k : ℕ) → keep + length found ≤ k → k < length now → (to < get_or now k 0) × (get_or now k 0 ≤ length old)
+  behind_at : (k : ℕ) → keep + count ≤ k → k < length now → (to < get_or now k 0) × (get_or now k 0 ≤ length old)
   behind_at k low high =
-      let i = k - (keep + length found) in
+      let i = k - (keep + count) in
       let row = starts_between old to (length old) in
       let at : get_or now k 0 ≡ get_or row i 0 =
       grind (arith, common_steps, get_or-drop, now_behind, behind_is) in
@@ -205,10 +207,10 @@ module _ (old bytes starts found now : List ℕ) (from to len keep past : ℕ)
         omega (arith, at, ends_upto old to (length old) i placed.is.within inside),
       )
 
-  pub placed_behind : (k : ℕ) → keep + length found ≤ k → k < length now → to ≤ get_or now k 0
+  pub placed_behind : (k : ℕ) → keep + count ≤ k → k < length now → to ≤ get_or now k 0
   placed_behind k low high = omega (arith, (behind_at k low high).0)
 
-  pub placed_room : length bytes ≤ 2147483648 → (k : ℕ) → keep + length found ≤ k → k < length now
+  pub placed_room : length bytes ≤ 2147483648 → (k : ℕ) → keep + count ≤ k → k < length now
       → get_or now k 0 - to + (from + len) < 2 ^ 32
   placed_room small k low high =
       omega (
@@ -220,9 +222,15 @@ module _ (old bytes starts found now : List ℕ) (from to len keep past : ℕ)
         placed.is.within,
       )
 
-  pub placed_starts : take (keep + length found) now ++ map (λ start. start - to + (from + len))
-      (drop (keep + length found) now) ≡ line_starts bytes
+  pub placed_starts : take (keep + count) now ++ map (λ start. start - to + (from + len))
+      (drop (keep + count) now) ≡ line_starts bytes
   placed_starts = grind (arith, common_steps, now_front, now_behind, behind_is, append_assoc, front_is, starts_spliced)
+
+  -- The row that was written back whole has the line starts.
+  pub placed_whole : (new rest_after : List ℕ) (n : ℕ) → length new ≡ n → new ≡ take (keep + count) now
+      ++ map (λ start. start - to + (from + len)) (drop (keep + count) now) →
+      take n (new ++ drop (length new) rest_after) ≡ line_starts bytes
+  placed_whole new rest_after n size moved = grind (arith, common_steps, take_at, placed_starts)
 
 pub line_of_same : (starts shown : List ℕ) (place error line : ℕ) → shown ≡ starts → error ≡ place
     → IsLineOf shown error line → IsLineOf starts place line
@@ -237,33 +245,6 @@ pub found_anew : (bytes before found : List ℕ) (low error end : ℕ) → befor
     → found ≡ before ++ starts_between bytes error end → found ≡ starts_between bytes low end
 found_anew bytes before found low error end empty is found_is =
     found_is ∙ (ap (λ xs. xs ++ starts_between bytes error end) empty ∙ ap (λ l. starts_between bytes l end) is)
-
--- The same of the row as it was lent, and of the count as it was told.
-module _ (old bytes starts found now shown : List ℕ) (from to len keep past count : ℕ)
-    (placed : IsPlaced old bytes starts found now from to len keep past) (same : shown ≡ now)
-    (counted : count ≡ length found) where
-  pub shown_behind : (k : ℕ) → keep + count ≤ k → k < length shown → to ≤ get_or shown k 0
-  shown_behind k low high =
-      omega (
-        arith,
-        ap (λ xs. get_or xs k 0) same,
-        placed_behind old bytes starts found now from to len keep past placed k (omega (arith, counted))
-            (omega (arith, ap length same)),
-      )
-
-  pub shown_room : length bytes ≤ 2147483648 → (k : ℕ) → keep + count ≤ k → k < length shown → get_or shown k 0 - to
-      + (from + len) < 2 ^ 32
-  shown_room small k low high =
-      let here : get_or shown k 0 ≡ get_or now k 0 = ap (λ xs. get_or xs k 0) same in
-      let room = placed_room old bytes starts found now from to len keep past placed small k (omega (arith, counted))
-      (omega (arith, ap length same)) in
-      omega (arith, here, room)
-
-  -- The row that was written back whole has the line starts.
-  pub shown_starts : (new rest_after : List ℕ) (n : ℕ) → length new ≡ n → new ≡ take (keep + count) shown
-      ++ map (λ start. start - to + (from + len)) (drop (keep + count) shown) →
-      take n (new ++ drop (length new) rest_after) ≡ line_starts bytes
-  shown_starts new rest_after n size moved = grind (arith, common_steps, take_at, placed_starts)
 
 -- Lines of a text that was replaced, seen as line starts of its bytes, and back.
 pub replaces_from : (old lines starts bytes read : List ℕ) (from to len : ℕ) → starts ≡ lines → AreLinesOf lines old

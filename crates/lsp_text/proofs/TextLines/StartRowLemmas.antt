@@ -75,8 +75,7 @@ one_further : (text : List ℕ) (k n : ℕ) (b : Bool) → starts_line text (suc
     (j : ℕ) → j < length (cond b (suc k ∷ later) later) → IsEnd text k (suc n) (line_at text k + suc j)
     (get_or (cond b (suc k ∷ later) later) j 0)
 one_further text k n true e later each zero h = grind (arith, common_steps)
-one_further text k n true e later each (suc j) h = grind (arith, common_steps)
-one_further text k n false e later each j h = grind (arith, common_steps)
+one_further text k n _ e later each _ h = grind (arith, common_steps)
 
 end_at : (text : List ℕ) (k n j : ℕ) → j < length (filter (starts_line text) (numbers_from (suc k) n)) →
     IsEnd text k n (line_at text k + suc j) (get_or (filter (starts_line text) (numbers_from (suc k) n)) j 0)
@@ -84,7 +83,7 @@ end_at text k zero j h = absurd (omega arith)
 end_at text k (suc n) j h = grind (arith, common_steps, one_further, (end_at text (suc k) n))
 
 -- An index that ends a line is the start of its line.
-end_starts : (text : List ℕ) (end : ℕ) → end ≤ length text → 0 < end → starts_line text end ≡ true
+pub end_starts : (text : List ℕ) (end : ℕ) → end ≤ length text → 0 < end → starts_line text end ≡ true
     → line_start text (line_at text end) ≡ end
 end_starts text zero within some ends = absurd (omega arith)
 end_starts text (suc k) within some ends =

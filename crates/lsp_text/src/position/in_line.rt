@@ -197,7 +197,7 @@ impl InLine for Utf8 {
         let place = character as usize;
         if place >= line.len() {
             Some(line.len())
-        } else if line[place] >= 128 && line[place] < 192 {
+        } else if Utf32::lead_units(line[place]) == 0 {
             None
         } else {
             Some(place)

@@ -1,7 +1,8 @@
 use Rattle.lsp_text.proofs.TextLines.LineLemmas.{splits_none_past}
 use Rattle.lsp_text.proofs.Positions.NearLemmas.{agree_from_take, splits_near}
 use Rattle.lsp_text.proofs.TextLines.PartLemmas.{lines_part}
-use Rattle.lsp_text.proofs.LawLemmas.{found_law, starts_law}
+use Rattle.lsp_text.proofs.LawLemmas.{starts_law}
+use Rattle.lsp_text.proofs.Positions.ExactLemmas.{found_law}
 use Rattle.lsp_text.proofs.laws.line_laws.Goals as goal
 
 pub returns : goal.returns

@@ -1,5 +1,5 @@
 use Rattle.lsp_text.proofs.Prelude.{◌∙◌, refl, arith, common_steps}
-use Rattle.lsp_text.proofs.TextLines.SpliceLemmas.{IsPlaced, line_of_same, starts_are_same, found_anew, shown_behind, shown_room, shown_starts}
+use Rattle.lsp_text.proofs.TextLines.SpliceLemmas.{IsPlaced, line_of_same, starts_are_same, found_anew, placed_behind, placed_room, placed_whole}
 use Rattle.lsp_text.proofs.lines.splice.splice_starts.Goals as goal
 
 pub starts_to-keep-requires : goal.starts_to-keep-requires
@@ -13,8 +13,8 @@ starts_to-past-requires c = starts_are_same c.requires.replaces.old c.args.start
 pub shift-requires : goal.shift-requires
 shift-requires c =
     let placed : IsPlaced c.requires.replaces.old c.args.bytes.now c.args.starts.now.items c.push_ends.new.starts.items
-    c.replace.new.starts.items c.args.from c.args.to c.args.len c.starts_to-keep.result c.starts_to-past.result =
-    record {
+    c.deref_mut.result.now c.args.from c.args.to c.args.len c.starts_to-keep.result c.starts_to-past.result c.len.result
+    = record {
       is = c.requires.replaces.replaced;
       starts_are = c.requires.replaces.starts_are;
       some_keep = c.starts_to-keep.ensures.some;
@@ -26,23 +26,20 @@ shift-requires c =
       found_is = found_anew c.args.bytes.now c.new-fresh.result.items c.push_ends.new.starts.items _
           c.saturating_sub-low.result _ c.new-fresh.ensures.items c.saturating_sub-low.ensures
           c.in_ok-push_ends.ensures.ok;
-      now_is = c.in_ok-replace.ensures.ok;
+      counted = c.len.ensures ∙ c.push_ends.new.starts.ok.0;
+      now_is = c.deref_mut.ensures.value ∙ c.in_ok-replace.ensures.ok;
     } in
-    let len = c.len.ensures ∙ c.push_ends.new.starts.ok.0 in record {
+    record {
       first = grind (arith, common_steps);
-      rest_after = shown_behind c.requires.replaces.old c.args.bytes.now c.args.starts.now.items
-          c.push_ends.new.starts.items c.replace.new.starts.items c.deref_mut.result.now c.args.from c.args.to c.args.len
-          c.starts_to-keep.result c.starts_to-past.result c.len.result placed c.deref_mut.ensures.value len;
-      room = shown_room c.requires.replaces.old c.args.bytes.now c.args.starts.now.items
-          c.push_ends.new.starts.items c.replace.new.starts.items c.deref_mut.result.now c.args.from c.args.to c.args.len
-          c.starts_to-keep.result c.starts_to-past.result c.len.result placed c.deref_mut.ensures.value len c.requires.size;
+      rest_after = placed_behind _ _ _ _ _ _ _ _ _ _ _ placed;
+      room = placed_room _ _ _ _ _ _ _ _ _ _ _ placed c.requires.size;
     }
 
 pub returns-clause-ok : goal.returns-clause-ok
 returns-clause-ok c =
     let placed : IsPlaced c.requires.replaces.old c.args.bytes.now c.args.starts.now.items c.push_ends.new.starts.items
-    c.replace.new.starts.items c.args.from c.args.to c.args.len c.starts_to-keep.result c.starts_to-past.result =
-    record {
+    c.deref_mut.result.now c.args.from c.args.to c.args.len c.starts_to-keep.result c.starts_to-past.result c.len.result
+    = record {
       is = c.requires.replaces.replaced;
       starts_are = c.requires.replaces.starts_are;
       some_keep = c.starts_to-keep.ensures.some;
@@ -54,10 +51,8 @@ returns-clause-ok c =
       found_is = found_anew c.args.bytes.now c.new-fresh.result.items c.push_ends.new.starts.items _
           c.saturating_sub-low.result _ c.new-fresh.ensures.items c.saturating_sub-low.ensures
           c.in_ok-push_ends.ensures.ok;
-      now_is = c.in_ok-replace.ensures.ok;
+      counted = c.len.ensures ∙ c.push_ends.new.starts.ok.0;
+      now_is = c.deref_mut.ensures.value ∙ c.in_ok-replace.ensures.ok;
     } in
-    shown_starts c.requires.replaces.old c.args.bytes.now c.args.starts.now.items c.push_ends.new.starts.items
-    c.replace.new.starts.items c.deref_mut.result.now c.args.from c.args.to c.args.len c.starts_to-keep.result
-    c.starts_to-past.result c.len.result placed
-    c.deref_mut.ensures.value (c.len.ensures ∙ c.push_ends.new.starts.ok.0)
-    c.shift.new.starts _ _ (c.shift.auto.starts ∙ c.deref_mut.ensures.len) c.shift.ensures
+    placed_whole _ _ _ _ _ _ _ _ _ _ _ placed c.shift.new.starts _ _
+    (c.shift.auto.starts ∙ c.deref_mut.ensures.len) c.shift.ensures
