@@ -64,13 +64,12 @@ next_byte shape.Return part b is line_open =
       | inl feed ↦ inl (shape.Whole, grind (arith, common_steps, append_assoc))
       | inr no_feed ↦ inr (stops_at_return shape.Return b refl no_feed part is)
     ]
-next_byte shape.Whole part b is line_open = cc
 next_byte shape.LastReturn part b is line_open =
     elim (cases_eq b 10) [
       | inl feed ↦ inl (shape.End, ap (λ (p : List ℕ). p ++ b ∷ []) is ∙ ap (λ (c : ℕ). 13 ∷ c ∷ []) feed)
       | inr no_feed ↦ inr (stops_at_last shape.LastReturn b refl no_feed part is)
     ]
-next_byte shape.End part b is line_open = cc
+next_byte _ part b is line_open = cc
 
 -- ---- a header
 
@@ -104,12 +103,7 @@ after_byte : (lines : List Line) (part rest : List ℕ) (s : Shape) → AreLines
     → (is_over s ≡ false → IsHeaderDecided (lines_bytes lines ++ (part ++ rest)))
     → ((line : Line) → IsLine line → part ≡ line_bytes line → IsHeaderDecided (lines_bytes lines ++ (part ++ rest)))
     → IsHeaderDecided (lines_bytes lines ++ (part ++ rest))
-after_byte lines part rest shape.Start each is on whole = on refl
-after_byte lines part rest shape.Name each is on whole = on refl
-after_byte lines part rest shape.Value each is on whole = on refl
-after_byte lines part rest shape.Return each is on whole = on refl
 after_byte lines part rest shape.Whole each is on whole = whole is.0 is.1 is.2
-after_byte lines part rest shape.LastReturn each is on whole = on refl
 after_byte lines part rest shape.End each is on whole =
     inl (record {
       lines = lines;
@@ -118,6 +112,7 @@ after_byte lines part rest shape.End each is on whole =
       is = ap (λ (x : List ℕ). lines_bytes lines ++ (x ++ rest)) is
           ∙ sym (append_assoc (lines_bytes lines) (13 ∷ 10 ∷ []) rest);
     })
+after_byte lines part rest _ each is on whole = on refl
 
 header_decided : (rest : List ℕ) (lines : List Line) (s : Shape) (part : List ℕ) → AreLines lines → IsPartOfLine s part
     → is_over s ≡ false → IsHeaderDecided (lines_bytes lines ++ (part ++ rest))

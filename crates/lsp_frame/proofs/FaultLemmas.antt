@@ -102,20 +102,8 @@ decided_hopeless max_body bytes k header.BadHeader at more raw body tail s e =
 decided_hopeless max_body bytes k header.HeaderTooLong at more raw body tail s e =
     too_long_hopeless bytes more (body ++ tail) k s.lines at s.each s.short (e ∙ ap (λ x. x ++ tail) s.is
     ∙ append_assoc (header_of s.lines) body tail)
-decided_hopeless max_body bytes k header.MissingLength at more raw body tail s e =
-    judged_hopeless max_body bytes more (body ++ tail) k (length body) header.MissingLength s.lines at s.each s.good
-    (e ∙ ap (λ x. x ++ tail) s.is ∙ append_assoc (header_of s.lines) body tail)
-decided_hopeless max_body bytes k header.RepeatedHeader at more raw body tail s e =
-    judged_hopeless max_body bytes more (body ++ tail) k (length body) header.RepeatedHeader s.lines at s.each s.good
-    (e ∙ ap (λ x. x ++ tail) s.is ∙ append_assoc (header_of s.lines) body tail)
-decided_hopeless max_body bytes k header.BadLength at more raw body tail s e =
-    judged_hopeless max_body bytes more (body ++ tail) k (length body) header.BadLength s.lines at s.each s.good
-    (e ∙ ap (λ x. x ++ tail) s.is ∙ append_assoc (header_of s.lines) body tail)
-decided_hopeless max_body bytes k header.BodyTooLong at more raw body tail s e =
-    judged_hopeless max_body bytes more (body ++ tail) k (length body) header.BodyTooLong s.lines at s.each s.good
-    (e ∙ ap (λ x. x ++ tail) s.is ∙ append_assoc (header_of s.lines) body tail)
-decided_hopeless max_body bytes k header.BadCharset at more raw body tail s e =
-    judged_hopeless max_body bytes more (body ++ tail) k (length body) header.BadCharset s.lines at s.each s.good
+decided_hopeless max_body bytes k fault at more raw body tail s e =
+    judged_hopeless max_body bytes more (body ++ tail) k (length body) fault s.lines at s.each s.good
     (e ∙ ap (λ x. x ++ tail) s.is ∙ append_assoc (header_of s.lines) body tail)
 
 -- The body of a raw is the rest behind a good header.
@@ -175,19 +163,13 @@ no_frame_at_header max_body buffered begins frame =
     (sym (append-nil buffered)))
 
 pub not_failed : (s : Stage) → (s ≡ stage.Failed → ⊥) → has_failed s ≡ false
-not_failed (stage.Header header) sound = refl
-not_failed (stage.Body start stop_at) sound = refl
 not_failed stage.Failed sound = absurd (sound refl)
+not_failed _ sound = refl
 
 -- A fault of a header is not the one that comes after it.
 pub never_failed : (kind : HeaderFault) (place : ℕ) → header_fault_at kind place ≡ Failed → ⊥
 never_failed header.BadHeader place e = cc
-never_failed header.HeaderTooLong place e = cc
-never_failed header.MissingLength place e = cc
-never_failed header.RepeatedHeader place e = cc
-never_failed header.BadLength place e = cc
-never_failed header.BodyTooLong place e = cc
-never_failed header.BadCharset place e = cc
+never_failed _ place e = cc
 
 pub same_framing : (place : ℕ) (buffered other : List ℕ) (failed other_failed : Bool) (limits : LimitsData) → buffered
     ≡ other → failed ≡ other_failed → (let f : FramerData = record {
@@ -221,17 +203,7 @@ pub feed_fault : (old : FramerData) (piece : List ℕ) (new : FramerData) (kind 
     → IsFeedFault old new piece fault
 feed_fault old piece new header.BadHeader place fault e at =
     subst (IsFeedFault old new piece) (sym e) (subst (IsStreamFault old new piece) e at)
-feed_fault old piece new header.HeaderTooLong place fault e at =
-    subst (IsFeedFault old new piece) (sym e) (subst (IsStreamFault old new piece) e at)
-feed_fault old piece new header.MissingLength place fault e at =
-    subst (IsFeedFault old new piece) (sym e) (subst (IsStreamFault old new piece) e at)
-feed_fault old piece new header.RepeatedHeader place fault e at =
-    subst (IsFeedFault old new piece) (sym e) (subst (IsStreamFault old new piece) e at)
-feed_fault old piece new header.BadLength place fault e at =
-    subst (IsFeedFault old new piece) (sym e) (subst (IsStreamFault old new piece) e at)
-feed_fault old piece new header.BodyTooLong place fault e at =
-    subst (IsFeedFault old new piece) (sym e) (subst (IsStreamFault old new piece) e at)
-feed_fault old piece new header.BadCharset place fault e at =
+feed_fault old piece new _ place fault e at =
     subst (IsFeedFault old new piece) (sym e) (subst (IsStreamFault old new piece) e at)
 
 -- The same from the fields.

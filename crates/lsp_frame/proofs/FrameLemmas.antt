@@ -1,5 +1,5 @@
 -- What a header says, and the frame that it begins.
-use Rattle.lsp_frame.proofs.Prelude.{◌≡◌, ℕ, ◌+◌, ◌-◌, ◌<◌, ◌≤◌, Bool, true, false, ◌||◌, List, [], ◌∷◌, ◌++◌, length, refl, sym, ◌∙◌, ap, subst, arith, codes, nat_lt, Result, Ok, Err, lt-ltb, ltb-false, length-append, take_at, Line, IsFrame, IsJudgedAt, IsDecidedAt, both_judged, length_judged, judge_notes, HeaderFault, Notes, common_steps}
+use Rattle.lsp_frame.proofs.Prelude.{◌≡◌, ℕ, ◌+◌, ◌-◌, ◌<◌, ◌≤◌, Bool, true, false, ◌||◌, List, [], ◌∷◌, ◌++◌, length, refl, sym, ◌∙◌, ap, subst, arith, codes, nat_lt, Result, Ok, Err, lt-ltb, ltb-false, length-append, append-nil, take_at, Line, header_of, IsFrame, IsJudgedAt, IsDecidedAt, both_judged, length_judged, judge_notes, HeaderFault, Notes, common_steps}
 use Rattle.lsp_frame.specs.Verdict.{values_of, judge_header, judge_values, judge_single}
 use Rattle.lsp_frame.specs.inside.Stage.{IsWhole, IsInBody, length_said, length_of, charset_of, notes_of}
 use Rattle.lsp_frame.specs.declared.fault.HeaderFault.TheVariants as header
@@ -53,11 +53,7 @@ abbrev pub IsVerdict : ℕ → Result ℕ HeaderFault → Type 0
 IsVerdict max_body (Ok n) = n ≤ max_body
 IsVerdict max_body (Err header.BadHeader) = ⊥
 IsVerdict max_body (Err header.HeaderTooLong) = ⊥
-IsVerdict max_body (Err header.MissingLength) = Unit {0}
-IsVerdict max_body (Err header.RepeatedHeader) = Unit {0}
-IsVerdict max_body (Err header.BadLength) = Unit {0}
-IsVerdict max_body (Err header.BodyTooLong) = Unit {0}
-IsVerdict max_body (Err header.BadCharset) = Unit {0}
+IsVerdict max_body _ = Unit {0}
 
 pub single_verdict : (max_body : ℕ) (lengths types : List (List ℕ))
     → IsVerdict max_body (judge_single max_body lengths types)
@@ -77,11 +73,7 @@ judged_decided max_body bytes k header.BadHeader at =
     absurd (subst (IsVerdict max_body) at.judged (is_verdict max_body at.lines))
 judged_decided max_body bytes k header.HeaderTooLong at =
     absurd (subst (IsVerdict max_body) at.judged (is_verdict max_body at.lines))
-judged_decided max_body bytes k header.MissingLength at = at
-judged_decided max_body bytes k header.RepeatedHeader at = at
-judged_decided max_body bytes k header.BadLength at = at
-judged_decided max_body bytes k header.BodyTooLong at = at
-judged_decided max_body bytes k header.BadCharset at = at
+judged_decided max_body bytes k _ at = at
 
 -- The fault of a header that is whole.
 pub whole_fault : (max_body : ℕ) (buffered rest : List ℕ) (notes : Notes) (fault : HeaderFault)
@@ -99,24 +91,24 @@ whole_fault max_body buffered rest notes fault whole error =
       length-append,
     ))
 
--- The body behind a header that is whole.
-pub whole_body : (max_body : ℕ) (buffered body : List ℕ) (notes : Notes) (wanted start stop_at : ℕ)
-    → IsWhole max_body buffered notes → Ok wanted ≡ judge_notes notes → length body ≤ wanted → start ≡ length buffered
-    → stop_at ≡ start + wanted → IsInBody max_body (buffered ++ body) start stop_at
-whole_body max_body buffered body notes wanted start stop_at whole error within starts ends =
+-- A header that is whole, with nothing of its body.
+pub whole_body : (max_body : ℕ) (buffered : List ℕ) (notes : Notes) (wanted start stop_at : ℕ)
+    → IsWhole max_body buffered notes → Ok wanted ≡ judge_notes notes → start ≡ length buffered
+    → stop_at ≡ start + wanted → IsInBody max_body buffered start stop_at
+whole_body max_body buffered notes wanted start stop_at whole error starts ends =
     let good : judge_header max_body whole.lines ≡ Ok wanted =
     sym (error ∙ ap judge_notes whole.noted ∙ judge_notes_is max_body whole.lines) in
     record {
       lines = whole.lines;
-      body = body;
+      body = [];
       wanted = wanted;
       each = whole.each;
-      is = ap (λ x. x ++ body) whole.is;
+      is = whole.is ∙ sym (append-nil (header_of whole.lines));
       starts = starts ∙ ap length whole.is;
       short = omega (arith, starts, whole.short);
       good = good;
       ends = ends;
-      within = omega (arith, length-append buffered body, starts, ends);
+      within = omega (arith, starts, ends);
       small = judge_within max_body whole.lines wanted good;
     }
 

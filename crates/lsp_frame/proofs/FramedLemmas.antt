@@ -1,21 +1,15 @@
 -- Which frames a stream begins with, and that they are the same however it is read.
-use Rattle.lsp_frame.proofs.Prelude.{◌≡◌, ℕ, ◌+◌, ◌-◌, ◌<◌, ◌≤◌, List, [], ◌∷◌, ◌++◌, length, take, drop, refl, sym, ◌∙◌, ap, subst, append_assoc, append-nil, take-append-drop, arith, inl, inr, Err, ◌⊎◌, Option, length-append, length-take, length-drop, take-take, Line, AreLines, lines_bytes, header_of, BeginsHeader, judge_header, IsFrameOf, HasNoFrame, IsBadHeaderAt, IsHeaderTooLongAt, IsJudgedAt, IsDecidedAt, IsDecided, header_fault_at, place_after, IsFrame, IsPart, AreFrames, IsRead, SameFrame, HeaderFault, FrameFault, common_steps}
+use Rattle.lsp_frame.proofs.Prelude.{◌≡◌, ℕ, ◌+◌, ◌<◌, ◌≤◌, List, [], ◌∷◌, ◌++◌, length, take, drop, refl, sym, ◌∙◌, ap, subst, append_assoc, append-nil, take-append-drop, arith, inl, inr, Err, ◌⊎◌, Option, length-append, length-take, length-drop, take-take, take_at, drop_at, Line, AreLines, lines_bytes, header_of, BeginsHeader, judge_header, IsFrameOf, HasNoFrame, IsBadHeaderAt, IsHeaderTooLongAt, IsJudgedAt, IsDecidedAt, IsDecided, header_fault_at, place_after, IsFrame, IsPart, AreFrames, IsRead, SameFrame, HeaderFault, FrameFault, common_steps}
 use Rattle.lsp_frame.proofs.HeaderLemmas.{same_header}
 use Rattle.lsp_frame.proofs.FaultLemmas.{header_begins_none}
 use Rattle.lsp_frame.specs.declared.fault.HeaderFault.TheVariants as header
 
 -- Fronts of one length of the same bytes are one.
 pub same_length_front : (a b x y : List ℕ) → length a ≡ length b → a ++ x ≡ b ++ y → (a ≡ b) × (x ≡ y)
-same_length_front [] [] x y l e = (refl, e)
-same_length_front [] (c ∷ b) x y l e = absurd (omega arith)
-same_length_front (c ∷ a) [] x y l e = absurd (omega arith)
-same_length_front (c ∷ a) (d ∷ b) x y l e =
-    let h : c ≡ d = cc in
-    let t : a ++ x ≡ b ++ y = cc in
-    let s = same_length_front a b x y (omega arith) t in
-    let e0 : a ≡ b = s.0 in
-    let r : c ∷ a ≡ d ∷ b = cc in
-    (r, s.1)
+same_length_front a b x y l e = (
+  sym (take_at a x (length a) refl) ∙ ap (take (length a)) e ∙ take_at b y (length a) (sym l),
+  sym (drop_at a x (length a) refl) ∙ ap (drop (length a)) e ∙ drop_at b y (length a) (sym l),
+)
 
 -- Two frames at the front of the same bytes are one: no raw is a proper beginning of another.
 pub same_frame : (max_body : ℕ) (raw other body other_body x y : List ℕ) → IsFrameOf max_body raw body
@@ -75,11 +69,7 @@ pub way_of : (max_body : ℕ) (bytes : List ℕ) (k : ℕ) (kind : HeaderFault) 
     → Way max_body bytes k kind
 way_of max_body bytes k header.BadHeader at = inl (refl, at)
 way_of max_body bytes k header.HeaderTooLong at = inr (inl (refl, at))
-way_of max_body bytes k header.MissingLength at = inr (inr at)
-way_of max_body bytes k header.RepeatedHeader at = inr (inr at)
-way_of max_body bytes k header.BadLength at = inr (inr at)
-way_of max_body bytes k header.BodyTooLong at = inr (inr at)
-way_of max_body bytes k header.BadCharset at = inr (inr at)
+way_of max_body bytes k _ at = inr (inr at)
 
 -- Up to the byte of a decision a header goes on.
 pub on_before : (max_body : ℕ) (bytes : List ℕ) (k j : ℕ) (kind : HeaderFault) → Way max_body bytes k kind → j ≤ k

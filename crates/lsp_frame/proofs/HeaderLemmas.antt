@@ -33,8 +33,6 @@ same_record line other n v = ap (λ (p : List ℕ × List ℕ). record { name = 
 pub same_header : (lines others : List Line) (x y : List ℕ) → AreLines lines → AreLines others → header_of lines ++ x
     ≡ header_of others ++ y → (lines ≡ others) × (x ≡ y)
 same_header [] [] x y a b e = let t : x ≡ y = cc in (refl, t)
-same_header [] (other ∷ others) x y a b e = grind (arith, common_steps, no_name, append_assoc)
-same_header (line ∷ lines) [] x y a b e = grind (arith, common_steps, no_name, append_assoc)
 same_header (line ∷ lines) (other ∷ others) x y a b e =
     let left : header_of (line ∷ lines) ++ x ≡ line.name ++ (58 ∷ (line.value ++ (13 ∷ 10 ∷ (header_of lines ++ x)))) =
     simp append_assoc in
@@ -48,6 +46,7 @@ same_header (line ∷ lines) (other ∷ others) x y a b e =
     let ls : lines ≡ others = i.0 in
     let r : line ∷ lines ≡ other ∷ others = cc in
     (r, i.1)
+same_header _ _ x y a b e = grind (arith, common_steps, no_name, append_assoc)
 
 pub lines_bytes-append : (lines others : List Line) → lines_bytes (lines ++ others) ≡ lines_bytes lines ++ lines_bytes
     others

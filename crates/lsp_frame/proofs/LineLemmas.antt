@@ -59,9 +59,8 @@ said_twice max_body value other = grind (arith, common_steps)
 
 pub length_of-push : (max_body : ℕ) (values : List (List ℕ)) (value : List ℕ)
     → length_of max_body (values ++ value ∷ []) ≡ length_noted max_body (length_of max_body values) value
-length_of-push max_body [] value = refl
 length_of-push max_body (first ∷ []) value = sym (said_twice max_body first value)
-length_of-push max_body (first ∷ second ∷ values) value = refl
+length_of-push max_body _ value = refl
 
 pub named_twice : (value other : List ℕ) → charset_noted (if has_good_charset value then named.Good else named.Bad)
     other ≡ named.Repeated
@@ -69,9 +68,8 @@ named_twice value other = grind (arith, common_steps)
 
 pub charset_of-push : (values : List (List ℕ)) (value : List ℕ) → charset_of (values ++ value ∷ [])
     ≡ charset_noted (charset_of values) value
-charset_of-push [] value = refl
 charset_of-push (first ∷ []) value = sym (named_twice first value)
-charset_of-push (first ∷ second ∷ values) value = refl
+charset_of-push _ value = refl
 
 pub length_with : (max_body : ℕ) (values : List (List ℕ)) (value : List ℕ) (b : Bool)
     → (if b then length_noted max_body (length_of max_body values) value else length_of max_body values)

@@ -50,13 +50,9 @@ pub so_far_begins : (max_body : ℕ) (buffered : List ℕ) (header : Header) →
 so_far_begins max_body buffered header so_far line_open = grind (arith, common_steps, begins_behind, begins_part)
 
 pub open_shape : (s : Shape) → s ≢ shape.Whole → s ≢ shape.End → is_over s ≡ false
-open_shape shape.Start not_whole not_end = refl
-open_shape shape.Name not_whole not_end = refl
-open_shape shape.Value not_whole not_end = refl
-open_shape shape.Return not_whole not_end = refl
 open_shape shape.Whole not_whole not_end = absurd (not_whole refl)
-open_shape shape.LastReturn not_whole not_end = refl
 open_shape shape.End not_whole not_end = absurd (not_end refl)
+open_shape _ not_whole not_end = refl
 
 -- Bytes of a piece behind what was held before it.
 pub take_joined : (old piece : List ℕ) (at i : ℕ) → take (length old + (at + i)) (old ++ piece) ≡ (old ++ take at piece)

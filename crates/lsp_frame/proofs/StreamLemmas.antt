@@ -60,11 +60,7 @@ pub decided_more : (max_body : ℕ) (bytes more : List ℕ) (k : ℕ) (kind : He
 decided_more max_body bytes more k header.BadHeader at =
     grind (arith, common_steps, front_more, length-append, take-append-le)
 decided_more max_body bytes more k header.HeaderTooLong at = grind (arith, common_steps, length-append, front_more)
-decided_more max_body bytes more k header.MissingLength at = judged_more max_body bytes more k header.MissingLength at
-decided_more max_body bytes more k header.RepeatedHeader at = judged_more max_body bytes more k header.RepeatedHeader at
-decided_more max_body bytes more k header.BadLength at = judged_more max_body bytes more k header.BadLength at
-decided_more max_body bytes more k header.BodyTooLong at = judged_more max_body bytes more k header.BodyTooLong at
-decided_more max_body bytes more k header.BadCharset at = judged_more max_body bytes more k header.BadCharset at
+decided_more max_body bytes more k kind at = judged_more max_body bytes more k kind at
 
 pub faulty_more : (max_body : ℕ) (stream more : List ℕ) (bodies : List (List ℕ)) (fault : FrameFault)
     → IsFaulty max_body stream bodies fault → IsFaulty max_body (stream ++ more) bodies fault
@@ -128,15 +124,9 @@ behind_read max_body stream bodies f at =
 -- The fault of a feed is the stream's, but for want of memory.
 pub stream_fault_of : (f n : FramerData) (piece : List ℕ) (fault : FrameFault) → IsFeedFault f n piece fault → f.failed
     ≡ false → (fault ≡ fault_of.NoMemory → ⊥) → IsStreamFault f n piece fault
-stream_fault_of f n piece (fault_of.BadHeader place) at sound some = at
-stream_fault_of f n piece (fault_of.HeaderTooLong place) at sound some = at
-stream_fault_of f n piece (fault_of.MissingLength place) at sound some = at
-stream_fault_of f n piece (fault_of.RepeatedHeader place) at sound some = at
-stream_fault_of f n piece (fault_of.BadLength place) at sound some = at
-stream_fault_of f n piece (fault_of.BodyTooLong place) at sound some = at
-stream_fault_of f n piece (fault_of.BadCharset place) at sound some = at
 stream_fault_of f n piece fault_of.Failed at sound some = let failed : f.failed ≡ true = at.0 in cc
 stream_fault_of f n piece fault_of.NoMemory at sound some = absurd (some refl)
+stream_fault_of f n piece _ at sound some = at
 
 pub fault_behind : (max_body : ℕ) (stream piece : List ℕ) (at : ℕ) (bodies : List (List ℕ)) (f n : FramerData)
     (fault : FrameFault) → HasTaken max_body (stream ++ take at piece) bodies f

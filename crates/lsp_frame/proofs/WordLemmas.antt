@@ -1,24 +1,20 @@
 -- What stands round the first `=`, and how numbers grow.
 use Rattle.lsp_frame.proofs.Prelude.{◌≡◌, ℕ, ◌+◌, ◌-◌, ◌*◌, ◌<◌, ◌≤◌, Bool, true, false, not, ◌&&◌, List, [], ◌∷◌, length, get_or, take, drop, refl, sym, ◌∙◌, ap, subst, arith, Some, None, fold, codes, if◌then◌else◌, list_any, list_all, slice_split, position_or_len, take_rest, at_drop_more, get_or_default, length-take, length-drop, number, IsFirstByte, is_byte, is_equals, is_semicolon, is_text, is_good_trimmed, is_good_parameter, has_good_charset, is_utf8_name, unquoted, trimmed, common_steps}
+use Rattle.std.proofs.lemmas.Bool.{false_from_ne_true}
 use Rattle.std.proofs.lemmas.List.Sums.{position_or_len_is}
 use Rattle.std.proofs.lemmas.List.Recursion.{or_from_places, or_at}
 use Rattle.std.proofs.lemmas.List.Splits.{slice_split_first, slice_split_none}
 
--- a test that isn't passed
-pub not_true : (b : Bool) → (b ≡ true → ⊥) → b ≡ false
-not_true true h = absurd (h refl)
-not_true false h = refl
-
 pub first_place : (a : ℕ) (hay : List ℕ) (k : ℕ) → IsFirstByte (is_byte a) hay (Some k)
     → position_or_len (is_byte a) hay ≡ k
-first_place a hay k first = grind (arith, common_steps, position_or_len_is, not_true)
+first_place a hay k first = grind (arith, common_steps, position_or_len_is, false_from_ne_true)
 
 pub some_equals : (hay : List ℕ) (k : ℕ) → IsFirstByte (is_byte 61) hay (Some k) → list_any is_equals hay ≡ true
 some_equals hay k first = or_at (list_any is_equals) is_equals refl (λ x xs. refl) hay k 0 first.0.high first.1
 
 pub no_equals : (hay : List ℕ) → IsFirstByte (is_byte 61) hay None → list_any is_equals hay ≡ false
 no_equals hay first = or_from_places (list_any is_equals) is_equals refl (λ x xs. refl) hay 0
-    (λ i below. not_true _ (first i (omega arith) below))
+    (λ i below. false_from_ne_true _ (first i (omega arith) below))
 
 -- A part of a Content-Type without `=`, and one with its first `=` at place k.
 pub good_without : (part : List ℕ) → IsFirstByte (is_byte 61) part None → is_good_trimmed part ≡ true
@@ -71,7 +67,7 @@ split_some hay k first = grind (arith, common_steps, first_place, slice_split_fi
 pub split_none : (hay : List ℕ) → IsFirstByte (is_byte 59) hay None → slice_split is_semicolon hay ≡ hay ∷ []
 split_none hay first =
     slice_split_none is_semicolon hay
-    (λ k d below. not_true _ (λ e. first k (omega arith) below (ap is_semicolon (get_or_default hay k 0 d below) ∙ e)))
+    (λ k d below. false_from_ne_true _ (λ e. first k (omega arith) below (ap is_semicolon (get_or_default hay k 0 d below) ∙ e)))
 
 pub all_split_some : (hay : List ℕ) (k : ℕ) → IsFirstByte (is_byte 59) hay (Some k)
     → list_all is_good_parameter (slice_split is_semicolon hay)

@@ -24,10 +24,9 @@ StopsHeader bytes = (lines : List Line) (more : List ℕ) → AreLines lines →
 -- The length of the body, or the first fault, of a header that gives this length and has this note
 -- on the charset.
 abbrev pub charset_judged : ℕ → Charset → Result ℕ HeaderFault
-charset_judged n named.Missing = Ok n
-charset_judged n named.Good = Ok n
 charset_judged n named.Bad = Err BadCharset
 charset_judged n named.Repeated = Err RepeatedHeader
+charset_judged n charset = Ok n
 
 -- The length of the body, or the first fault, by both notes, if the charset is given once at most.
 abbrev pub length_judged : Length → Charset → Result ℕ HeaderFault
@@ -40,10 +39,8 @@ length_judged said.Repeated charset = Err RepeatedHeader
 -- The length of the body, or the first fault, by both notes. A repeated Content-Type is a fault
 -- whatever the length is.
 abbrev pub both_judged : Length → Charset → Result ℕ HeaderFault
-both_judged length named.Missing = length_judged length named.Missing
-both_judged length named.Good = length_judged length named.Good
-both_judged length named.Bad = length_judged length named.Bad
 both_judged length named.Repeated = Err RepeatedHeader
+both_judged length charset = length_judged length charset
 
 -- The length of the body, or the first fault, of a header with these notes.
 abbrev pub judge_notes : Notes → Result ℕ HeaderFault

@@ -30,13 +30,9 @@ IsPartOfLine shape.End part = part ≡ 13 ∷ 10 ∷ []
 
 -- A line feed ended the line.
 abbrev pub is_over : Shape → Bool
-is_over shape.Start = false
-is_over shape.Name = false
-is_over shape.Value = false
-is_over shape.Return = false
 is_over shape.Whole = true
-is_over shape.LastReturn = false
 is_over shape.End = true
+is_over other = false
 
 -- A header can continue after these bytes of a line.
 pub record CanContinue (part : List ℕ) : Type 0 where
@@ -55,17 +51,12 @@ length_said max_body value =
 -- What the length is after one more Content-Length.
 abbrev pub length_noted : ℕ → Length → List ℕ → Length
 length_noted max_body said.Missing value = length_said max_body value
-length_noted max_body said.Bad value = said.Repeated
-length_noted max_body said.TooLong value = said.Repeated
-length_noted max_body (said.Given n) value = said.Repeated
-length_noted max_body said.Repeated value = said.Repeated
+length_noted max_body length value = said.Repeated
 
 -- What the charset is after one more Content-Type.
 abbrev pub charset_noted : Charset → List ℕ → Charset
 charset_noted named.Missing value = if has_good_charset value then named.Good else named.Bad
-charset_noted named.Good value = named.Repeated
-charset_noted named.Bad value = named.Repeated
-charset_noted named.Repeated value = named.Repeated
+charset_noted charset value = named.Repeated
 
 -- The notes after one more line.
 abbrev pub noted : ℕ → Notes → List ℕ → List ℕ → Notes

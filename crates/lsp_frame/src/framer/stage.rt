@@ -193,12 +193,9 @@ fn begin_body(
         Ok(wanted) => wanted,
         Err(fault) => return Err(Stop::Fault(fault, start - 1)),
     };
-    let body = first(rest, wanted);
-    if buffered.extend_from_slice(body).is_err() {
-        return Err(Stop::NoMemory);
-    }
     let end = start + wanted;
-    Ok((body.len(), Stage::Body { start, end }))
+    let taken = take_body(buffered, start, end, rest, max_body)?;
+    Ok((taken, Stage::Body { start, end }))
 }
 
 /// Takes the bytes of a piece that belong to the body, which ends at the offset `end` of the frame.
