@@ -4,8 +4,6 @@ pub mod ComposeLemmas
 pub mod LawLemmas
 pub mod LocatedLemmas
 pub mod LocatedRowLemmas
-pub mod LocatedOrderLemmas
 pub mod PlainLemmas
-pub mod RangeLemmas
-pub mod TextBatchLemmas
+pub mod DraftLemmas
 pub mod TextEditLemmas

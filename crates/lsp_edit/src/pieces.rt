@@ -124,6 +124,7 @@ impl<'a> Pieces<'a> {
     ///
     /// Fails only where memory runs out. Costs the spans of both, and borrows the old text of
     /// `first`.
+    #[tactic(auto, using(crate::proofs::Batches::ComposeLemmas::then_means))]
     pub fn then<'b, 'c>(
         alloc: Global,
         first: &'c Pieces<'a>,

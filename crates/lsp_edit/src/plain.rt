@@ -130,6 +130,7 @@ impl<'a> Plain<'a> {
     }
 
     /// Composes two series of changes; `second` is over the text that this one leaves.
+    #[tactic(auto, using(crate::proofs::Batches::ComposeLemmas::then_means))]
     pub fn then(&self, second: &Plain) -> Result<Self, AllocError>
         requires { second.now.before ≡ edited_text self.now }
         ensures composed { IfOk result (λ plain. plain ≡ record {

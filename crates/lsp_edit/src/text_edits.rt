@@ -11,7 +11,7 @@ ghost use Rattle.lsp_text.specs.Units.{units_in};
 ghost use Rattle.lsp_edit.specs.declared.text_edits.TextEditFault.TheVariants.{NoMemory};
 ghost use Rattle.lsp_edit.specs.Parts.{new_parts, parts_of};
 ghost use Rattle.lsp_edit.specs.TextEdits.{HasRangeFault, IsEditsFault, fault_of, located};
-ghost use Rattle.lsp_edit.specs.inside.TextEdits.{AreApart, ArePlaced, DoOverlap, HasFaultyRange, IsInOrder, IsPlacingFault, AreLeftByEdits, old_parts, parts_left};
+ghost use Rattle.lsp_edit.specs.inside.TextEdits.{AreApart, ArePlaced, DoOverlap, IsInOrder, IsPlacingFault, AreLeftByEdits, old_parts, parts_left};
 
 use crate::ends::ends;
 use crate::fault::{EditFault, Side};
@@ -142,9 +142,9 @@ fn place_all<'a>(
     edits: &'a [TextEdit],
 ) -> Result<Vec<Placed<'a>>, TextEditFault>
     ensures ok { IfOk result (λ placed.
-        ArePlaced (units_in encoding) (chars text.now) 0 edits.now placed.items) }
+        ArePlaced (units_in encoding) (chars text.now) edits.now [] placed.items) }
     ensures error { IfErr result (λ fault. (fault ≡ NoMemory)
-        ⊎ HasFaultyRange (units_in encoding) (chars text.now) edits.now fault) }
+        ⊎ HasRangeFault (units_in encoding) (chars text.now) edits.now fault) }
 {
     let mut placed = Vec::new(alloc);
     for edit in edits {

@@ -1,6 +1,6 @@
 -- Two batches, one after the other, mean what their meanings composed are, and composing is associative.
 use Rattle.lsp_edit.proofs.Prelude.{ℕ, zero, suc, ◌≡◌, ◌+◌, ◌≤◌, nat_le, List, [], ◌∷◌, ◌++◌, length, map, take, drop, slice_index_or as get_or, Option, Some, None, Result, Ok, Err, refl, sym, ap, ap₂, ◌∙◌, subst, arith, drop-cons, take_all, cases_Bool, map-append, length-map, take-map, drop-map, Range, numbers_from, denoted, Item, Old, New, plain, character_of, text_of, ContentChange, Fault, changed_in, items_after, after_changes, continue_with, meaning, replaced, item_through, then_items, canonical, Keeps, common_steps}
-use Rattle.lsp_edit.proofs.Batches.BatchLemmas.{after_changes-append, any_number}
+use Rattle.lsp_edit.proofs.Batches.BatchLemmas.{by_changes, after_changes-append, any_number}
 use Rattle.lsp_edit.proofs.Canonical.KeepsLemmas.{meaning_keeps}
 use Rattle.lsp_edit.proofs.Canonical.RebuiltLemmas.{canonical_makes}
 
@@ -57,7 +57,7 @@ module _ (units : ℕ → ℕ) (old : List ℕ) (first : List Item) where
       map-append (item_through first) (take a items) (map New characters ++ drop b items) in
       rw (front, back, outer, inner, told_new first characters) refl
 
-  then-changed : (items next : List Item) (change : ContentChange) → items_after units (text_of old first) items change
+  pub then-changed : (items next : List Item) (change : ContentChange) → items_after units (text_of old first) items change
       ≡ Ok next → items_after units old (then_items first items) change ≡ Ok (then_items first next)
   then-changed items next change is = by_range change.range is
     where
@@ -81,20 +81,11 @@ module _ (units : ℕ → ℕ) (old : List ℕ) (first : List Item) where
       → after_changes units (text_of old first)
       number items batch ≡ Ok last → after_changes units old number (then_items first items) batch
       ≡ Ok (then_items first last)
-  then-changes number items last [] is = let e : items ≡ last = cc in
-      ap (λ (is : List Item). Ok (then_items first is)) e
-  then-changes number items last (change ∷ batch) is =
-      rest_after (items_after units (text_of old first) items change) refl
-      (λ next. then-changes (suc number) next last batch) is
-    where
-      rest_after : (made : Result (List Item) Fault) → items_after units (text_of old first) items change ≡ made
-          → ((next : List Item) → after_changes units (text_of old first) (suc number) next batch ≡ Ok last
-          → after_changes units old (suc number) (then_items first next) batch ≡ Ok (then_items first last))
-          → continue_with (λ next. after_changes units (text_of old first) (suc number) next batch) number made
-          ≡ Ok last
-          → after_changes units old number (then_items first items) (change ∷ batch) ≡ Ok (then_items first last)
-      rest_after (Ok next) e more r = rw (then-changed items next change e) (more next r)
-      rest_after (Err fault) e more r = absurd (cc)
+  then-changes number items last batch is =
+      by_changes units (text_of old first) (λ items batch. (n : ℕ)
+      → after_changes units old n (then_items first items) batch ≡ Ok (then_items first last)) last (λ n. refl)
+      (λ items next change batch made more n. rw (then-changed items next change made) (more (suc n)))
+      number items batch is number
 
 -- What two batches mean, one after the other.
 pub then_means : (units : ℕ → ℕ) (old : List ℕ) (first second : List ContentChange) (items others : List Item)

@@ -11,15 +11,6 @@ use Rattle.lsp_edit.proofs.Canonical.RebuiltLemmas.{numbers-append}
 use Rattle.lsp_edit.proofs.Composing.RoomLemmas.{Applying, change_longer}
 use Rattle.lsp_edit.proofs.Canonical.WalkLemmas.{changes_of, changes_of-cons}
 
-pub item_rest : (items : List PlainItem) (index : ℕ) (default : PlainItem) (first : Item) → index < length items
-    → item_of (get_or items index default) ≡ first → items_in_order (drop index items)
-    ≡ first ∷ items_in_order (drop (index + 1) items)
-item_rest items index default first within is = ap items_in_order (drop_more items index default within)
-    ∙ ap (λ (i : Item). i ∷ items_in_order (drop (index + 1) items)) is
-
-pub item_none : (items : List PlainItem) (index : ℕ) → length items ≤ index → items_in_order (drop index items) ≡ []
-item_none items index past = ap items_in_order (drop_all index items past)
-
 pub numbered_on : (items : List PlainItem) (index : ℕ) (item : PlainItem) → item_of item ≡ Old index
     → items_in_order items ≡ map Old (numbers_from 0 index) → items_in_order (items ++ item ∷ [])
     ≡ map Old (numbers_from 0 (index + 1))
@@ -56,47 +47,13 @@ module _ (units : ℕ → ℕ) (old : List ℕ) (all made : List ContentChange) 
   write_new character more is = grind (arith, common_steps)
 
   module _ (index : ℕ) (more : List Item) (is : rest ≡ Old index ∷ more) where
-    here : Writes units old all made low text (Old index ∷ more)
-    here = subst (Writes units old all made low text) is writes
-
-    pub write_within : index < length old
-    write_within = here.keeps.1
-
-    pub write_ends : is_changed (gap_at low index text) ≡ true → HasExactEnds old (gap_at low index text)
-    write_ends = here.ends.0
-
     pub write_old : (next : ℕ) → next ≡ suc index
         → Writes units old all (made ++ change_at units old (gap_at low index text)) next [] more
     write_old next next_is = grind (arith, common_steps, append_assoc, changes_of, changes_of-cons)
 
   module _ (is : rest ≡ []) where
-    last : Writes units old all made low text []
-    last = subst (Writes units old all made low text) is writes
-
-    pub write_last_ends : is_changed (gap_at low (length old) text) ≡ true
-        → HasExactEnds old (gap_at low (length old) text)
-    write_last_ends = last.ends.0
-
     pub write_end : made ++ change_at units old (gap_at low (length old) text) ≡ all
     write_end = grind (arith, common_steps, changes_of-cons, append-nil)
-
--- The change of a gap, as it is written.
-module _ (units : ℕ → ℕ) (old : List ℕ) (low high : ℕ) (text : List ℕ) where
-  pub gap_some : (low < high) ⊎ (0 < length text) → is_changed (gap_at low high text) ≡ true
-  gap_some some = grind (arith, common_steps, or_left, nat_lt, lt-ltb, or_right)
-
-  pub gap_one : (changes : List Change) (change : Change) (start stop : Position) → (low < high) ⊎ (0 < length text)
-      → change.range ≡ Some (record { start = start; stop = stop }) → string_bytes change.text ≡ encode_utf8_all text
-      → start ≡ exact_position units old low → stop ≡ exact_position units old high
-      → map content_change (changes ++ change ∷ []) ≡ map content_change changes ++ change_at units old
-      (gap_at low high text)
-  gap_one changes change start stop some range same at_start at_stop =
-      let own : chars (string_bytes change.text) ≡ text =
-      sym (chars_from_encodes text (string_bytes change.text) (IsUtf8-string_bytes change.text) (sym same)) in
-      let e : content_change change ≡ change_of_gap units old (gap_at low high text)
-      = grind (arith, common_steps, ap₂) in
-      map-append content_change changes (change ∷ [])
-      ∙ rw (gap_some some) (ap (λ (x : ContentChange). map content_change changes ++ x ∷ []) e)
 
 -- An end of a changed gap is a place of the old text.
 pub end_place : (old : List ℕ) (index place : ℕ) → index ≤ length old → splits_crlf old index ≡ false
@@ -225,15 +182,3 @@ pub over_plain : (before mid : List ℕ) (items others : List Item) (changes mor
     → chars mid ≡ text_of (chars before) items
 over_plain before mid items others changes more first second view other over = ap (λ (e : PlainData). e.before) other
     ∙ (over ∙ sym (ap edited_text view))
-
-pub then_told : (before mid : List ℕ) (items others made : List Item) (changes more count : ℕ)
-    (first second : PlainData) → record { before = chars before; items = items; changes = changes } ≡ first
-    → record { before = chars mid; items = others; changes = more } ≡ second
-    → made ≡ then_items items others → count ≡ both_counts changes more
-    → ◌≡◌ {A = PlainData} (record { before = chars before; items = made; changes = count }) (record {
-      before = first.before;
-      items = then_items first.items second.items;
-      changes = both_counts first.changes second.changes;
-    })
-then_told before mid items others made changes more count first second view other is counted =
-    grind (arith, common_steps)

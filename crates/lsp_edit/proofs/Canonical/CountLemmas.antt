@@ -1,6 +1,6 @@
 -- Each change adds at most one changed gap, so the canonical batch has no more changes than the batch.
-use Rattle.lsp_edit.proofs.Prelude.{ℕ, zero, suc, ◌≡◌, ◌+◌, ◌-◌, ◌≤◌, Bool, true, false, ◌||◌, nat_lt, nat_le, cond, List, [], ◌∷◌, ◌++◌, length, map, filter, take, drop, Option, Some, None, Result, Ok, Err, ⊎_elim, refl, sym, ap, ◌∙◌, subst, arith, append-nil, take-append-drop, drop-drop, le-ltb, leb-true, lt-ltb, cases_Bool, length-append, length-map, length-reverse, Range, numbers_from, denoted, Item, Old, New, plain, text_of, ContentChange, Fault, Reversed, changed_in, items_after, after_changes, continue_with, meaning, replaced, Gap, gaps_from, gaps, is_changed, change_of_gap, canonical, common_steps}
-use Rattle.lsp_edit.proofs.Canonical.GapLemmas.{gap}
+use Rattle.lsp_edit.proofs.Prelude.{gap_at, ℕ, zero, suc, ◌≡◌, ◌+◌, ◌-◌, ◌≤◌, Bool, true, false, ◌||◌, nat_lt, cond, List, [], ◌∷◌, ◌++◌, length, map, filter, take, drop, Ok, refl, sym, ap, ◌∙◌, subst, arith, append-nil, take-append-drop, drop-drop, le-ltb, lt-ltb, cases_Bool, length-append, length-map, length-reverse, numbers_from, Item, Old, New, plain, ContentChange, items_after, after_changes, meaning, Gap, gaps_from, gaps, is_changed, change_of_gap, canonical, common_steps}
+use Rattle.lsp_edit.proofs.Batches.BatchLemmas.{by_range, by_changes}
 
 abbrev one_if : Bool → ℕ
 one_if true = 1
@@ -94,34 +94,17 @@ module _ (size : ℕ) where
   module _ (units : ℕ → ℕ) (old : List ℕ) where
     change_adds : (items next : List Item) (change : ContentChange) → items_after units old items change ≡ Ok next
         → hunks size false 0 next ≤ suc (hunks size false 0 items)
-    change_adds items next change is = by_range change.range is
-      where
-        at_indexes : (start stop : Option ℕ) → replaced items change.text start stop ≡ Ok next → hunks size false 0 next
-            ≤ suc (hunks size false 0 items)
-        at_indexes None stop r = absurd (cc)
-        at_indexes (Some a) None r = absurd (cc)
-        at_indexes (Some a) (Some b) r = grind (arith, common_steps, nat_le, replaced_adds, leb-true, cases_Bool)
-
-        by_range : (range : Option Range) → changed_in units old items change.text range ≡ Ok next
-            → hunks size false 0 next ≤ suc (hunks size false 0 items)
-        by_range None r = grind (arith, common_steps, all_new)
-        by_range (Some range) r =
-            at_indexes (denoted units (text_of old items) range.start) (denoted units (text_of old items) range.stop) r
+    change_adds items next change is =
+        by_range units old (λ (made : List Item). hunks size false 0 made ≤ suc (hunks size false 0 items)) items next
+        change is (all_new change.text items) (λ a b low high order. replaced_adds items change.text a b order)
 
     changes_add : (number : ℕ) (items last : List Item) (batch : List ContentChange)
         → after_changes units old number items batch
         ≡ Ok last → hunks size false 0 last ≤ hunks size false 0 items + length batch
-    changes_add number items last [] is = let e : items ≡ last = cc in omega (arith, ap (hunks size false 0) e)
-    changes_add number items last (change ∷ batch) is =
-        rest_after (items_after units old items change) refl (λ next. changes_add (suc number) next last batch) is
-      where
-        rest_after : (made : Result (List Item) Fault) → items_after units old items change ≡ made
-            → ((next : List Item) → after_changes units old (suc number) next batch ≡ Ok last → hunks size false 0 last
-            ≤ hunks size false 0 next + length batch)
-            → continue_with (λ next. after_changes units old (suc number) next batch) number made ≡ Ok last
-            → hunks size false 0 last ≤ hunks size false 0 items + suc (length batch)
-        rest_after (Ok next) e more r = omega (arith, change_adds items next change e, more next r)
-        rest_after (Err fault) e more r = absurd (cc)
+    changes_add number items last batch is =
+        by_changes units old (λ items batch. hunks size false 0 last ≤ hunks size false 0 items + length batch) last
+        (omega arith) (λ items next change batch made more. omega (arith, change_adds items next change made, more))
+        number items batch is
 
 one_longer : (b : Bool) (g : Gap) (gs : List Gap) → length (cond b (g ∷ gs) gs) ≡ one_if b + length gs
 one_longer true g gs = omega arith
@@ -129,10 +112,10 @@ one_longer false g gs = omega arith
 
 hunks_are : (len low : ℕ) (text : List ℕ) (items : List Item)
     → length (filter is_changed (gaps_from low len text items)) ≡ hunks len (nat_lt 0 (length text)) low items
-hunks_are len low text [] = one_longer (is_changed (gap low len text)) (gap low len text) []
+hunks_are len low text [] = one_longer (is_changed (gap_at low len text)) (gap_at low len text) []
     ∙ omega arith
 hunks_are len low text (Old index ∷ items) =
-    grind (arith, common_steps, one_longer, gap, (hunks_are len (suc index) [] items))
+    grind (arith, common_steps, one_longer, gap_at, (hunks_are len (suc index) [] items))
 hunks_are len low text (New character ∷ items) =
     grind (arith, common_steps, nat_lt, lt-ltb, length-append, (hunks_are len low (text ++ character ∷ []) items))
 

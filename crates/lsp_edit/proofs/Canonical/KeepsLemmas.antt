@@ -1,5 +1,6 @@
 -- What a batch means keeps both characters of each CRLF of the old text, or neither.
-use Rattle.lsp_edit.proofs.Prelude.{ℕ, zero, suc, ◌≡◌, ◌+◌, ◌-◌, ◌≤◌, true, false, List, [], ◌∷◌, ◌++◌, length, map, take, drop, nat_le, Option, Some, None, Result, Ok, Err, ⊎_elim, inl, inr, refl, sym, subst, arith, take-append-drop, take-add, length-take-le, leb-true, cases_Bool, length-map, Range, numbers_from, splits_crlf, denoted, splits_none_past, IsWhole, denoted_whole, Item, Old, New, plain, character_of, text_of, ContentChange, Fault, Reversed, changed_in, items_after, after_changes, continue_with, meaning, replaced, Keeps, common_steps}
+use Rattle.lsp_edit.proofs.Prelude.{ℕ, zero, suc, ◌≡◌, ◌+◌, ◌-◌, ◌≤◌, true, false, List, [], ◌∷◌, ◌++◌, length, map, take, drop, Ok, inl, inr, refl, sym, subst, arith, take-append-drop, take-add, length-take-le, length-map, numbers_from, splits_crlf, splits_none_past, Item, Old, New, plain, character_of, text_of, ContentChange, items_after, after_changes, meaning, Keeps, common_steps}
+use Rattle.lsp_edit.proofs.Batches.BatchLemmas.{by_range, by_changes}
 
 -- The index behind the last kept character, where that before the items was `low`.
 abbrev pub after : ℕ → List Item → ℕ
@@ -125,50 +126,17 @@ module _ (old : List ℕ) where
   -- A change keeps what the items before it keep.
   pub after_change_keeps : (units : ℕ → ℕ) (items next : List Item) (change : ContentChange) → Keeps old 0 items
       → items_after units old items change ≡ Ok next → Keeps old 0 next
-  after_change_keeps units items next change keeps is = by_range change.range is
-    where
-      at_indexes : (start stop : Option ℕ) → ((k : ℕ) → start ≡ Some k → IsWhole (text_of old items) k)
-          → ((k : ℕ) → stop ≡ Some k → IsWhole (text_of old items) k) → replaced items change.text start stop ≡ Ok next
-          → Keeps old 0 next
-      at_indexes None stop start_whole stop_whole r = absurd (cc)
-      at_indexes (Some a) None start_whole stop_whole r = absurd (cc)
-      at_indexes (Some a) (Some b) start_whole stop_whole r =
-          ⊎_elim
-          (λ (e : nat_le a b ≡ true).
-          let made : ◌≡◌ {A = Result (List Item) Fault} (Ok (take a items ++ (map New change.text ++ drop b items)))
-          (Ok next) = rw e at r in
-          let is_next : take a items ++ (map New change.text ++ drop b items) ≡ next = cc in
-          let long : length (text_of old items) ≡ length items = length-map items (character_of old) in
-          subst (Keeps old 0) is_next (replaced_keeps items change.text a b keeps (leb-true a b e)
-          (omega (arith, (stop_whole b refl).within)) (start_whole a refl).whole (stop_whole b refl).whole))
-          (λ (e : nat_le a b ≡ false). absurd (let f : ◌≡◌ {A = Result (List Item) Fault} (Err Reversed) (Ok next) = rw
-          e at r in cc))
-          (cases_Bool (nat_le a b))
-
-      by_range : (range : Option Range) → changed_in units old items change.text range ≡ Ok next → Keeps old 0 next
-      by_range None r = let e : map New change.text ≡ next = cc in subst (Keeps old 0) e (only_new_keeps change.text)
-      by_range (Some range) r =
-          at_indexes
-          (denoted units (text_of old items) range.start)
-          (denoted units (text_of old items) range.stop)
-          (denoted_whole units (text_of old items) range.start)
-          (denoted_whole units (text_of old items) range.stop)
-          r
+  after_change_keeps units items next change keeps is =
+      by_range units old (Keeps old 0) items next change is (only_new_keeps change.text)
+      (λ a b low high order. replaced_keeps items change.text a b keeps order
+      (omega (arith, high.within, length-map items (character_of old))) low.whole high.whole)
 
   pub after_changes_keeps : (units : ℕ → ℕ) (number : ℕ) (items last : List Item) (batch : List ContentChange)
       → Keeps old 0 items → after_changes units old number items batch ≡ Ok last → Keeps old 0 last
-  after_changes_keeps units number items last [] keeps is = let e : items ≡ last = cc in subst (Keeps old 0) e keeps
-  after_changes_keeps units number items last (change ∷ batch) keeps is =
-      rest_after (items_after units old items change) refl (λ next k. after_changes_keeps units (suc number) next last
-      batch k) is
-    where
-      rest_after : (made : Result (List Item) Fault) → items_after units old items change ≡ made
-          → ((next : List Item) → Keeps old 0 next → after_changes units old (suc number) next batch ≡ Ok last
-          → Keeps old 0 last)
-          → continue_with (λ next. after_changes units old (suc number) next batch) number made ≡ Ok last
-          → Keeps old 0 last
-      rest_after (Ok next) e more r = more next (after_change_keeps units items next change keeps e) r
-      rest_after (Err fault) e more r = absurd (cc)
+  after_changes_keeps units number items last batch keeps is =
+      by_changes units old (λ items batch. Keeps old 0 items → Keeps old 0 last) last (λ k. k)
+      (λ items next change batch made more k. more (after_change_keeps units items next change k made))
+      number items batch is keeps
 
   -- What a batch means keeps both characters of each CRLF or neither.
   pub meaning_keeps : (units : ℕ → ℕ) (batch : List ContentChange) (items : List Item)

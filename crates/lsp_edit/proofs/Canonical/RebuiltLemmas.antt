@@ -1,9 +1,9 @@
 -- The canonical batch of items makes them of the old text again, and each of its ranges denotes in the text that it
 -- meets what it
 -- denotes in the old text.
-use Rattle.lsp_edit.proofs.Prelude.{ℕ, zero, suc, ◌≡◌, ◌+◌, ◌-◌, ◌≤◌, true, false, nat_lt, cond, List, [], ◌∷◌, ◌++◌, length, map, reverse, filter, take, drop, slice_index, Some, Ok, ⊎_elim, refl, sym, ap, ◌∙◌, subst, arith, append_assoc, append-nil, take_at, drop_at, take-take, drop-cons, length-take-le, le-leb, cases_Bool, cases_eq, or_parts, ltb-false, nil_from_length, get_or-append-add, map-append, length-map, length-append, get_or_past, reverse-append, numbers_from, splits_crlf, exact_position, denoted, exact_denotes, Item, Old, New, plain, character_of, text_of, ContentChange, items_after, replaced, Gap, gaps_from, is_changed, change_of_gap, canonical, Keeps, HasExactEnds, AllHaveExactEnds, common_steps}
+use Rattle.lsp_edit.proofs.Prelude.{gap_at, change_at, ℕ, zero, suc, ◌≡◌, ◌+◌, ◌-◌, ◌≤◌, true, false, nat_lt, cond, List, [], ◌∷◌, ◌++◌, length, map, reverse, filter, take, drop, slice_index, Some, Ok, ⊎_elim, refl, sym, ap, ◌∙◌, subst, arith, append_assoc, append-nil, take_at, drop_at, take-take, drop-cons, length-take-le, le-leb, cases_Bool, cases_eq, or_parts, ltb-false, nil_from_length, get_or-append-add, map-append, length-map, length-append, get_or_past, reverse-append, numbers_from, splits_crlf, exact_position, denoted, exact_denotes, Item, Old, New, plain, character_of, text_of, ContentChange, items_after, replaced, Gap, gaps_from, is_changed, change_of_gap, canonical, Keeps, HasExactEnds, AllHaveExactEnds, common_steps}
 use Rattle.lsp_text.proofs.Positions.NearLemmas.{AgreeBelow, agree_from_take, splits_near, exact_near}
-use Rattle.lsp_edit.proofs.Canonical.GapLemmas.{gap, ends_exact}
+use Rattle.lsp_edit.proofs.Canonical.GapLemmas.{ends_exact}
 use Rattle.lsp_edit.proofs.Batches.BatchLemmas.{Makes, makes_nothing, makes_joined}
 
 -- the old characters before an index, as items
@@ -91,16 +91,16 @@ module _ (old : List ℕ) where
         ap (denoted units met) (sym e) ∙ exact_denotes units some met k (omega (arith, is.long)) met_whole
 
     -- The change of a gap, on items that are old up to the gap's end, puts the gap's text in its place.
-    gap_changed : (low high : ℕ) (text : List ℕ) (rest : List Item) → HasExactEnds old (gap low high text)
+    gap_changed : (low high : ℕ) (text : List ℕ) (rest : List Item) → HasExactEnds old (gap_at low high text)
         → slice_index (text_of old rest) 0 ≡ slice_index old high → Makes units old (plain_to high ++ rest)
-        (change_of_gap units old (gap low high text) ∷ []) (plain_to low ++ (map New text ++ rest))
+        (change_of_gap units old (gap_at low high text) ∷ []) (plain_to low ++ (map New text ++ rest))
     gap_changed low high text rest ends first =
         let is : IsMet (text_of old (plain_to high ++ rest)) high = is_met high rest ends.within first in
         let low_met : denoted units (text_of old (plain_to high ++ rest)) (exact_position units old low) ≡ Some low =
         index_met (text_of old (plain_to high ++ rest)) high low is ends.order ends.low_whole in
         let high_met : denoted units (text_of old (plain_to high ++ rest)) (exact_position units old high) ≡ Some high =
         index_met (text_of old (plain_to high ++ rest)) high high is (omega arith) ends.high_whole in
-        let made : items_after units old (plain_to high ++ rest) (change_of_gap units old (gap low high text))
+        let made : items_after units old (plain_to high ++ rest) (change_of_gap units old (gap_at low high text))
         ≡ Ok (plain_to low ++ (map New text ++ rest)) = rw (low_met, high_met) replaced_here in
         record {
           leaves = λ number. rw made refl;
@@ -127,29 +127,25 @@ module _ (old : List ℕ) where
 abbrev pub batch_of : (ℕ → ℕ) → List ℕ → List Gap → List ContentChange
 batch_of units old gs = reverse (map (change_of_gap units old) (filter is_changed gs))
 
--- the change of a gap, if it is changed
-abbrev pub change_if : (ℕ → ℕ) → List ℕ → Gap → List ContentChange
-change_if units old g = cond (is_changed g) (change_of_gap units old g ∷ []) []
-
 pub batch_of-cons : (units : ℕ → ℕ) (old : List ℕ) (g : Gap) (gs : List Gap) → batch_of units old (g ∷ gs)
-    ≡ batch_of units old gs ++ change_if units old g
+    ≡ batch_of units old gs ++ change_at units old g
 batch_of-cons units old g gs = grind (arith, common_steps, reverse-append, append-nil, cases_Bool)
 
 module _ (units : ℕ → ℕ) (some : (c : ℕ) → 1 ≤ units c) (old : List ℕ) where
   gap_made : (low high : ℕ) (text : List ℕ) (rest : List Item) → low ≤ high
-      → (is_changed (gap low high text) ≡ true → HasExactEnds old (gap low high text))
+      → (is_changed (gap_at low high text) ≡ true → HasExactEnds old (gap_at low high text))
       → slice_index (text_of old rest) 0 ≡ slice_index old high → Makes units old (plain_to high ++ rest)
-      (change_if units old (gap low high text)) (plain_to low ++ (map New text ++ rest))
+      (change_at units old (gap_at low high text)) (plain_to low ++ (map New text ++ rest))
   gap_made low high text rest order ends first =
       ⊎_elim
-      (λ (e : is_changed (gap low high text) ≡ true). rw e (gap_changed old units some low high text rest (ends e)
+      (λ (e : is_changed (gap_at low high text) ≡ true). rw e (gap_changed old units some low high text rest (ends e)
       first))
-      (λ (e : is_changed (gap low high text) ≡ false). rw e
+      (λ (e : is_changed (gap_at low high text) ≡ false). rw e
       (subst (λ (made : List Item). Makes units old (plain_to high ++ rest) [] made) (same e)
       (makes_nothing units old (plain_to high ++ rest))))
-      (cases_Bool (is_changed (gap low high text)))
+      (cases_Bool (is_changed (gap_at low high text)))
     where
-      same : is_changed (gap low high text) ≡ false → plain_to high ++ rest ≡ plain_to low ++ (map New text ++ rest)
+      same : is_changed (gap_at low high text) ≡ false → plain_to high ++ rest ≡ plain_to low ++ (map New text ++ rest)
       same e =
           let parts : (nat_lt low high ≡ false) × (nat_lt 0 (length text) ≡ false) =
           or_parts (nat_lt low high) (nat_lt 0 (length text)) e in
@@ -166,16 +162,16 @@ module _ (units : ℕ → ℕ) (some : (c : ℕ) → 1 ≤ units c) (old : List 
       → Makes units old (plain old) (batch_of units old (gaps_from low (length old) text items))
       (plain_to low ++ (map New text ++ items))
   rebuilt low text [] keeps ends =
-      rw (batch_of-cons units old (gap low (length old) text) [])
-      (subst (λ (from : List Item). Makes units old from (change_if units old (gap low (length old) text))
+      rw (batch_of-cons units old (gap_at low (length old) text) [])
+      (subst (λ (from : List Item). Makes units old from (change_at units old (gap_at low (length old) text))
       (plain_to low ++ (map New text ++ []))) (append-nil (plain old))
       (gap_made low (length old) text [] keeps.0 ends.0 (sym (get_or_past old (length old) 0 (omega arith)))))
   rebuilt low text (Old index ∷ items) keeps ends =
-      rw (batch_of-cons units old (gap low index text) (gaps_from (suc index) (length old) [] items))
+      rw (batch_of-cons units old (gap_at low index text) (gaps_from (suc index) (length old) [] items))
       (makes_joined units old (plain old) (plain_to index ++ (Old index ∷ items))
       (plain_to low ++ (map New text ++ (Old index ∷ items)))
       (batch_of units old (gaps_from (suc index) (length old) [] items))
-      (change_if units old (gap low index text))
+      (change_at units old (gap_at low index text))
       (grind (arith, common_steps, plain_to_next, (rebuilt (suc index) [] items keeps.3 ends.1)))
       (gap_made low index text (Old index ∷ items) keeps.0 ends.0 refl))
   rebuilt low text (New character ∷ items) keeps ends =

@@ -1,6 +1,5 @@
 -- The canonical batch of parts, written in one pass over them.
-use Rattle.lsp_edit.proofs.Prelude.{ℕ, suc, ◌≡◌, ◌+◌, ◌-◌, ◌<◌, ◌≤◌, ◌⊎◌, true, false, nat_lt, cond, List, [], ◌∷◌, ◌++◌, length, map, reverse, filter, drop, slice_index_or as get_or, refl, sym, ap, ap₂, ◌∙◌, subst, arith, append_assoc, append-nil, encode_utf8_all, IsCharBoundary, ⊎_elim, lt-ltb, le-ltb, zero, Some, String, string_bytes, string_len, ◌==◌, eqb-true, chars, IsUtf8, cases_Bool, or_left, or_right, or_from, cases_lt, eqb-false, drop_more, drop_all, map-append, nil_from_length, reverse-append, encodes-chars, chars-append, chars-nil, IsUtf8-string_bytes, IsCharBoundary-start, IsCharBoundary-end, place_of, numbers_from, splits_crlf, IsPlace, IsIndexAt, index_at, Position, exact_position, Change, content_change, Item, Old, New, ContentChange, Gap, gaps_from, gaps, is_changed, change_of_gap, gap_between, gap_change, HasExactEnds, AllHaveExactEnds, Part, OldPart, NewPart, index_of, part_of, parts_of, items_in, items_of, IsPartOf, AreParts, Span, common_steps}
-use Rattle.lsp_edit.proofs.Canonical.GapLemmas.{gap}
+use Rattle.lsp_edit.proofs.Prelude.{inl, inr, gap_at, change_at, ℕ, suc, ◌≡◌, ◌+◌, ◌-◌, ◌<◌, ◌≤◌, ◌⊎◌, true, false, nat_lt, cond, List, [], ◌∷◌, ◌++◌, length, map, reverse, filter, drop, slice_index_or as get_or, refl, sym, ap, ap₂, ◌∙◌, subst, arith, append_assoc, append-nil, encode_utf8_all, IsCharBoundary, ⊎_elim, lt-ltb, le-ltb, zero, Some, String, string_bytes, string_len, ◌==◌, eqb-true, chars, IsUtf8, cases_Bool, or_left, or_right, or_from, cases_lt, eqb-false, drop_more, drop_all, map-append, nil_from_length, reverse-append, encodes-chars, chars-append, chars-nil, IsUtf8-string_bytes, IsCharBoundary-start, IsCharBoundary-end, place_of, numbers_from, splits_crlf, IsPlace, IsIndexAt, index_at, Position, exact_position, Change, content_change, Item, Old, New, ContentChange, Gap, gaps_from, gaps, is_changed, change_of_gap, gap_between, HasExactEnds, AllHaveExactEnds, Part, OldPart, NewPart, index_of, part_of, parts_of, items_in, items_of, IsPartOf, AreParts, Span, common_steps}
 use Rattle.lsp_edit.proofs.Composing.EditedLemmas.{index_first, index_last}
 use Rattle.lsp_edit.proofs.Parts.IndexLemmas.{index_of-place, index_rises, indexes_less}
 
@@ -9,12 +8,25 @@ abbrev pub changes_of : (ℕ → ℕ) → List ℕ → List Gap → List Content
 changes_of units old gs = map (change_of_gap units old) (filter is_changed gs)
 
 pub changes_of-cons : (units : ℕ → ℕ) (old : List ℕ) (g : Gap) (gs : List Gap) → changes_of units old (g ∷ gs)
-    ≡ cond (is_changed g) (change_of_gap units old g ∷ []) [] ++ changes_of units old gs
+    ≡ change_at units old g ++ changes_of units old gs
 changes_of-cons units old g gs = grind (arith, common_steps, cases_Bool)
 
 -- the gaps of items over an old text, from an index on
 abbrev gaps_on : List ℕ → ℕ → List ℕ → List Item → List Gap
 gaps_on old low text items = gaps_from low (length old) text items
+
+-- The change of a gap, as it is written.
+pub gap_one : (units : ℕ → ℕ) (old : List ℕ) (low high : ℕ) (text : List ℕ) (changes : List Change) (change : Change)
+    (start stop : Position) → is_changed (gap_at low high text) ≡ true
+    → change.range ≡ Some (record { start = start; stop = stop }) → chars (string_bytes change.text) ≡ text
+    → start ≡ exact_position units old low → stop ≡ exact_position units old high
+    → map content_change (changes ++ change ∷ []) ≡ map content_change changes
+    ++ change_at units old (gap_at low high text)
+gap_one units old low high text changes change start stop changed range own at_start at_stop =
+    let e : content_change change ≡ change_of_gap units old (gap_at low high text) =
+    grind (arith, common_steps, ap₂) in
+    map-append content_change changes (change ∷ [])
+    ∙ rw changed (ap (λ (x : ContentChange). map content_change changes ++ x ∷ []) e)
 
 -- Gaps inside a row of kept characters aren't changed.
 row_gaps : (units : ℕ → ℕ) (old : List ℕ) (low count : ℕ) (rest : List Item)
@@ -44,31 +56,34 @@ gap_unchanged before low high text falls none =
     grind (arith, common_steps, nil_from_length, chars-nil, or_from, nat_lt, le-ltb, index_rises)
 
 pub gap_skipped : (before : List ℕ) (units : ℕ → ℕ) (low high : ℕ) (changes : List Change) (text : List ℕ) → high ≤ low
-    → length text ≡ 0 → map content_change changes ≡ map content_change changes ++ gap_change units before low high text
+    → length text ≡ 0 → map content_change changes
+    ≡ map content_change changes ++ change_at units (chars before) (gap_between before low high text)
 gap_skipped before units low high changes text falls none =
     rw (gap_unchanged before low high text falls none) (sym (append-nil (map content_change changes)))
+
+pub gap_some : (low high : ℕ) (text : List ℕ) → (low < high) ⊎ (0 < length text)
+    → is_changed (gap_at low high text) ≡ true
+gap_some low high text some = grind (arith, common_steps, or_left, nat_lt, lt-ltb, or_right)
+
+some_chars : (bytes : List ℕ) → IsUtf8 bytes → 0 < length bytes → 0 < length (chars bytes)
+some_chars bytes utf8 some =
+    ⊎_elim
+    (λ (n : 0 < length (chars bytes)). n)
+    (λ (n : length (chars bytes) ≤ 0).
+    let e : chars bytes ≡ [] = nil_from_length (chars bytes) (omega arith) in
+    let b : length bytes ≡ 0 = ap length (sym (encodes-chars bytes utf8) ∙ ap encode_utf8_all e) in
+    absurd (omega arith))
+    (cases_lt 0 (length (chars bytes)))
 
 module _ (before : List ℕ) (utf8 : IsUtf8 before) where
   gap_changed : (low high : ℕ) (text : List ℕ) → IsUtf8 text → IsCharBoundary before low → IsCharBoundary before high
       → (low < high) ⊎ (0 < length text) → is_changed (gap_between before low high text) ≡ true
   gap_changed low high text text_utf8 at_low at_high changed =
-      ⊎_elim
-      (λ (l : low < high). or_left (nat_lt (index_of (chars before) low) (index_of (chars before) high))
-      (nat_lt 0 (length (chars text))) (lt-ltb (index_of (chars before) low) (index_of (chars before) high)
-      (indexes_less before utf8 low high at_low at_high l)))
-      (λ (s : 0 < length text). or_right (nat_lt (index_of (chars before) low) (index_of (chars before) high))
-      (nat_lt 0 (length (chars text))) (lt-ltb 0 (length (chars text)) (some_chars text text_utf8 s)))
-      changed
-    where
-      some_chars : (bytes : List ℕ) → IsUtf8 bytes → 0 < length bytes → 0 < length (chars bytes)
-      some_chars bytes u s =
-          ⊎_elim
-          (λ (n : 0 < length (chars bytes)). n)
-          (λ (n : length (chars bytes) ≤ 0).
-          let e : chars bytes ≡ [] = nil_from_length (chars bytes) (omega arith) in
-          let b : length bytes ≡ 0 = ap length (sym (encodes-chars bytes u) ∙ ap encode_utf8_all e) in
-          absurd (omega arith))
-          (cases_lt 0 (length (chars bytes)))
+      gap_some (index_of (chars before) low) (index_of (chars before) high) (chars text)
+      (⊎_elim
+      (λ (less : low < high). inl (indexes_less before utf8 low high at_low at_high less))
+      (λ (some : 0 < length text). inr (some_chars text text_utf8 some))
+      changed)
 
   position_exact : (units : ℕ → ℕ) (place : ℕ) (p : Position) → IsCharBoundary before place
       → ((k : ℕ) → k ≤ length (chars before) → place_of (chars before) k ≡ place
@@ -87,19 +102,13 @@ module _ (before : List ℕ) (utf8 : IsUtf8 before) where
       → start ≡ exact_position units (chars before) k)
       → ((k : ℕ) → k ≤ length (chars before) → place_of (chars before) k ≡ high
       → stop ≡ exact_position units (chars before) k)
-      → map content_change (changes ++ change ∷ []) ≡ map content_change changes ++ gap_change units before low high
-      (string_bytes change.text)
+      → map content_change (changes ++ change ∷ []) ≡ map content_change changes
+      ++ change_at units (chars before) (gap_between before low high (string_bytes change.text))
   gap_put units low high changes change start stop at_low at_high changed range low_exact high_exact =
-      let s : start ≡ exact_position units (chars before) (index_of (chars before) low) =
-      position_exact units low start at_low low_exact in
-      let t : stop ≡ exact_position units (chars before) (index_of (chars before) high) =
-      position_exact units high stop at_high high_exact in
-      let e : content_change change ≡ change_of_gap units (chars before) (gap_between before low high
-      (string_bytes change.text))
-      = grind (arith, common_steps, ap₂, string_bytes) in
-      map-append content_change changes (change ∷ [])
-      ∙ rw (gap_changed low high (string_bytes change.text) (IsUtf8-string_bytes change.text) at_low at_high changed)
-      (ap (λ (x : ContentChange). map content_change changes ++ x ∷ []) e)
+      gap_one units (chars before) (index_of (chars before) low) (index_of (chars before) high)
+      (chars (string_bytes change.text)) changes change start stop
+      (gap_changed low high (string_bytes change.text) (IsUtf8-string_bytes change.text) at_low at_high changed) range
+      refl (position_exact units low start at_low low_exact) (position_exact units high stop at_high high_exact)
 
 -- whether a text has bytes
 pub text_some : {Z : Type 0} (text : String Z) → false ≡ (string_len text == 0) → 0 < length (string_bytes text)
@@ -177,7 +186,8 @@ module _ (units : ℕ → ℕ) (before : List ℕ) (utf8 : IsUtf8 before) where
           ++ items_of (chars before) more))
       here_ends = subst (AllHaveExactEnds (chars before)) first_gap here.ends
 
-      pub walk_old : Walks units before all (made ++ gap_change units before low from text) to [] more
+      pub walk_old : Walks units before all (made ++ change_at units (chars before)
+          (gap_between before low from text)) to [] more
       walk_old = grind (arith, common_steps, row_gaps, changes_of-cons, first_gap, empty_chars, append_assoc, row_ends)
 
       pub walk_old_ends : (low < from) ⊎ (0 < length text) → IsPlace (chars before) low × IsPlace (chars before) from
@@ -186,19 +196,17 @@ module _ (units : ℕ → ℕ) (before : List ℕ) (utf8 : IsUtf8 before) where
           here_ends.0 (gap_changed before utf8 low from text text_utf8 walks.at part.1 changed) in
           (place_is low walks.at e.low_whole, place_is from part.1 e.high_whole)
 
-      pub walk_old_from : IsCharBoundary before from
-      walk_old_from = part.1
-
     -- at the end
     module _ (is : rest ≡ []) where
       last : Walks units before all made low text []
       last = subst (Walks units before all made low text) is walks
 
-      last_gap : gap (index_of (chars before) low) (length (chars before)) (chars text)
+      last_gap : gap_at (index_of (chars before) low) (length (chars before)) (chars text)
           ≡ gap_between before low (length before) text
-      last_gap = ap (λ (n : ℕ). gap (index_of (chars before) low) n (chars text)) (sym (index_last before utf8))
+      last_gap = ap (λ (n : ℕ). gap_at (index_of (chars before) low) n (chars text)) (sym (index_last before utf8))
 
-      pub walk_end : made ++ gap_change units before low (length before) text ≡ all
+      pub walk_end : made ++ change_at units (chars before) (gap_between before low (length before) text)
+          ≡ all
       walk_end = grind (arith, common_steps, changes_of-cons, append-nil, last_gap)
 
       pub walk_end_ends : (low < length before) ⊎ (0 < length text) → IsPlace (chars before) low
@@ -231,12 +239,3 @@ walk_begins units before utf8 parts are ends =
 pub walk_turned : (changes : List Change) → map content_change (reverse changes) ≡ reverse (map content_change changes)
 walk_turned [] = refl
 walk_turned (change ∷ changes) = grind (arith, common_steps, reverse-append, map-append, reverse, (walk_turned changes))
-
--- the parts that are left of spans
-pub rest_is : (spans : List Span) (i : ℕ) (default : Span) (first : Part) → i < length spans
-    → part_of (get_or spans i default) ≡ first → parts_of (drop i spans) ≡ first ∷ parts_of (drop (i + 1) spans)
-rest_is spans i default first within is = ap parts_of (drop_more spans i default within)
-    ∙ ap (λ (p : Part). p ∷ parts_of (drop (i + 1) spans)) is
-
-pub rest_none : (spans : List Span) (i : ℕ) → length spans ≤ i → parts_of (drop i spans) ≡ []
-rest_none spans i past = ap parts_of (drop_all i spans past)

@@ -1,8 +1,7 @@
 -- The texts of a canonical batch are together the new characters, so they are no longer than the final text, whatever a
 -- character
 -- weighs.
-use Rattle.lsp_edit.proofs.Prelude.{ℕ, suc, ◌≡◌, ◌+◌, ◌≤◌, nat_lt, List, [], ◌∷◌, ◌++◌, length, map, reverse, filter, sum_by, refl, arith, cases_Bool, or_parts, ltb-false, reverse-append, nil_from_length, sum_by-cons, sum_by-append, Item, Old, New, text_of, ContentChange, Gap, gaps_from, gaps, is_changed, change_of_gap, canonical, common_steps}
-use Rattle.lsp_edit.proofs.Canonical.GapLemmas.{gap}
+use Rattle.lsp_edit.proofs.Prelude.{gap_at, ℕ, suc, ◌≡◌, ◌+◌, ◌≤◌, nat_lt, List, [], ◌∷◌, ◌++◌, length, map, reverse, filter, sum_by, refl, arith, cases_Bool, or_parts, ltb-false, reverse-append, nil_from_length, sum_by-cons, sum_by-append, Item, Old, New, text_of, ContentChange, Gap, gaps_from, gaps, is_changed, change_of_gap, canonical, common_steps}
 
 sum_by-reverse : {X : Type 0} (f : X → ℕ) (xs : List X) → sum_by f (reverse xs) ≡ sum_by f xs
 sum_by-reverse f [] = refl
@@ -24,9 +23,9 @@ module _ (weight : ℕ → ℕ) where
 
   gaps_weigh : (old : List ℕ) (low : ℕ) (text : List ℕ) (items : List Item)
       → sum_by gap_weight (gaps_from low (length old) text items) ≡ sum_by weight text + new_weight items
-  gaps_weigh old low text [] = sum_by-cons gap_weight (gap low (length old) text) []
+  gaps_weigh old low text [] = sum_by-cons gap_weight (gap_at low (length old) text) []
   gaps_weigh old low text (Old index ∷ items) =
-      grind (arith, common_steps, sum_by, sum_by-cons, gap, (gaps_weigh old (suc index) [] items))
+      grind (arith, common_steps, sum_by, sum_by-cons, gap_at, (gaps_weigh old (suc index) [] items))
   gaps_weigh old low text (New character ∷ items) =
       grind (arith, common_steps, sum_by-append, sum_by-cons, (gaps_weigh old low (text ++ character ∷ []) items))
 

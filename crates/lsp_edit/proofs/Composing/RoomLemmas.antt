@@ -1,5 +1,6 @@
 -- How long a text gets by a batch: each change adds its own text at most.
-use Rattle.lsp_edit.proofs.Prelude.{ℕ, suc, ◌≡◌, ◌+◌, ◌-◌, ◌<◌, ◌≤◌, true, false, List, ◌∷◌, ◌++◌, length, map, take, drop, nat_le, sym, ap, ◌∙◌, subst, arith, drop-drop, encode_utf8_all, ⊎_elim, leb-true, Option, Some, None, Result, Ok, Err, sum_by, string_len, string_bytes, chars, cases_Bool, length-append, sum_by-cons, encodes-append, encodes-chars, IsUtf8-string_bytes, Range, denoted, Change, Item, New, text_of, ContentChange, Fault, Reversed, changed_in, items_after, after_changes, continue_with, replaced, Applied, PlainData, content_change, edited_bytes, common_steps}
+use Rattle.lsp_edit.proofs.Prelude.{ℕ, suc, ◌≡◌, ◌+◌, ◌-◌, ◌<◌, ◌≤◌, List, ◌∷◌, ◌++◌, length, map, take, drop, sym, ap, ◌∙◌, subst, arith, drop-drop, encode_utf8_all, Result, Ok, sum_by, string_len, string_bytes, chars, length-append, sum_by-cons, encodes-append, encodes-chars, IsUtf8-string_bytes, Change, Item, text_of, ContentChange, Fault, items_after, after_changes, continue_with, Applied, PlainData, content_change, edited_bytes, common_steps}
+use Rattle.lsp_edit.proofs.Batches.BatchLemmas.{by_range}
 use Rattle.lsp_edit.proofs.Parts.CutLemmas.{text_of-new}
 use Rattle.lsp_edit.proofs.Composing.AppliedLemmas.{bytes_split, text_put}
 
@@ -23,33 +24,17 @@ replaced_longer text characters a b order =
 pub change_longer : (units : ℕ → ℕ) (old : List ℕ) (items next : List Item) (change : ContentChange)
     → items_after units old items change ≡ Ok next → length (encode_utf8_all (text_of old next))
     ≤ length (encode_utf8_all (text_of old items)) + length (encode_utf8_all change.text)
-change_longer units old items next change is = by_range change.range is
-  where
-    Longer : List Item → Type 0
-    Longer made = length (encode_utf8_all (text_of old made)) ≤ length (encode_utf8_all (text_of old items))
-        + length (encode_utf8_all change.text)
-
-    at_indexes : (start stop : Option ℕ) → replaced items change.text start stop ≡ Ok next → Longer next
-    at_indexes None stop r = absurd (cc)
-    at_indexes (Some a) None r = absurd (cc)
-    at_indexes (Some a) (Some b) r =
-        ⊎_elim
-        (λ (e : nat_le a b ≡ true).
-        let made : ◌≡◌ {A = Result (List Item) Fault} (Ok (take a items ++ (map New change.text ++ drop b items)))
-        (Ok next) = rw e at r in
-        let is_next : take a items ++ (map New change.text ++ drop b items) ≡ next = cc in
-        let text = text_put old items change.text a b in
-        subst Longer is_next
-        (grind (arith, common_steps, encode_utf8_all, replaced_longer, leb-true)))
-        (λ (e : nat_le a b ≡ false). absurd (let f : ◌≡◌ {A = Result (List Item) Fault} (Err Reversed) (Ok next) = rw
-        e at r in cc))
-        (cases_Bool (nat_le a b))
-
-    by_range : (range : Option Range) → changed_in units old items change.text range ≡ Ok next → Longer next
-    by_range None r = let e : map New change.text ≡ next = cc in
-        subst Longer e (omega (arith, ap (λ (cs : List ℕ). length (encode_utf8_all cs)) (text_of-new old change.text)))
-    by_range (Some range) r =
-        at_indexes (denoted units (text_of old items) range.start) (denoted units (text_of old items) range.stop) r
+change_longer units old items next change is =
+    by_range units old (λ (made : List Item). length (encode_utf8_all (text_of old made))
+    ≤ length (encode_utf8_all (text_of old items)) + length (encode_utf8_all change.text)) items next change is
+    (omega (arith, ap (λ (cs : List ℕ). length (encode_utf8_all cs)) (text_of-new old change.text)))
+    (λ a b low high order. grind (
+      arith,
+      common_steps,
+      encode_utf8_all,
+      replaced_longer,
+      (text_put old items change.text a b),
+    ))
 
 -- the texts of changes, in bytes
 abbrev pub texts_len : List Change → ℕ

@@ -1,5 +1,5 @@
 -- What a change of a range makes of the bytes of a text, and of its lines.
-use Rattle.lsp_edit.proofs.Prelude.{ℕ, ◌≡◌, ◌<◌, ◌≤◌, ◌⊎◌, List, ◌++◌, length, map, take, drop, refl, sym, ap, ◌∙◌, subst, arith, encode_utf8_all, inl, inr, le-leb, Ok, Err, lt-ltb, le-ltb, encodes-chars, replace_range, Range, place_of, place_boundary, place_rises, EditFault, Item, New, plain, text_of, Fault, InsideStart, InsideStop, Reversed, meaning, ends_of, fault_at, places_at, alone, bytes_left, text_within, batch_fault_of, put_items, index_of, common_steps}
+use Rattle.lsp_edit.proofs.Prelude.{denoted, ℕ, ◌≡◌, ◌<◌, ◌≤◌, ◌⊎◌, List, ◌++◌, length, map, take, drop, refl, sym, ap, ◌∙◌, subst, arith, encode_utf8_all, inl, inr, le-leb, Some, Ok, Err, lt-ltb, le-ltb, encodes-chars, replace_range, Range, place_of, place_boundary, place_rises, EditFault, Item, New, plain, text_of, Fault, continue_with, items_after, InsideStart, InsideStop, Reversed, meaning, ends_of, fault_at, places_at, alone, bytes_left, text_within, batch_fault_of, put_items, index_of, common_steps}
 use Rattle.std.specs.Str.{IsCharBoundary, IsUtf8, chars}
 use Rattle.lsp_edit.specs.declared.indexed.fault.BatchFault.TheVariants.{Edit as EditOf, TooLong, NoMemory}
 use Rattle.lsp_edit.proofs.Parts.IndexLemmas.{index_of-place}
@@ -17,26 +17,26 @@ module _ (units : ℕ → ℕ) (before : List ℕ) (utf8 : IsUtf8 before) (range
     start,
     stop,
   ) ≡ places_at 0 (chars before) (ends_of units (chars before) range)) where
-    abbrev now : List ℕ
-    now = text_of (chars before) (plain (chars before))
-
-    ends : AreEnds units now range start stop
-    ends = grind (arith, common_steps, ends_told, plain_text)
-
-    low_place : place_of (chars before) ends.low ≡ start
-    low_place = subst (λ (t : List ℕ). place_of t ends.low ≡ start) (plain_text (chars before)) ends.start_is
-
-    high_place : place_of (chars before) ends.high ≡ stop
-    high_place = subst (λ (t : List ℕ). place_of t ends.high ≡ stop) (plain_text (chars before)) ends.stop_is
-
-    high_within : ends.high ≤ length (chars before)
-    high_within = subst (λ (t : List ℕ). ends.high ≤ length t) (plain_text (chars before)) ends.within
+    ends : AreEnds units (chars before) range start stop
+    ends = ends_told units (chars before) range 0 start stop error
 
     abbrev items : List Item
     items = take ends.low (plain (chars before)) ++ (map New (chars new) ++ drop ends.high (plain (chars before)))
 
+    changed : items_after units (chars before) (plain (chars before)) (record {
+      range = Some range;
+      text = chars new;
+    }) ≡ Ok items
+    changed =
+        let now : List ℕ = text_of (chars before) (plain (chars before)) in
+        let low : denoted units now range.start ≡ Some ends.low =
+        ap (λ (t : List ℕ). denoted units t range.start) (plain_text (chars before)) ∙ ends.low_is in
+        let high : denoted units now range.stop ≡ Some ends.high =
+        ap (λ (t : List ℕ). denoted units t range.stop) (plain_text (chars before)) ∙ ends.high_is in
+        rw (low, high, le-leb ends.low ends.high ends.order) refl
+
     meant : meaning units (chars before) (alone range new) ≡ Ok items
-    meant = rw (ends.low_is, ends.high_is, le-leb ends.low ends.high ends.order) refl
+    meant = ap (continue_with (λ made. Ok made) 0) changed
 
     text : text_of (chars before) items ≡ take ends.low (chars before) ++ (chars new ++ drop ends.high (chars before))
     text = text_put (chars before) (plain (chars before)) (chars new) ends.low ends.high
@@ -45,7 +45,7 @@ module _ (units : ℕ → ℕ) (before : List ℕ) (utf8 : IsUtf8 before) (range
     left : bytes_left before items ≡ replace_range before start stop new
     left =
         ap encode_utf8_all text
-        ∙ (bytes_put (chars before) new ends.low ends.high start stop new_utf8 low_place high_place
+        ∙ (bytes_put (chars before) new ends.low ends.high start stop new_utf8 ends.start_is ends.stop_is
         ∙ ap (λ (bs : List ℕ). replace_range bs start stop new) (encodes-chars before utf8))
 
     pub range_within : (max_len : ℕ) → length (replace_range before start stop new) ≤ max_len
@@ -60,14 +60,20 @@ module _ (units : ℕ → ℕ) (before : List ℕ) (utf8 : IsUtf8 before) (range
         refl
 
     low_index : index_of (chars before) start ≡ ends.low
-    low_index = ap (index_of (chars before)) (sym low_place) ∙ index_of-place (chars before) ends.low
-        (omega (arith, ends.order, high_within))
+    low_index = ap (index_of (chars before)) (sym ends.start_is) ∙ index_of-place (chars before) ends.low
+        (omega (arith, ends.order, ends.within))
 
     high_index : index_of (chars before) stop ≡ ends.high
-    high_index = ap (index_of (chars before)) (sym high_place) ∙ index_of-place (chars before) ends.high high_within
+    high_index = ap (index_of (chars before)) (sym ends.stop_is) ∙ index_of-place (chars before) ends.high ends.within
 
     put_is : put_items before start stop new ≡ items
     put_is = rw (low_index, high_index) refl
+
+    pub range_made : items_after units (chars before) (plain (chars before)) (record {
+      range = Some range;
+      text = chars new;
+    }) ≡ Ok (put_items before start stop new)
+    range_made = changed ∙ ap (λ (i : List Item). Ok i) (sym put_is)
 
     pub range_means : meaning units (chars before) (alone range new) ≡ Ok (put_items before start stop new)
     range_means = meant ∙ ap (λ (i : List Item). Ok i) (sym put_is)
@@ -76,17 +82,18 @@ module _ (units : ℕ → ℕ) (before : List ℕ) (utf8 : IsUtf8 before) (range
     range_bytes_left = ap (bytes_left before) put_is ∙ left
 
     pub range_start : IsCharBoundary before start
-    range_start = grind (arith, common_steps, low_place, place_boundary, high_within)
+    range_start = subst (IsCharBoundary before) ends.start_is
+        (place_boundary before ends.low utf8 (omega (arith, ends.order, ends.within)))
 
     pub range_stop : IsCharBoundary before stop
-    range_stop = subst (IsCharBoundary before) high_place (place_boundary before ends.high utf8 high_within)
+    range_stop = subst (IsCharBoundary before) ends.stop_is (place_boundary before ends.high utf8 ends.within)
 
     pub range_order : start ≤ stop
     range_order = omega (
       arith,
-      place_rises (chars before) ends.low ends.high ends.order high_within,
-      low_place,
-      high_place,
+      place_rises (chars before) ends.low ends.high ends.order ends.within,
+      ends.start_is,
+      ends.stop_is,
     )
 
   pub range_fault : (max_len : ℕ) (fault : EditFault) → Err fault ≡ places_at 0 (chars before)

@@ -178,8 +178,3 @@ module _ (before : List ℕ) (parts row : List Part) (rows : List (List Part)) (
         all = subst (λ (i : List Item). AllOver (chars before) i rows) (sym e) f.all.1;
         same = ap (λ (i : List Item). items_over (chars before) i rows) e ∙ f.same;
       }
-
--- the rows from an index on
-pub rows_rest : (layers : List Layer) (i : ℕ) (default : Layer) → i < length layers → map layer_parts (drop i layers)
-    ≡ layer_parts (get_or layers i default) ∷ map layer_parts (drop (i + 1) layers)
-rows_rest layers i default within = ap (map layer_parts) (drop_more layers i default within)

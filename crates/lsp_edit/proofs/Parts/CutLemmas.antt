@@ -131,48 +131,6 @@ module _ (old : List ℕ) (utf8 : IsUtf8 old) where
         cut_is = ap (index_of (chars old)) q ∙ index_of-place (chars old) (row.low + k) (omega (arith, row.within));
       }
 
-  -- A part cut at the place of one of its indexes.
-  pub front_items : (part : Part) (k : ℕ) → IsPartOf old part → k ≤ length (items_in (chars old) part)
-      → items_in (chars old) (front_part part (place_of (text_of (chars old) (items_in (chars old) part)) k))
-      ≡ take k (items_in (chars old) part)
-  front_items (NewPart bytes) k is within =
-      let u : IsUtf8 bytes = IsUtf8-from_is_utf8 bytes is.1 in
-      let n : length (map New (chars bytes)) ≡ length (chars bytes) = length-map (chars bytes) New in
-      rw (
-        text_of-new (chars old) (chars bytes),
-        chars_front bytes k u (omega arith),
-      ) (sym (take-map New k (chars bytes)))
-  front_items (OldPart from to) k is within =
-      let r : IsRow from to = row_of from to is in
-      let c : IsRowCut from to k r = row_cut from to k r within in
-      let n : (r.low + k) - r.low ≡ k = omega arith in
-      let m : k + (r.count - k) ≡ r.count = omega (arith, c.inside) in
-      let t : take k (numbers_from r.low r.count) ≡ numbers_from r.low k =
-      rw m at (take_numbers r.low k (r.count - k)) in
-      ap₂ (λ (x y : ℕ). map Old (numbers_from x y)) r.low_is (ap₂ (λ (x y : ℕ). x - y) c.cut_is r.low_is ∙ n)
-      ∙ sym (ap (take k) r.items_are ∙ (take-map Old k (numbers_from r.low r.count) ∙ ap (map Old) t))
-
-  pub back_items : (part : Part) (k : ℕ) → IsPartOf old part → k ≤ length (items_in (chars old) part)
-      → items_in (chars old) (back_part part (place_of (text_of (chars old) (items_in (chars old) part)) k))
-      ≡ drop k (items_in (chars old) part)
-  back_items (NewPart bytes) k is within =
-      let u : IsUtf8 bytes = IsUtf8-from_is_utf8 bytes is.1 in
-      let n : length (map New (chars bytes)) ≡ length (chars bytes) = length-map (chars bytes) New in
-      rw (
-        text_of-new (chars old) (chars bytes),
-        chars_back bytes k u (omega arith),
-      ) (sym (drop-map New k (chars bytes)))
-  back_items (OldPart from to) k is within =
-      let r : IsRow from to = row_of from to is in
-      let c : IsRowCut from to k r = row_cut from to k r within in
-      let n : (r.low + r.count) - (r.low + k) ≡ r.count - k = omega arith in
-      let m : k + (r.count - k) ≡ r.count = omega (arith, c.inside) in
-      let t : drop k (numbers_from r.low r.count) ≡ numbers_from (r.low + k) (r.count - k) =
-      rw m at (drop_numbers r.low k (r.count - k)) in
-      ap₂ (λ (x y : ℕ). map Old (numbers_from x y)) c.cut_is (ap₂ (λ (x y : ℕ). x - y) r.high_is c.cut_is ∙ n)
-      ∙ sym (ap (drop k) r.items_are ∙ (drop-map Old k (numbers_from r.low r.count) ∙ ap (map Old) t))
-
-  -- What is cut off a part is a part, where it isn't empty.
   pub place_above : (text : List ℕ) (k : ℕ) → 0 < k → k ≤ length text → 0 < place_of text k
   place_above text k some within = let r : place_of text 0 + (k - 0) ≤ place_of text k =
       place_rises text 0 k (omega arith) within in omega arith
@@ -187,63 +145,64 @@ module _ (old : List ℕ) (utf8 : IsUtf8 old) where
   pub text_long : (items : List Item) → length (text_of (chars old) items) ≡ length items
   text_long items = length-map items (character_of (chars old))
 
-  pub front_is : (part : Part) (k : ℕ) → IsPartOf old part → 0 < k → k ≤ length (items_in (chars old) part)
-      → IsPartOf old (front_part part (place_of (text_of (chars old) (items_in (chars old) part)) k))
-  front_is (NewPart bytes) k is some within =
-      let u : IsUtf8 bytes = IsUtf8-from_is_utf8 bytes is.1 in
-      let n : length (map New (chars bytes)) ≡ length (chars bytes) = length-map (chars bytes) New in
-      let b : IsCharBoundary bytes (place_of (chars bytes) k) = place_boundary bytes k u (omega arith) in
-      let above : 0 < place_of (chars bytes) k = place_above (chars bytes) k some (omega arith) in
-      let long : length (take (place_of (chars bytes) k) bytes) ≡ place_of (chars bytes) k =
-      length-take-le (place_of (chars bytes) k) bytes b.0 in
-      rw (text_of-new (chars old) (chars bytes)) (
-        omega arith,
-        is_utf8-from_IsUtf8 (take (place_of (chars bytes) k) bytes) (IsUtf8-take bytes (place_of (chars bytes) k) u b),
-      )
-  front_is (OldPart from to) k is some within =
-      let r : IsRow from to = row_of from to is in
-      let c : IsRowCut from to k r = row_cut from to k r within in
-      let above : 0 < place_of (text_of (chars old) (items_in (chars old) (OldPart from to))) k =
-      place_above (text_of (chars old) (items_in (chars old) (OldPart from to))) k some
-      (omega (arith, text_long (items_in (chars old) (OldPart from to)))) in
-      (omega arith, is.1, rw c.place_is (place_boundary old (r.low + k) utf8 (omega (arith, r.within, c.inside))))
-
-  pub back_is : (part : Part) (k : ℕ) → IsPartOf old part → k < length (items_in (chars old) part)
-      → IsPartOf old (back_part part (place_of (text_of (chars old) (items_in (chars old) part)) k))
-  back_is (NewPart bytes) k is within =
-      let u : IsUtf8 bytes = IsUtf8-from_is_utf8 bytes is.1 in
-      let n : length (map New (chars bytes)) ≡ length (chars bytes) = length-map (chars bytes) New in
-      let b : IsCharBoundary bytes (place_of (chars bytes) k) = place_boundary bytes k u (omega arith) in
-      let below : place_of (chars bytes) k < length (encode_utf8_all (chars bytes)) =
-      place_below (chars bytes) k (omega arith) in
-      let same : length (encode_utf8_all (chars bytes)) ≡ length bytes = ap length (encodes-chars bytes u) in
-      rw (text_of-new (chars old) (chars bytes)) (
-        simp length-drop (omega arith),
-        is_utf8-from_IsUtf8 (drop (place_of (chars bytes) k) bytes) (IsUtf8-drop bytes (place_of (chars bytes) k) u b),
-      )
-  back_is (OldPart from to) k is within =
-      let r : IsRow from to = row_of from to is in
-      let c : IsRowCut from to k r = row_cut from to k r (omega arith) in
-      let below : place_of (text_of (chars old) (items_in (chars old) (OldPart from to))) k
-      < length (encode_utf8_all (text_of (chars old) (items_in (chars old) (OldPart from to)))) =
-      place_below (text_of (chars old) (items_in (chars old) (OldPart from to))) k
-      (omega (arith, text_long (items_in (chars old) (OldPart from to)))) in (
-        omega (arith, part_length (OldPart from to) is),
-        rw c.place_is (place_boundary old (r.low + k) utf8 (omega (arith, r.within, c.inside))),
-        is.2,
-      )
+  -- A part cut at the place of one of its indexes. What is cut off is a part, where it isn't empty.
+  pub record IsPartCut (part : Part) (k place : ℕ) : Type 0 where
+    pub front : items_in (chars old) (front_part part place) ≡ take k (items_in (chars old) part)
+    pub back : items_in (chars old) (back_part part place) ≡ drop k (items_in (chars old) part)
+    pub front_is : 0 < k → IsPartOf old (front_part part place)
+    pub back_is : k < length (items_in (chars old) part) → IsPartOf old (back_part part place)
+    pub cut : IsCutAt part place
 
   pub part_cut : (part : Part) (k : ℕ) → IsPartOf old part → k ≤ length (items_in (chars old) part)
-      → IsCutAt part (place_of (text_of (chars old) (items_in (chars old) part)) k)
+      → IsPartCut part k (place_of (text_of (chars old) (items_in (chars old) part)) k)
   part_cut (NewPart bytes) k is within =
+      let u : IsUtf8 bytes = IsUtf8-from_is_utf8 bytes is.1 in
       let n : length (map New (chars bytes)) ≡ length (chars bytes) = length-map (chars bytes) New in
-      rw (text_of-new (chars old) (chars bytes)) (place_boundary bytes k (IsUtf8-from_is_utf8 bytes is.1) (omega arith))
+      let place : ℕ = place_of (chars bytes) k in
+      let b : IsCharBoundary bytes place = place_boundary bytes k u (omega arith) in
+      rw (text_of-new (chars old) (chars bytes)) (record {
+        front = rw (chars_front bytes k u (omega arith)) (sym (take-map New k (chars bytes)));
+        back = rw (chars_back bytes k u (omega arith)) (sym (drop-map New k (chars bytes)));
+        front_is = λ some.
+            let above : 0 < place_of (chars bytes) k = place_above (chars bytes) k some (omega arith) in
+            let long : length (take (place_of (chars bytes) k) bytes) ≡ place_of (chars bytes) k =
+            length-take-le (place_of (chars bytes) k) bytes b.0 in
+            (omega arith, is_utf8-from_IsUtf8 (take place bytes) (IsUtf8-take bytes place u b));
+        back_is = λ less.
+            let below : place_of (chars bytes) k < length (encode_utf8_all (chars bytes)) =
+            place_below (chars bytes) k (omega arith) in
+            let same : length (encode_utf8_all (chars bytes)) ≡ length bytes = ap length (encodes-chars bytes u) in
+            (simp length-drop (omega arith), is_utf8-from_IsUtf8 (drop place bytes) (IsUtf8-drop bytes place u b));
+        cut = b;
+      })
   part_cut (OldPart from to) k is within =
-      let p : place_of (text_of (chars old) (items_in (chars old) (OldPart from to))) k
-      ≤ length (encode_utf8_all (text_of (chars old) (items_in (chars old) (OldPart from to)))) =
-      place_within (text_of (chars old) (items_in (chars old) (OldPart from to))) k
-      (omega (arith, text_long (items_in (chars old) (OldPart from to)))) in
-      (omega (arith, is.0), omega (arith, part_length (OldPart from to) is))
+      let r : IsRow from to = row_of from to is in
+      let c : IsRowCut from to k r = row_cut from to k r within in
+      let text : List ℕ = text_of (chars old) (items_in (chars old) (OldPart from to)) in
+      let long : length text ≡ length (items_in (chars old) (OldPart from to)) =
+      text_long (items_in (chars old) (OldPart from to)) in
+      let at : IsCharBoundary old (from + place_of text k) =
+      rw c.place_is (place_boundary old (r.low + k) utf8 (omega (arith, r.within, c.inside))) in
+      let n : (r.low + k) - r.low ≡ k = omega arith in
+      let n_back : (r.low + r.count) - (r.low + k) ≡ r.count - k = omega arith in
+      let m : k + (r.count - k) ≡ r.count = omega (arith, c.inside) in
+      let first : take k (numbers_from r.low r.count) ≡ numbers_from r.low k =
+      rw m at (take_numbers r.low k (r.count - k)) in
+      let last : drop k (numbers_from r.low r.count) ≡ numbers_from (r.low + k) (r.count - k) =
+      rw m at (drop_numbers r.low k (r.count - k)) in
+      record {
+        front = ap₂ (λ (x y : ℕ). map Old (numbers_from x y)) r.low_is (ap₂ (λ (x y : ℕ). x - y) c.cut_is r.low_is ∙ n)
+            ∙ sym (ap (take k) r.items_are ∙ (take-map Old k (numbers_from r.low r.count) ∙ ap (map Old) first));
+        back = ap₂ (λ (x y : ℕ). map Old (numbers_from x y)) c.cut_is
+            (ap₂ (λ (x y : ℕ). x - y) r.high_is c.cut_is ∙ n_back)
+            ∙ sym (ap (drop k) r.items_are ∙ (drop-map Old k (numbers_from r.low r.count) ∙ ap (map Old) last));
+        front_is = λ some. let above : 0 < place_of text k = place_above text k some (omega (arith, long)) in
+            (omega arith, is.1, at);
+        back_is = λ less. let below : place_of text k < length (encode_utf8_all text) =
+            place_below text k (omega (arith, long)) in (omega (arith, part_length (OldPart from to) is), at, is.2);
+        cut = let p : place_of text k ≤ length (encode_utf8_all text) = place_within text k (omega (arith, long)) in
+            (omega (arith, is.0), omega (arith, part_length (OldPart from to) is));
+      }
 
   pub part_ordered : (part : Part) → IsPartOf old part → IsOrdered part
   part_ordered (NewPart bytes) is = tt

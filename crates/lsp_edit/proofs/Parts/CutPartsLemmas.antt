@@ -1,6 +1,6 @@
 -- Parts in a row, cut at the place of an index.
 use Rattle.lsp_edit.proofs.Prelude.{ℕ, zero, suc, ◌≡◌, ◌+◌, ◌-◌, ◌<◌, ◌≤◌, List, [], ◌∷◌, ◌++◌, length, take, drop, refl, sym, ap, ap₂, ◌∙◌, subst, arith, append-nil, take_at, drop_at, lt-ltb, le-ltb, ne_eqb, encode_utf8_all, ⊎_elim, chars, IsUtf8, cases_lt, map-append, length-append, take-append-le, drop-append-le, encodes-append, place_of, place_add, Item, text_of, Part, items_in, items_of, bytes_of, part_len, IsPartOf, AreParts, front_part, back_part, front_parts, back_parts, AreCut, common_steps}
-use Rattle.lsp_edit.proofs.Parts.CutLemmas.{part_bytes, part_length, front_items, back_items, place_above, place_below, text_long, front_is, back_is, part_cut, part_ordered}
+use Rattle.lsp_edit.proofs.Parts.CutLemmas.{IsPartCut, part_bytes, part_length, place_above, place_below, text_long, part_cut, part_ordered}
 
 take_more : {X : Type 0} (xs ys : List X) (n : ℕ) → take (length xs + n) (xs ++ ys) ≡ xs ++ take n ys
 take_more [] ys n = let e : 0 + n ≡ n = omega arith in rw e refl
@@ -65,10 +65,12 @@ module _ (old : List ℕ) (utf8 : IsUtf8 old) where
         (omega (arith, text_long old utf8 (items_in (chars old) part))) in
         let less : place < part_len part = omega (arith, part_length old utf8 part is) in
         let not_first : place ≡ 0 → ⊥ = λ z. omega arith in
+        let c : IsPartCut old utf8 part k (place_of (text_of (chars old) (items_in (chars old) part)) k) =
+        part_cut old utf8 part k is (omega arith) in
         let front_has : items_in (chars old) (front_part part place) ≡ take k (items_in (chars old) part) =
-        ap (λ (p : ℕ). items_in (chars old) (front_part part p)) e ∙ front_items old utf8 part k is (omega arith) in
+        ap (λ (p : ℕ). items_in (chars old) (front_part part p)) e ∙ c.front in
         let back_has : items_in (chars old) (back_part part place) ≡ drop k (items_in (chars old) part) =
-        ap (λ (p : ℕ). items_in (chars old) (back_part part p)) e ∙ back_items old utf8 part k is (omega arith) in
+        ap (λ (p : ℕ). items_in (chars old) (back_part part p)) e ∙ c.back in
         cut_of (part ∷ parts) (front_part part place ∷ []) (back_part part place ∷ parts) k place
         (rw (ne_eqb place 0 not_first, lt-ltb place (part_len part) less) refl)
         (rw (lt-ltb place (part_len part) less) refl)
@@ -76,18 +78,18 @@ module _ (old : List ℕ) (utf8 : IsUtf8 old) where
         ∙ (front_has ∙ sym (take-append-le k (items_in (chars old) part) (items_of (chars old) parts) (omega arith))))
         (ap (λ (i : List Item). i ++ items_of (chars old) parts) back_has
         ∙ sym (drop-append-le k (items_in (chars old) part) (items_of (chars old) parts) (omega arith)))
-        (rw e (front_is old utf8 part k is some (omega arith)), tt)
-        (rw e (back_is old utf8 part k is inside), are) (
+        (rw e (c.front_is some), tt)
+        (rw e (c.back_is inside), are) (
           part_ordered old utf8 part is,
-          λ l. rw e (part_cut old utf8 part k is (omega arith)),
+          λ l. rw e c.cut,
           λ l. absurd (omega arith),
         )
 
     cut_at_start : place ≡ 0 → AreCutAt (part ∷ parts) 0 place
     cut_at_start e =
         let some : 0 < part_len part = part_some part is in
-        let full : items_in (chars old) (back_part part 0) ≡ items_in (chars old) part =
-        back_items old utf8 part 0 is (omega arith) in
+        let c : IsPartCut old utf8 part 0 (place_of (text_of (chars old) (items_in (chars old) part)) 0) =
+        part_cut old utf8 part 0 is (omega arith) in
         let long : length (encode_utf8_all (text_of (chars old) (items_in (chars old) part))) ≡ part_len part =
         sym (part_length old utf8 part is) in
         rw e
@@ -95,10 +97,10 @@ module _ (old : List ℕ) (utf8 : IsUtf8 old) where
         refl
         (rw (lt-ltb 0 (part_len part) some) refl)
         refl
-        (ap (λ (i : List Item). i ++ items_of (chars old) parts) full)
+        (ap (λ (i : List Item). i ++ items_of (chars old) parts) c.back)
         tt
-        (back_is old utf8 part 0 is (items_some (items_in (chars old) part) (omega arith)), are)
-        (part_ordered old utf8 part is, λ l. part_cut old utf8 part 0 is (omega arith), λ l. absurd (omega arith)))
+        (c.back_is (items_some (items_in (chars old) part) (omega arith)), are)
+        (part_ordered old utf8 part is, λ l. c.cut, λ l. absurd (omega arith)))
       where
         items_some : (items : List Item) → 0 < length (encode_utf8_all (text_of (chars old) items)) → 0 < length items
         items_some [] h = absurd (omega arith)

@@ -1,8 +1,7 @@
 -- A place in a row of spans, from which a walk over them goes on.
-use Rattle.lsp_edit.proofs.Prelude.{ℕ, zero, suc, ◌≡◌, ◌+◌, ◌<◌, ◌≤◌, List, length, take, drop, slice_index_or as get_or, sum_by, refl, sym, ap, ◌∙◌, subst, arith, take_more, sum_by_push, Span, part_of, parts_of, AreOrdered, EndAfter, IsMark, IsOrdered, span_len, common_steps}
+use Rattle.lsp_edit.proofs.Prelude.{rest_is, ℕ, zero, suc, ◌≡◌, ◌+◌, ◌<◌, ◌≤◌, List, length, take, drop, slice_index_or as get_or, sum_by, refl, sym, ap, ◌∙◌, subst, arith, take_more, sum_by_push, Span, part_of, parts_of, AreOrdered, EndAfter, IsMark, IsOrdered, span_len, common_steps}
 use Rattle.lsp_edit.specs.declared.pieces.span.Span.TheVariants.{Old as OldSpan}
-use Rattle.lsp_edit.proofs.Parts.PassingLemmas.{Passing, drop_ordered, ends_behind, first_ordered, passing_begins, span_passing}
-use Rattle.lsp_edit.proofs.Canonical.WalkLemmas.{rest_is}
+use Rattle.lsp_edit.proofs.Parts.PassingLemmas.{Passing, drop_ordered, first_ordered, passing_begins, span_passing}
 
 before_more : (spans : List Span) (index : ℕ) (default : Span) → index < length spans
     → sum_by span_len (take (index + 1) spans) ≡ sum_by span_len (take index spans)
@@ -42,9 +41,5 @@ pub span_ordered : (spans : List Span) (index : ℕ) (default : Span) → index 
     → IsOrdered (part_of (get_or spans index default))
 span_ordered spans index default within ordered =
     first_ordered (parts_of (drop index spans)) (part_of (get_or spans index default))
-    (parts_of (drop (index + 1) spans)) (rest_is spans index default (part_of (get_or spans index default)) within refl)
+    (parts_of (drop (index + 1) spans)) (rest_is part_of spans index default (part_of (get_or spans index default)) within refl)
     (drop_ordered spans index ordered)
-
-pub behind_at : (spans : List Span) (index place len : ℕ) (default : Span) → index < length spans
-    → len ≡ span_len (get_or spans index default) → place < len → EndAfter (parts_of (drop index spans)) place
-behind_at spans index place len default within is less = grind (arith, common_steps, ends_behind)

@@ -1,5 +1,5 @@
 -- Parts of which no two neighbours touch.
-use Rattle.lsp_edit.proofs.Prelude.{ℕ, ◌≡◌, ◌-◌, ◌<◌, ◌≤◌, true, false, List, [], ◌∷◌, ◌++◌, length, ◌==◌, refl, append-nil, lt-ltb, le-ltb, ne_eqb, ⊎_elim, cases_eq, cases_lt, cases_Bool, Part, OldPart, NewPart, part_len, new_parts, touch, IsApart, NoneTouch, front_part, back_part, front_parts, back_parts, joined, put_part, put_parts, replaced_parts, through_part, put_through, through_parts}
+use Rattle.lsp_edit.proofs.Prelude.{arith, common_steps, ℕ, ◌≡◌, ◌-◌, ◌<◌, ◌≤◌, true, false, List, [], ◌∷◌, ◌++◌, length, ◌==◌, refl, append-nil, lt-ltb, le-ltb, ne_eqb, ⊎_elim, cases_eq, cases_lt, cases_Bool, Part, OldPart, NewPart, part_len, new_parts, touch, IsApart, NoneTouch, front_part, back_part, front_parts, back_parts, joined, put_part, put_parts, replaced_parts, through_part, put_through, through_parts}
 
 -- A part apart from the first of others is apart from what begins where that one does.
 apart_front : (part next : Part) (count : ℕ) → touch part next ≡ false → touch part (front_part next count) ≡ false
@@ -17,42 +17,35 @@ apart_fronts : (part : Part) (parts : List Part) (place : ℕ) → IsApart part 
     → IsApart part (front_parts parts place)
 apart_fronts part [] place e = tt
 apart_fronts part (next ∷ parts) place e =
-    ⊎_elim
-    (λ (z : place ≡ 0). rw z tt)
-    (λ (nz : place ≡ 0 → ⊥).
-    ⊎_elim
-    (λ (l : place < part_len next). rw (
-      ne_eqb place 0 nz,
-      lt-ltb place (part_len next) l,
-    ) (apart_front part next place e))
-    (λ (l : part_len next ≤ place). rw (ne_eqb place 0 nz, le-ltb place (part_len next) l) e)
-    (cases_lt place (part_len next)))
-    (cases_eq place 0)
+    grind (arith, common_steps, ne_eqb, lt-ltb, le-ltb, cases_lt, cases_eq, apart_front)
 
 pub fronts_apart : (parts : List Part) (place : ℕ) → NoneTouch parts → NoneTouch (front_parts parts place)
 fronts_apart [] place none = tt
 fronts_apart (part ∷ parts) place none =
-    ⊎_elim
-    (λ (z : place ≡ 0). rw z tt)
-    (λ (nz : place ≡ 0 → ⊥).
-    ⊎_elim
-    (λ (l : place < part_len part). rw (ne_eqb place 0 nz, lt-ltb place (part_len part) l) (tt, tt))
-    (λ (l : part_len part ≤ place).
-    rw (ne_eqb place 0 nz, le-ltb place (part_len part) l) (
-      apart_fronts part parts (place - part_len part) none.0,
-      fronts_apart parts (place - part_len part) none.1,
-    ))
-    (cases_lt place (part_len part)))
-    (cases_eq place 0)
+    grind (
+      arith,
+      common_steps,
+      ne_eqb,
+      lt-ltb,
+      le-ltb,
+      cases_lt,
+      cases_eq,
+      (apart_fronts part parts (place - part_len part) none.0),
+      (fronts_apart parts (place - part_len part) none.1),
+    )
 
 pub backs_apart : (parts : List Part) (place : ℕ) → NoneTouch parts → NoneTouch (back_parts parts place)
 backs_apart [] place none = tt
 backs_apart (part ∷ parts) place none =
-    ⊎_elim
-    (λ (l : place < part_len part). rw (lt-ltb place (part_len part) l) (apart_back part place parts none.0, none.1))
-    (λ (l : part_len part ≤ place). rw (le-ltb place (part_len part) l)
-    (backs_apart parts (place - part_len part) none.1))
-    (cases_lt place (part_len part))
+    grind (
+      arith,
+      common_steps,
+      lt-ltb,
+      le-ltb,
+      cases_lt,
+      (apart_back part place parts none.0),
+      (backs_apart parts (place - part_len part) none.1),
+    )
 
 -- What stands behind a part is as far from what it was joined to.
 apart_joined : (from next end : ℕ) (parts : List Part) → IsApart (OldPart next end) parts
@@ -65,28 +58,17 @@ apart_joined from next end (NewPart bytes ∷ parts) e = refl
 joined_apart : (first part : Part) (parts : List Part) → IsApart part parts → NoneTouch parts
     → NoneTouch (joined first part ++ parts)
 joined_apart (OldPart from to) (OldPart next end) parts e none =
-    ⊎_elim
-    (λ (t : (to == next) ≡ true). rw t (apart_joined from next end parts e, none))
-    (λ (f : (to == next) ≡ false). rw f (f, (e, none)))
-    (cases_Bool (to == next))
+    grind (arith, common_steps, cases_Bool, (apart_joined from next end parts e))
 joined_apart (OldPart from to) (NewPart bytes) parts e none = (refl, (e, none))
 joined_apart (NewPart bytes) part parts e none = (refl, (e, none))
 
 -- What a part is put behind begins where it began.
 joined_begins : (before first part : Part) (parts : List Part) → touch before first ≡ false
     → IsApart before (joined first part ++ parts)
-joined_begins (OldPart low high) (OldPart from to) (OldPart next end) parts e =
-    ⊎_elim
-    (λ (t : (to == next) ≡ true). rw t e)
-    (λ (f : (to == next) ≡ false). rw f e)
-    (cases_Bool (to == next))
+joined_begins (OldPart low high) (OldPart from to) (OldPart next end) parts e = grind (arith, common_steps, cases_Bool)
 joined_begins (OldPart low high) (OldPart from to) (NewPart bytes) parts e = e
 joined_begins (OldPart low high) (NewPart bytes) part parts e = refl
-joined_begins (NewPart bytes) (OldPart from to) (OldPart next end) parts e =
-    ⊎_elim
-    (λ (t : (to == next) ≡ true). rw t refl)
-    (λ (f : (to == next) ≡ false). rw f refl)
-    (cases_Bool (to == next))
+joined_begins (NewPart bytes) (OldPart from to) (OldPart next end) parts e = grind (arith, common_steps, cases_Bool)
 joined_begins (NewPart bytes) (OldPart from to) (NewPart more) parts e = refl
 joined_begins (NewPart bytes) (NewPart more) part parts e = refl
 
@@ -107,11 +89,7 @@ put_all_apart made [] none more = none
 put_all_apart made (part ∷ parts) none more = put_apart made part parts none more.0 more.1
 
 pub new_apart : (bytes : List ℕ) → NoneTouch (new_parts bytes)
-new_apart bytes =
-    ⊎_elim
-    (λ (t : (length bytes == 0) ≡ true). rw t tt)
-    (λ (f : (length bytes == 0) ≡ false). rw f (tt, tt))
-    (cases_Bool (length bytes == 0))
+new_apart bytes = grind (arith, common_steps, cases_Bool)
 
 -- A new text touches nothing.
 behind_apart : (parts : List Part) (bytes : List ℕ) → NoneTouch parts → NoneTouch (parts ++ NewPart bytes ∷ [])
@@ -122,10 +100,7 @@ behind_apart (part ∷ next ∷ parts) bytes none = (none.0, behind_apart (next 
 
 with_new_apart : (parts : List Part) (bytes : List ℕ) → NoneTouch parts → NoneTouch (parts ++ new_parts bytes)
 with_new_apart parts bytes none =
-    ⊎_elim
-    (λ (t : (length bytes == 0) ≡ true). rw (t, append-nil parts) none)
-    (λ (f : (length bytes == 0) ≡ false). rw f (behind_apart parts bytes none))
-    (cases_Bool (length bytes == 0))
+    grind (arith, common_steps, append-nil, cases_Bool, (behind_apart parts bytes none))
 
 pub replaced_apart : (parts : List Part) (start stop : ℕ) (bytes : List ℕ) → NoneTouch parts
     → NoneTouch (replaced_parts parts start stop bytes)

@@ -38,23 +38,3 @@ module _ (made rest first parts : List Part) (left place : ℕ) (fronts : Fronts
       at_start : (ps : List Part) → front_parts ps 0 ≡ []
       at_start [] = refl
       at_start (p ∷ ps) = refl
-
-  module _ (part : Part) (more : List Part) (is : rest ≡ part ∷ more) (some : left ≡ 0 → ⊥) where
-    pub front_part_left : left < part_len part → made ++ front_part part left ∷ [] ≡ first ++ front_parts parts place
-    front_part_left less =
-        (let f : made ++ front_parts (part ∷ more) left ≡ first ++ front_parts parts place = rw is at fronts.made_is in
-        rw (ne_eqb left 0 some, lt-ltb left (part_len part) less) at f)
-
-    pub front_more : part_len part ≤ left → Fronts (made ++ part ∷ []) more (left - part_len part) first parts place
-    front_more fits =
-        let f : made ++ front_parts (part ∷ more) left ≡ first ++ front_parts parts place = rw is at fronts.made_is in
-        let g : made ++ (part ∷ front_parts more (left - part_len part)) ≡ first ++ front_parts parts place =
-        rw (ne_eqb left 0 some, le-ltb left (part_len part) fits) at f in
-        let c : AreCut (part ∷ more) left = rw is at fronts.cut in
-        record { made_is = append_assoc made (part ∷ []) (front_parts more (left - part_len part)) ∙ g; cut = c.2 fits }
-
-    pub front_cut : left < part_len part → IsCutAt part left
-    front_cut less = let c : AreCut (part ∷ more) left = rw is at fronts.cut in c.1 less
-
-    pub front_ordered : IsOrdered part
-    front_ordered = let c : AreCut (part ∷ more) left = rw is at fronts.cut in c.0

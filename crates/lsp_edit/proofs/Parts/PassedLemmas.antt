@@ -11,16 +11,6 @@ pub record Walks (first second made rest : List Part) (passed : ℕ) (left : Lis
   pub order : Ascend low left
   pub are : ArePassed first rest passed low
 
-pub walk_begins : (first second : List Part) → AreThrough first second → Ascend 0 second
-    → Walks first second [] first 0 second
-walk_begins first second through order = record {
-  low = 0;
-  error = refl;
-  through = through;
-  order = order;
-  are = none_passed first;
-}
-
 module _ (first second made rest : List Part) (passed : ℕ) (left : List Part)
     (walks : Walks first second made rest passed left) where
   -- behind a part of a new text
@@ -30,19 +20,6 @@ module _ (first second made rest : List Part) (passed : ℕ) (left : List Part)
 
   -- at a part of the middle text
   module _ (from to : ℕ) (more : List Part) (is : left ≡ OldPart from to ∷ more) where
-    here : Walks first second made rest passed (OldPart from to ∷ more)
-    here = subst (Walks first second made rest passed) is walks
-
-    pub walk_order : (passed ≤ from) × (from ≤ to)
-    walk_order = (omega (arith, here.order.0, here.are.within), here.order.1)
-
-    pub walk_from : AreCut rest (from - passed)
-    walk_from = here.are.cut from here.order.0 here.through.0.1
-
-    pub walk_count : AreCut (back_parts rest (from - passed)) (to - from)
-    walk_count = subst (λ (ps : List Part). AreCut ps (to - from)) (sym (here.are.same from here.order.0))
-        here.through.0.2
-
     pub walk_old : (now after : List Part) (on : ℕ)
         → now ≡ put_parts made (front_parts (back_parts rest (from - passed)) (to - from))
         → ArePassed rest after on (from - passed) → Walks first second now after (passed + on) more

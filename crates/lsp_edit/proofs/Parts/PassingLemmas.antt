@@ -74,10 +74,6 @@ pub first_ordered : (rest : List Part) (part : Part) (more : List Part) → rest
     → IsOrdered part
 first_ordered rest part more is ordered = (subst AreOrdered is ordered).0
 
-pub ends_behind : (rest : List Part) (part : Part) (more : List Part) (place : ℕ) → rest ≡ part ∷ more
-    → place < part_len part → EndAfter rest place
-ends_behind rest part more place is less = subst (λ (ps : List Part). EndAfter ps place) (sym is) less
-
 -- A part cut at its end is the part itself.
 front_whole : (part : Part) → IsOrdered part → front_part part (part_len part) ≡ part
 front_whole (OldPart from to) order = let e : from + (to - from) ≡ to = omega arith in ap (OldPart from) e

@@ -1,30 +1,48 @@
 -- Text edits with their byte offsets, in the order of their starts. Only proofs and private
 -- contracts use this: `TextEdits` says the same by indexes.
-use Rattle.std.specs.Prelude.{◌≡◌, ◌⊎◌, ◌<◌, ◌≤◌, if◌then◌else◌, ◌∷◌, ◌++◌}
-use Rattle.lsp_edit.specs.Prelude.{ℕ, suc, nat_lt, List, [], length, string_bytes, Ok, Err, chars, EditFault, TextEdit, TextEditFault, Overlap}
+use Rattle.std.specs.Prelude.{◌≡◌, ◌⊎◌, ◌+◌, ◌<◌, ◌≤◌, if◌then◌else◌, ◌∷◌, ◌++◌, slice_index_or}
+use Rattle.lsp_edit.specs.Prelude.{ℕ, nat_lt, true, List, [], length, map, Result, Ok, Err, chars, is_utf8, TextEdit, TextEditFault, Overlap}
+use Rattle.std.specs.List.{All}
 use Rattle.std.specs.Ordering.{nat_cmp}
 use Rattle.std.specs.List.Sorted.{IsPermutation, IsSortedByKey, IsStableByKey}
+use Rattle.lsp_text.specs.LineStarts.{IsPlace}
 use Rattle.lsp_edit.specs.declared.text_edits.Placed.{Placed}
 use Rattle.lsp_edit.specs.declared.text_edits.TextEditFault.TheVariants.{NoMemory}
-use Rattle.lsp_edit.specs.Faults.{places_at}
-use Rattle.lsp_edit.specs.Batch.{ends_of}
-use Rattle.lsp_edit.specs.Parts.{Part, OldPart, new_parts}
-use Rattle.lsp_edit.specs.TextEdits.{fault_of}
+use Rattle.lsp_edit.specs.Batch.{Fault}
+use Rattle.lsp_edit.specs.Parts.{Part, OldPart, index_of, new_parts}
+use Rattle.lsp_edit.specs.TextEdits.{HasRangeFault, LocatedEdit, located}
 
--- An edit with a number has these byte offsets in the old text.
-pub record IsPlaced (units : ℕ → ℕ) (old : List ℕ) (number : ℕ) (edit : TextEdit)
-    (placed : Placed) : Type 0 where
-  pub at : places_at number old (ends_of units old edit.range) ≡ Ok (placed.start, placed.stop)
-  pub number_is : placed.number ≡ number
-  pub text : placed.text.now ≡ string_bytes edit.new_text
+-- An edit with byte offsets, by indexes.
+abbrev pub located_of : List ℕ → Placed → LocatedEdit
+located_of old placed =
+    record {
+      number = placed.number;
+      start = index_of old placed.start;
+      stop = index_of old placed.stop;
+      text = chars placed.text.now;
+    }
 
--- Each of the edits has such offsets; the edits are numbered from `number`.
-abbrev pub ArePlaced : (ℕ → ℕ) → List ℕ → ℕ → List TextEdit → List Placed → Type 0
-ArePlaced units old number [] [] = Unit {0}
-ArePlaced units old number [] (placed ∷ more) = ⊥
-ArePlaced units old number (edit ∷ edits) [] = ⊥
-ArePlaced units old number (edit ∷ edits) (placed ∷ more) =
-    IsPlaced units old number edit placed × ArePlaced units old (suc number) edits more
+-- An edit between characters of a text, of which neither end splits a CRLF.
+pub record Lies (old : List ℕ) (edit : Placed) : Type 0 where
+  pub at_start : IsPlace old edit.start
+  pub at_stop : IsPlace old edit.stop
+  pub order : edit.start ≤ edit.stop
+  pub utf8 : is_utf8 edit.text.now ≡ true
+
+-- These edits after others, or their fault.
+abbrev pub located_after : List LocatedEdit → Result (List LocatedEdit) (ℕ × Fault) →
+    Result (List LocatedEdit) (ℕ × Fault)
+located_after front (Ok edits) = Ok (front ++ edits)
+located_after front (Err fault) = Err fault
+
+-- The edits up to `rest` have these byte offsets in the old text, and their numbers are their
+-- indexes.
+pub record ArePlaced (units : ℕ → ℕ) (old : List ℕ) (edits rest : List TextEdit)
+    (placed : List Placed) : Type 0 where
+  pub at : located units old 0 edits
+      ≡ located_after (map (located_of old) placed) (located units old (length placed) rest)
+  pub lie : All (Lies old) placed
+  pub numbered : (k : ℕ) (d : Placed) → k < length placed → (slice_index_or placed k d).number ≡ k
 
 -- The same edits sorted by their starts. Those with the same start keep the order of the list.
 pub record IsInOrder (placed ordered : List Placed) : Type 0 where
@@ -53,31 +71,19 @@ pub record AreLeftByEdits (units : ℕ → ℕ) (before : List ℕ) (edits : Lis
     (parts : List Part) : Type 0 where
   pub placed : List Placed
   pub ordered : List Placed
-  pub at : ArePlaced units (chars before) 0 edits placed
+  pub at : ArePlaced units (chars before) edits [] placed
   pub order : IsInOrder placed ordered
   pub apart : AreApart 0 ordered
   pub are : parts ≡ parts_left (length before) 0 ordered
 
--- The first edit whose range has a fault, with its number, and why.
-pub record HasFaultyRange (units : ℕ → ℕ) (old : List ℕ) (edits : List TextEdit)
-    (fault : TextEditFault) : Type 0 where
-  pub front : List TextEdit
-  pub first : TextEdit
-  pub rest : List TextEdit
-  pub all : edits ≡ front ++ first ∷ rest
-  pub placed : List Placed
-  pub at : ArePlaced units old 0 front placed
-  pub why : EditFault
-  pub faulty : places_at (length front) old (ends_of units old first.range) ≡ Err why
-  pub error : fault ≡ fault_of why
-
 -- Two neighbours in the order of their starts overlap: the second starts before the first stops.
 pub record DoOverlap (ordered : List Placed) (fault : TextEditFault) : Type 0 where
-  pub front : List Placed
+  pub index : ℕ
   pub first : Placed
   pub second : Placed
-  pub rest : List Placed
-  pub all : ordered ≡ front ++ first ∷ second ∷ rest
+  pub within : index + 1 < length ordered
+  pub first_is : slice_index_or ordered index first ≡ first
+  pub second_is : slice_index_or ordered (index + 1) second ≡ second
   pub over : second.start < first.stop
   pub error : fault ≡ Overlap first.number second.number
 
@@ -86,11 +92,11 @@ pub record PlacedOverlap (units : ℕ → ℕ) (old : List ℕ) (edits : List Te
     (fault : TextEditFault) : Type 0 where
   pub placed : List Placed
   pub ordered : List Placed
-  pub at : ArePlaced units old 0 edits placed
+  pub at : ArePlaced units old edits [] placed
   pub order : IsInOrder placed ordered
   pub over : DoOverlap ordered fault
 
 -- Out of memory, or why edits have no parts: a range is faulty, or two edits overlap.
 abbrev pub IsPlacingFault : (ℕ → ℕ) → List ℕ → List TextEdit → TextEditFault → Type 0
 IsPlacingFault units old edits fault =
-    (fault ≡ NoMemory) ⊎ HasFaultyRange units old edits fault ⊎ PlacedOverlap units old edits fault
+    (fault ≡ NoMemory) ⊎ HasRangeFault units old edits fault ⊎ PlacedOverlap units old edits fault

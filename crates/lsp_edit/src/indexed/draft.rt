@@ -1,15 +1,15 @@
 //! The text that a batch leaves, which is made in a copy, and the ends of its ranges.
 
-ghost use Rattle.std.specs.Prelude.{◌≡◌, ◌+◌, ◌++◌, ◌∷◌, ◌<◌, ◌≤◌, ℕ, List, [], IfErr, IfOk, OnOk, Err, Ok, Some, length, map, string_len, sum_by};
+ghost use Rattle.std.specs.Prelude.{◌≡◌, ◌+◌, ◌++◌, ◌∷◌, ◌≤◌, ◌⊎◌, [], IfErr, IfOk, OnOk, Ok, length, map, string_len, sum_by};
 ghost use Rattle.std.specs.Str.{IsUtf8, chars};
 ghost use Rattle.lsp_text.specs.Units.{units_in};
-ghost use Rattle.lsp_edit.specs.declared.indexed.fault.BatchFault.TheVariants.{TooLong, NoMemory};
-ghost use Rattle.lsp_edit.specs.Batch.{meaning};
-ghost use Rattle.lsp_edit.specs.Delta.{AreEndsIn, AreEndsOf};
+ghost use Rattle.lsp_edit.specs.Batch.{items_after, meaning};
+ghost use Rattle.lsp_edit.specs.Delta.{AreEndsOf};
 ghost use Rattle.lsp_edit.specs.Edited.{content_change};
+ghost use Rattle.lsp_edit.specs.Faults.{IsFaultOfChange};
 ghost use Rattle.lsp_edit.specs.Indexed.{IsBatchFaultOf, text_within};
 ghost use Rattle.lsp_edit.specs.Items.{plain};
-ghost use Rattle.lsp_edit.specs.inside.TextBatch.{AreTextEnds, IsFaultOf, IsFaultOfBatch, text_after_change, text_after_changes};
+ghost use Rattle.lsp_edit.specs.inside.Drafts.{BeginsAnew, IsAfter};
 
 use crate::change::{Change, MAX_NEW_TEXT};
 use crate::composed::MAX_OLD_TEXT;
@@ -18,7 +18,7 @@ use crate::fault::EditFault;
 use crate::indexed::IndexedText;
 use crate::indexed::fault::BatchFault;
 use crate::pieces::MAX_TEXT;
-use lsp_text::{Encoding, Range};
+use lsp_text::Encoding;
 use std::alloc::{AllocError, Global};
 
 impl IndexedText {
@@ -30,34 +30,8 @@ impl IndexedText {
         Self::new(alloc, String::from_str(alloc, text)?)
     }
 
-    /// Replaces a range by a text, and returns the byte offsets of its ends too. `number` is the
-    /// number of the change that a fault reports.
-    fn with_range(
-        self,
-        encoding: Encoding,
-        number: usize,
-        range: Range,
-        new: &str,
-    ) -> Result<(Self, (usize, usize)), EditFault>
-        requires { length self + length new.now ≤ MAX_TEXT }
-        ensures ok { IfOk result (λ next. text_after_change (units_in encoding) (chars self)
-            (record { range = Some range; text = chars new.now }) ≡ Ok (chars next.0)) }
-        ensures ends { IfOk result (λ next. AreEndsIn (units_in encoding) (chars self)
-            (record { range = Some range; text = chars new.now }) next.1) }
-        ensures error { IfErr result
-            (IsFaultOf number (text_after_change (units_in encoding) (chars self)
-            (record { range = Some range; text = chars new.now }))) }
-        ensures longer { IfOk result (λ next. length next.0 ≤ length self + length new.now) }
-    {
-        let _ = self.len();
-        let (start, stop) = ends(self.text(), encoding, range, number)?;
-        let IndexedText { mut text } = self;
-        text.replace_range(start, stop, new)?;
-        Ok((IndexedText { text }, (start, stop)))
-    }
-
-    /// Applies a change (LSP 3.17, TextDocumentContentChangeEvent), and returns the ends of its
-    /// range too. `number` is the number of the change that a fault reports.
+    /// Applies a change (LSP 3.17, TextDocumentContentChangeEvent), and returns the byte offsets of
+    /// its range's ends too. `number` is the number of the change that a fault reports.
     fn after(
         self,
         encoding: Encoding,
@@ -65,61 +39,36 @@ impl IndexedText {
         change: &Change,
     ) -> Result<(Self, (usize, usize)), EditFault>
         requires { length self + string_len change.now.text ≤ MAX_TEXT }
-        ensures ok { IfOk result
-            (λ next. text_after_change (units_in encoding) (chars self) (content_change change.now)
-            ≡ Ok (chars next.0)) }
-        ensures ends { IfOk result (λ next. AreEndsIn (units_in encoding) (chars self)
-            (content_change change.now) next.1) }
-        ensures error { IfErr result
-            (IsFaultOf number
-            (text_after_change (units_in encoding) (chars self) (content_change change.now))) }
+        ensures utf8 { IsUtf8 self }
+        ensures ok { IfOk result (λ next. IsAfter (units_in encoding) self
+            (content_change change.now) next.0 next.1) }
+        ensures error { IfErr result (IsFaultOfChange number (items_after (units_in encoding)
+            (chars self) (plain (chars self)) (content_change change.now))) }
         ensures longer { IfOk result
             (λ next. length next.0 ≤ length self + string_len change.now.text) }
     {
-        match change.range {
-            None => Ok((Self::from_str(*self.allocator(), &change.text)?, (0, 0))),
-            Some(range) => self.with_range(encoding, number, range, &change.text),
-        }
-    }
-
-    /// Applies the changes of a batch, one after another, and returns the ends of their ranges
-    /// too. A fault reports the first change that has no result.
-    fn after_all(
-        self,
-        encoding: Encoding,
-        changes: &[Change],
-    ) -> Result<(Self, Vec<(usize, usize)>), EditFault>
-        requires { length self + sum_by (λ change. string_len change.text) changes.now ≤ MAX_TEXT }
-        ensures ok { IfOk result
-            (λ left. text_after_changes (units_in encoding) 0 (chars self)
-            (map content_change changes.now) ≡ Ok (chars left.0)) }
-        ensures ends { IfOk result (λ left. AreTextEnds (units_in encoding) (chars self)
-            (map content_change changes.now) left.1.items) }
-        ensures error { IfErr result
-            (IsFaultOfBatch (text_after_changes (units_in encoding) 0 (chars self)
-            (map content_change changes.now))) }
-    {
-        let mut ends = Vec::with_capacity(*self.allocator(), changes.len())?;
-        let mut draft = self;
-        for (number, change) in changes.iter().enumerate() {
-            let (next, found) = draft.after(encoding, number, change)?;
-            draft = next;
-            push_ends(&mut ends, found)?;
-        }
-        Ok((draft, ends))
+        // States that the text is UTF-8.
+        let _ = self.len();
+        let new = change.text.as_str();
+        let range = match change.range {
+            None => return Ok((Self::from_str(*self.allocator(), new)?, (0, 0))),
+            Some(range) => range,
+        };
+        let (start, stop) = ends(self.text(), encoding, range, number)?;
+        let IndexedText { mut text } = self;
+        text.replace_range(start, stop, new)?;
+        Ok((IndexedText { text }, (start, stop)))
     }
 
     /// Makes the draft that a batch begins with: a copy of the text, or the empty text if the first
     /// change replaces all.
     fn begun(&self, changes: &[Change]) -> Result<Self, AllocError>
-        ensures meaning { IfOk result (λ draft. (units : ℕ → ℕ) →
-            text_after_changes units 0 (chars draft) (map content_change changes.now)
-            ≡ text_after_changes units 0 (chars self.now) (map content_change changes.now)) }
-        ensures ends { IfOk result (λ draft. (units : ℕ → ℕ) (ends : List (ℕ × ℕ)) →
-            AreTextEnds units (chars draft) (map content_change changes.now) ends
-            → AreTextEnds units (chars self.now) (map content_change changes.now) ends) }
-        ensures short { IfOk result (λ draft. length draft ≤ length self.now) }
+        ensures utf8 { IsUtf8 self.now }
+        ensures begun { IfOk result (λ draft. (draft ≡ self.now)
+            ⊎ ((draft ≡ []) × BeginsAnew (map content_change changes.now))) }
     {
+        // States that the text is UTF-8.
+        let _ = self.len();
         let alloc = *self.allocator();
         match changes {
             [Change { range: None, .. }, ..] => Self::from_str(alloc, ""),
@@ -127,33 +76,11 @@ impl IndexedText {
         }
     }
 
-    /// Applies a batch to a copy of the text, and returns the ends of the changes' ranges too. A
-    /// fault reports the first change that has no result.
+    /// Applies a batch to a copy of the text, if the result has at most `max_len` bytes, and returns
+    /// the ends of the changes' ranges too. A fault reports the first change that has no result.
     ///
     /// Costs what each change costs, and [`IndexedText::clone_in`] if the first change doesn't
     /// replace all.
-    fn left_by(
-        &self,
-        encoding: Encoding,
-        changes: &[Change],
-    ) -> Result<(Self, Vec<(usize, usize)>), EditFault>
-        requires size { length self.now ≤ MAX_OLD_TEXT }
-        requires fits { sum_by (λ change. string_len change.text) changes.now ≤ MAX_NEW_TEXT }
-        ensures ok { IfOk result
-            (λ left. text_after_changes (units_in encoding) 0 (chars self.now)
-            (map content_change changes.now) ≡ Ok (chars left.0)) }
-        ensures ends { IfOk result (λ left. AreTextEnds (units_in encoding) (chars self.now)
-            (map content_change changes.now) left.1.items) }
-        ensures error { IfErr result
-            (IsFaultOfBatch (text_after_changes (units_in encoding) 0 (chars self.now)
-            (map content_change changes.now))) }
-    {
-        let draft = self.begun(changes)?;
-        draft.after_all(encoding, changes)
-    }
-
-    /// Applies a batch to a copy of the text, if the result has at most `max_len` bytes, and returns
-    /// the ends of the changes' ranges too.
     pub(super) fn draft(
         &self,
         encoding: Encoding,
@@ -170,8 +97,16 @@ impl IndexedText {
         ensures error { IfErr result (IsBatchFaultOf (units_in encoding) max_len self.now
             (map content_change changes.now)) }
     {
-        let (draft, ends) = self.left_by(encoding, changes)?;
-        may_be_left(&draft, max_len)?;
+        let mut draft = self.begun(changes)?;
+        let mut ends = Vec::with_capacity(*self.allocator(), changes.len())?;
+        for (number, change) in changes.iter().enumerate() {
+            let (next, found) = draft.after(encoding, number, change)?;
+            draft = next;
+            push_ends(&mut ends, found)?;
+        }
+        if draft.len() > max_len {
+            return Err(BatchFault::TooLong);
+        }
         Ok((draft, ends))
     }
 }
@@ -181,17 +116,5 @@ fn push_ends(ends: &mut Vec<(usize, usize)>, found: (usize, usize)) -> Result<()
     ensures { OnOk result (ends.new.items ≡ ends.old.items ++ found ∷ []) }
 {
     ends.push(found)?;
-    Ok(())
-}
-
-/// Fails if the text that a batch leaves has more than `max_len` bytes. Takes no memory.
-fn may_be_left(draft: &IndexedText, max_len: usize) -> Result<(), BatchFault>
-    ensures ok { OnOk result (length draft.now ≤ max_len) }
-    ensures utf8 { IsUtf8 draft.now }
-    ensures error { IfErr result (λ fault. (fault ≡ TooLong) × (max_len < length draft.now)) }
-{
-    if draft.len() > max_len {
-        return Err(BatchFault::TooLong);
-    }
     Ok(())
 }

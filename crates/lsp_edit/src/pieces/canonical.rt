@@ -6,7 +6,7 @@ ghost use Rattle.lsp_text.specs.LineStarts.{IsPlace};
 ghost use Rattle.lsp_text.specs.Units.{units_in};
 ghost use Rattle.lsp_edit.specs.Canonical.{canonical, gaps};
 ghost use Rattle.lsp_edit.specs.Edited.{content_change};
-ghost use Rattle.lsp_edit.specs.inside.Gaps.{gap_change};
+ghost use Rattle.lsp_edit.specs.inside.Gaps.{change_at, gap_between};
 ghost use Rattle.lsp_edit.specs.laws.Batches.{AllHaveExactEnds};
 ghost use Rattle.lsp_edit.specs.Parts.{AreParts, items_of, parts_of};
 
@@ -33,7 +33,8 @@ fn put_gap(
         × IsPlace (chars before.now) high }
     ensures { OnOk result (map content_change changes.new.items
         ≡ map content_change changes.old.items
-        ++ gap_change (units_in encoding) before.now low high (string_bytes text)) }
+        ++ change_at (units_in encoding) (chars before.now)
+        (gap_between before.now low high (string_bytes text))) }
 {
     if low < high || !text.is_empty() {
         let start = before.position(encoding, low);

@@ -11,7 +11,7 @@ ghost use Rattle.lsp_edit.specs.Edited.{content_change};
 ghost use Rattle.lsp_edit.specs.Keeps.{Keeps};
 ghost use Rattle.lsp_edit.specs.laws.Batches.{HasExactEnds};
 ghost use Rattle.lsp_edit.specs.Plain.{item_of, items_in_order};
-ghost use Rattle.lsp_edit.specs.inside.Plain.{change_at, gap_at};
+ghost use Rattle.lsp_edit.specs.inside.Gaps.{change_at, gap_at};
 
 use crate::change::Change;
 use crate::ends::ends;

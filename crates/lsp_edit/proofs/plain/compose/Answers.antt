@@ -1,4 +1,4 @@
-use Rattle.lsp_edit.proofs.Prelude.{◌+◌, ◌∷◌, drop, arith, sym, ap, ◌∙◌, drop_more, units_in, Change}
+use Rattle.lsp_edit.proofs.Prelude.{arith, next_is, units_in}
 use Rattle.lsp_edit.proofs.Batches.PlainLemmas.{applying_begins}
 use Rattle.lsp_edit.proofs.Composing.RoomLemmas.{applying_on}
 use Rattle.lsp_edit.proofs.plain.compose.Goals as goal
@@ -10,8 +10,7 @@ loop-change-init c = applying_begins (units_in c.args.encoding) c.args.before.no
 pub loop-change-preserved : goal.loop-change-preserved
 loop-change-preserved c =
     applying_on _ _ _ _ c.change-item.result _ _ _
-    (drop_more c.args.changes.now c.loop-change.change-index c.change-item.result c.loop-change-test.true
-    ∙ ap (λ (x : Change). x ∷ drop (c.loop-change.change-index + 1) c.args.changes.now) (sym c.change-item.is))
+    (next_is c.args.changes.now c.loop-change.change-index c.change-item.result c.loop-change-test.true c.change-item.is)
     c.loop-change.invariant
     _
     (omega arith)

@@ -1,10 +1,6 @@
-use Rattle.lsp_edit.proofs.Prelude.{◌≡◌, ℕ, ◌+◌, ◌<◌, List, ◌∷◌, length, drop, slice_index_or as get_or, arith, refl, sym, ap, ◌∙◌, drop_more, units_in}
+use Rattle.lsp_edit.proofs.Prelude.{arith, refl, next_is, units_in}
 use Rattle.lsp_edit.proofs.Deltas.DeltaLemmas.{putting_begins, putting_bounds, putting_ends, putting_on}
 use Rattle.lsp_edit.proofs.delta.Left.pieces.Goals as goal
-
-next_is : {X : Type 0} (xs : List X) (i : ℕ) (x : X) → i < length xs → x ≡ get_or xs i x
-    → drop i xs ≡ x ∷ drop (i + 1) xs
-next_is xs i x within is = drop_more xs i x within ∙ ap (λ y. y ∷ drop (i + 1) xs) (sym is)
 
 pub loop-index-init : goal.loop-index-init
 loop-index-init c =

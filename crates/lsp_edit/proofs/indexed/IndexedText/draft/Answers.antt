@@ -1,33 +1,30 @@
-use Rattle.lsp_edit.proofs.Prelude.{inr, map, err_from_is_err_and, units_in, chars, content_change, plain}
-use Rattle.lsp_edit.proofs.Batches.TextBatchLemmas.{ends_items, left_fault, left_too_long, left_within}
-use Rattle.lsp_edit.proofs.Composing.EditedLemmas.{plain_text}
+use Rattle.lsp_edit.proofs.Prelude.{arith, common_steps, drop_all, err_from_is_err_and, next_is, units_in}
+use Rattle.lsp_edit.proofs.Batches.DraftLemmas.{draft_faulted, drafted_ends, drafting_begins, drafting_on}
 use Rattle.lsp_edit.proofs.indexed.IndexedText.draft.Goals as goal
 
-pub returns-in_err-draft-clause-error : goal.returns-in_err-draft-clause-error
-returns-in_err-draft-clause-error c =
-    let p = err_from_is_err_and c.from_residual.result c.from_residual.ensures.1 in
-    rw (
-      p.1,
-      p.2,
-    ) (left_fault (units_in c.args.encoding) c.args.self.now (map content_change c.args.changes.now) c.args.max_len _
-    c.in_err-draft.ensures.error)
+pub loop-number-init : goal.loop-number-init
+loop-number-init c =
+    let begins = drafting_begins (units_in c.args.encoding) c.args.self.now c.args.changes.now _
+    c.in_ok-draft.ensures.utf8 c.in_ok-draft.ensures.begun c.requires.size c.requires.fits in
+    grind (arith, common_steps, begins)
 
-pub returns-in_err-may_be_left-clause-error : goal.returns-in_err-may_be_left-clause-error
-returns-in_err-may_be_left-clause-error c =
-    let p = err_from_is_err_and c.from_residual-in_err-may_be_left.result
-    c.from_residual-in_err-may_be_left.ensures.1 in
-    rw (p.1, p.2, c.in_err-may_be_left.ensures.error.0)
-    (inr (left_too_long (units_in c.args.encoding) c.args.self.now (map content_change c.args.changes.now)
-    c.in_ok-draft.draft
-    c.in_err-may_be_left.ensures.utf8 c.in_ok-draft.ensures.ok c.args.max_len c.in_err-may_be_left.ensures.error.1))
+pub returns-in_err-next-clause-error : goal.returns-in_err-next-clause-error
+returns-in_err-next-clause-error c =
+    let p = err_from_is_err_and c.from_residual-in_err-next.result c.from_residual-in_err-next.ensures.1 in
+    rw (p.1, p.2)
+    (draft_faulted _ _ _ c.loop-number.number c.index-changes-number.result _ _ _ _
+    (next_is c.args.changes.now c.loop-number.number c.index-changes-number.result c.loop-number-test.true
+    c.index-changes-number.is) c.loop-number.invariant c.in_err-next.ensures.utf8 c.args.max_len _
+    c.in_err-next.ensures.error)
 
-pub returns-clause-ok : goal.returns-clause-ok
-returns-clause-ok c =
-    left_within (units_in c.args.encoding) c.args.self.now (map content_change c.args.changes.now) c.in_ok-draft.draft
-    c.in_ok-may_be_left.ensures.utf8 c.in_ok-draft.ensures.ok c.args.max_len c.in_ok-may_be_left.ensures.ok
+pub loop-number-preserved : goal.loop-number-preserved
+loop-number-preserved c =
+    drafting_on _ _ _ c.loop-number.number c.index-changes-number.result _ _ _ _
+    (next_is c.args.changes.now c.loop-number.number c.index-changes-number.result c.loop-number-test.true
+    c.index-changes-number.is) c.loop-number.invariant c.in_ok-next.ensures.utf8 _ _ _ c.in_ok-next.ensures.ok
+    c.in_ok-push_ends.ensures c.in_ok-next.ensures.longer
 
 pub returns-clause-ends : goal.returns-clause-ends
 returns-clause-ends c =
-    ends_items (units_in c.args.encoding) (chars c.args.self.now) (plain (chars c.args.self.now))
-    (map content_change c.args.changes.now) c.in_ok-draft.ends.items
-    (rw plain_text c.in_ok-draft.ensures.ends)
+    drafted_ends _ _ _ _ _ _ _ (drop_all c.loop-number.number c.args.changes.now c.loop-number-test.false)
+    c.loop-number.invariant

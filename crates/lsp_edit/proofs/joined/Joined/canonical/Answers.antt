@@ -1,5 +1,5 @@
-use Rattle.lsp_edit.proofs.Prelude.{ap, ◌∙◌, JoinedData, parts_of}
-use Rattle.lsp_edit.proofs.Deltas.LayerLemmas.{folded_next, folded_order, folded_start, folded_through, rows_rest}
+use Rattle.lsp_edit.proofs.Prelude.{refl, rest_is, layer_parts, ap, ◌∙◌, JoinedData, parts_of}
+use Rattle.lsp_edit.proofs.Deltas.LayerLemmas.{folded_next, folded_order, folded_start, folded_through}
 use Rattle.lsp_edit.proofs.Canonical.GapLemmas.{ends_exact}
 use Rattle.lsp_edit.proofs.joined.Joined.canonical.Goals as goal
 
@@ -12,8 +12,8 @@ loop-layer-init c =
 
 pub spans_through-requires : goal.spans_through-requires
 spans_through-requires c =
-    let folded = rw (rows_rest c.deref-layer-items.result.now c.loop-layer.layer-index c.layer-item.result
-    c.loop-layer-test.true) at c.loop-layer.invariant in record {
+    let folded = rw (rest_is layer_parts c.deref-layer-items.result.now c.loop-layer.layer-index c.layer-item.result
+    _ c.loop-layer-test.true refl) at c.loop-layer.invariant in record {
       through = rw (c.deref.ensures.value, c.deref-in-loop-layer.ensures.value, c.in_ok-next.ensures, c.layer-item.is)
           (folded_through c.args.self.now.before (parts_of c.loop-layer.spans.items) _ _ c.args.self.now.items folded);
       order = rw (c.deref-in-loop-layer.ensures.value, c.in_ok-next.ensures, c.layer-item.is)
@@ -23,8 +23,8 @@ spans_through-requires c =
 pub loop-layer-preserved : goal.loop-layer-preserved
 loop-layer-preserved c =
     folded_next c.args.self.now.before (parts_of c.loop-layer.spans.items) _ _ c.args.self.now.items
-    (rw (rows_rest c.deref-layer-items.result.now c.loop-layer.layer-index c.layer-item.result
-    c.loop-layer-test.true) at c.loop-layer.invariant)
+    (rw (rest_is layer_parts c.deref-layer-items.result.now c.loop-layer.layer-index c.layer-item.result
+    _ c.loop-layer-test.true refl) at c.loop-layer.invariant)
     _
     (rw (c.deref.ensures.value, c.deref-in-loop-layer.ensures.value, c.in_ok-next.ensures, c.layer-item.is) at
     c.in_ok-spans-2.ensures)

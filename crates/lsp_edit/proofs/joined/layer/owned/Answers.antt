@@ -1,6 +1,5 @@
-use Rattle.lsp_edit.proofs.Prelude.{◌++◌, List, ap, subst, string_bytes, IsUtf8-string_bytes, owned_parts, AreSameItems, Part, OldPart, NewPart, new_parts, part_of, parts_of}
+use Rattle.lsp_edit.proofs.Prelude.{rest_is, rest_none, ◌++◌, List, ap, subst, string_bytes, IsUtf8-string_bytes, owned_parts, AreSameItems, Part, OldPart, NewPart, new_parts, part_of, parts_of}
 use Rattle.lsp_edit.proofs.Deltas.OwnedLemmas.{same_ends, same_new, same_old_on}
-use Rattle.lsp_edit.proofs.Canonical.WalkLemmas.{rest_is, rest_none}
 use Rattle.lsp_edit.proofs.joined.layer.owned.Goals.{in-Old+in_ok-push_new-in-Old+in_ok-push-in-Old, in-New+in_ok-push_str-in-New}
 use Rattle.lsp_edit.proofs.joined.layer.owned.Goals as goal
 
@@ -17,7 +16,7 @@ loop-span-preserved c =
           )
           (same_old_on (parts_of c.args.spans.now) c.loop-span.owned.items _ (string_bytes c.loop-span.text) _
           w.in-Old.from w.in-Old.to _ _ c.loop-span.invariant
-          (rest_is c.args.spans.now c.loop-span.span-index _ (OldPart w.in-Old.from w.in-Old.to) c.loop-span-test.true
+          (rest_is part_of c.args.spans.now c.loop-span.span-index _ (OldPart w.in-Old.from w.in-Old.to) c.loop-span-test.true
           (ap part_of w.in-Old.is))
           w.in_ok-push_new-in-Old.ensures
           (ap string_bytes w.replace-filled.ensures.value))
@@ -27,7 +26,7 @@ loop-span-preserved c =
           w.in-New.new.now _ (IsUtf8-string_bytes c.loop-span.text)
           (subst (λ (ps : List Part). AreSameItems (owned_parts c.loop-span.owned.items
           ++ (new_parts (string_bytes c.loop-span.text) ++ ps)) (parts_of c.args.spans.now))
-          (rest_is c.args.spans.now c.loop-span.span-index _ (NewPart w.in-New.new.now) c.loop-span-test.true
+          (rest_is part_of c.args.spans.now c.loop-span.span-index _ (NewPart w.in-New.new.now) c.loop-span-test.true
           (ap part_of w.in-New.is))
           c.loop-span.invariant))
     ]
@@ -38,5 +37,5 @@ returns c =
     (same_ends (parts_of c.args.spans.now) (owned_parts c.loop-span.owned.items) (string_bytes c.loop-span.text)
     (subst (λ (ps : List Part). AreSameItems (owned_parts c.loop-span.owned.items
     ++ (new_parts (string_bytes c.loop-span.text) ++ ps)) (parts_of c.args.spans.now))
-    (rest_none c.args.spans.now c.loop-span.span-index c.loop-span-test.false)
+    (rest_none part_of c.args.spans.now c.loop-span.span-index c.loop-span-test.false)
     c.loop-span.invariant))

@@ -1,5 +1,5 @@
 use Rattle.lsp_edit.proofs.Prelude.{ℕ, ◌≡◌, ◌<◌, List, length, Ok, ap, ◌∙◌, subst, arith, meaning, parts_of}
-use Rattle.lsp_edit.proofs.Batches.ComposeLemmas.{then_means, then_associative}
+use Rattle.lsp_edit.proofs.Batches.ComposeLemmas.{then_associative}
 use Rattle.lsp_edit.proofs.Composing.ThenLemmas.{over_seen, over_through, over_order, then_holds, then_told}
 use Rattle.lsp_edit.proofs.Composing.SpannedLemmas.{same_edited}
 use Rattle.lsp_edit.proofs.pieces.Pieces.then.Goals as goal
@@ -33,20 +33,9 @@ returns-clause-composed c =
     (then_told _ _ _ _ _ _ _ _ both c.new.result made small _ c.saturating_add.ensures c.args.first.now.edited
     c.args.second.now.edited (same_edited c.first.view_is) (same_edited c.second.view_is))
 
-pub returns-clause-means : goal.returns-clause-means
-returns-clause-means c units batch next one two =
-    then_means units c.args.first.now.edited.before batch next c.args.first.now.edited.items
-    c.args.second.now.edited.items one
-    (subst (λ (text : List ℕ). meaning units text next ≡ Ok c.args.second.now.edited.items) c.requires two)
-
 pub returns-clause-associative : goal.returns-clause-associative
-returns-clause-associative c third = then_associative c.args.first.now.edited.items c.args.second.now.edited.items third
-
-pub returns-in_err-spans-clause-means : goal.returns-in_err-spans-clause-means
-returns-in_err-spans-clause-means c units batch next one two =
-    then_means units c.args.first.now.edited.before batch next c.args.first.now.edited.items
-    c.args.second.now.edited.items one
-    (subst (λ (text : List ℕ). meaning units text next ≡ Ok c.args.second.now.edited.items) c.requires two)
+returns-clause-associative c third =
+    then_associative c.args.first.now.edited.items c.args.second.now.edited.items third
 
 pub returns-in_err-spans-clause-associative : goal.returns-in_err-spans-clause-associative
 returns-in_err-spans-clause-associative c third =

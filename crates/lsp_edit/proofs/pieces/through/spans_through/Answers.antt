@@ -1,7 +1,6 @@
-use Rattle.lsp_edit.proofs.Prelude.{◌≡◌, ◌-◌, length, take, drop, ap, arith, drop-drop, length-drop, OldPart, NewPart, parts_of, part_of}
+use Rattle.lsp_edit.proofs.Prelude.{rest_is, ◌≡◌, ◌-◌, length, take, drop, ap, arith, drop-drop, length-drop, OldPart, NewPart, parts_of, part_of}
 use Rattle.lsp_edit.proofs.Parts.PassedLemmas.{walk_new, walk_old}
 use Rattle.lsp_edit.proofs.Parts.PassingLemmas.{rest_all}
-use Rattle.lsp_edit.proofs.Canonical.WalkLemmas.{rest_is}
 use Rattle.lsp_edit.proofs.pieces.through.spans_through.Goals.{in-Old+in_ok-count-in-Old, in-New+in_ok-put-in-New}
 use Rattle.lsp_edit.proofs.pieces.through.spans_through.Goals as goal
 
@@ -19,7 +18,7 @@ loop-span-preserved c =
             rw (← drop-drop w.in_ok-count-in-Old.count c.loop-span.begun c.args.first.now)
                 (walk_old (parts_of c.args.first.now) (parts_of c.args.second.now) _ _ _ _ c.loop-span.invariant.1
                 w.in-Old.from w.in-Old.to _
-                (rest_is c.args.second.now c.loop-span.span-index _ (OldPart w.in-Old.from w.in-Old.to)
+                (rest_is part_of c.args.second.now c.loop-span.span-index _ (OldPart w.in-Old.from w.in-Old.to)
                 c.loop-span-test.true (ap part_of w.in-Old.is))
                 _ _ _ made passed),
           )
@@ -28,7 +27,7 @@ loop-span-preserved c =
             c.loop-span.invariant.0,
             walk_new (parts_of c.args.first.now) (parts_of c.args.second.now) _ _ _ _ c.loop-span.invariant.1
                 w.in-New.field-0.now _
-                (rest_is c.args.second.now c.loop-span.span-index _ (NewPart w.in-New.field-0.now) c.loop-span-test.true
+                (rest_is part_of c.args.second.now c.loop-span.span-index _ (NewPart w.in-New.field-0.now) c.loop-span-test.true
                 (ap part_of w.in-New.is)),
           )
     ]

@@ -1,5 +1,5 @@
 use Rattle.lsp_edit.proofs.Prelude.{ℕ, ◌≡◌, Ok, ap, ap₂, sym, subst, ◌∙◌, List, Item, meaning, then_items, ArePlain, items_in_order}
-use Rattle.lsp_edit.proofs.Batches.ComposeLemmas.{then_means, then_associative}
+use Rattle.lsp_edit.proofs.Batches.ComposeLemmas.{then_associative}
 use Rattle.lsp_edit.proofs.Batches.PlainLemmas.{over_plain, then_plain}
 use Rattle.lsp_edit.proofs.plain.Plain.then.Goals as goal
 
@@ -12,26 +12,13 @@ invariant_of-result c =
     (c.in_ok-items.ensures ∙ ap₂ (λ (x y : List Item). then_items x y) (ap items_in_order c.deref.ensures.value)
     (ap items_in_order c.deref-2.ensures.value)))
 
-pub returns-clause-means : goal.returns-clause-means
-returns-clause-means c units batch next one two =
-    then_means units c.args.self.now.before batch next c.args.self.now.items c.args.second.now.items one
-    (subst (λ (text : List ℕ). meaning units text next ≡ Ok c.args.second.now.items) c.requires two)
-
 pub returns-clause-associative : goal.returns-clause-associative
-returns-clause-associative c third = then_associative c.args.self.now.items c.args.second.now.items third
-
-pub returns-in_err-items-clause-means : goal.returns-in_err-items-clause-means
-returns-in_err-items-clause-means c units batch next one two =
-    then_means units c.args.self.now.before batch next c.args.self.now.items c.args.second.now.items one
-    (subst (λ (text : List ℕ). meaning units text next ≡ Ok c.args.second.now.items) c.requires two)
+returns-clause-associative c third =
+    then_associative c.args.self.now.items c.args.second.now.items third
 
 pub returns-in_err-items-clause-associative : goal.returns-in_err-items-clause-associative
-returns-in_err-items-clause-associative c third = then_associative c.args.self.now.items c.args.second.now.items third
-
-pub returns-in_err-characters-clause-means : goal.returns-in_err-characters-clause-means
-returns-in_err-characters-clause-means c units batch next one two =
-    then_means units c.args.self.now.before batch next c.args.self.now.items c.args.second.now.items one
-    (subst (λ (text : List ℕ). meaning units text next ≡ Ok c.args.second.now.items) c.requires two)
+returns-in_err-items-clause-associative c third =
+    then_associative c.args.self.now.items c.args.second.now.items third
 
 pub returns-in_err-characters-clause-associative : goal.returns-in_err-characters-clause-associative
 returns-in_err-characters-clause-associative c third =

@@ -1,5 +1,5 @@
-use Rattle.lsp_edit.proofs.Prelude.{ℕ, List, ◌+◌, ◌++◌, length, map, ap, ap₂, ◌∙◌, arith, reverse, chars, units_in, Old, New, item_of, items_in_order, gap_at, change_at, content_change}
-use Rattle.lsp_edit.proofs.Batches.PlainLemmas.{write_begins, write_new, write_old, write_end, item_rest, item_none}
+use Rattle.lsp_edit.proofs.Prelude.{rest_is, rest_none, ℕ, List, ◌+◌, ◌++◌, length, map, ap, ap₂, ◌∙◌, arith, reverse, chars, units_in, Old, New, item_of, items_in_order, gap_at, change_at, content_change}
+use Rattle.lsp_edit.proofs.Batches.PlainLemmas.{write_begins, write_new, write_old, write_end}
 use Rattle.lsp_edit.proofs.Canonical.WalkLemmas.{walk_turned}
 use Rattle.lsp_edit.proofs.plain.items.gaps_written.Goals.{in-Old+in_ok-put_gap-in-Old, in-New+in_ok-push-in-New}
 use Rattle.lsp_edit.proofs.plain.items.gaps_written.Goals as goal
@@ -24,14 +24,14 @@ loop-item-preserved c =
           )
           (write_old (units_in c.args.encoding) (chars c.args.before.now) _ _ _ _ _ c.loop-item.invariant w.in-Old.high
           _
-          (item_rest c.args.items.now c.loop-item.item-index _ (Old w.in-Old.high) c.loop-item-test.true
+          (rest_is item_of c.args.items.now c.loop-item.item-index _ (Old w.in-Old.high) c.loop-item-test.true
           (ap item_of w.in-Old.is))
           (w.in-Old.high + 1) (omega arith))
       | in-New+in_ok-push-in-New w ↦
           rw (w.changes-is, w.low-is, w.text-is, w.in_ok-push-in-New.ensures.items)
           (write_new (units_in c.args.encoding) (chars c.args.before.now) _ _ _ _ _ c.loop-item.invariant
           w.in-New.character _
-          (item_rest c.args.items.now c.loop-item.item-index _ (New w.in-New.character) c.loop-item-test.true
+          (rest_is item_of c.args.items.now c.loop-item.item-index _ (New w.in-New.character) c.loop-item-test.true
           (ap item_of w.in-New.is)))
     ]
 
@@ -44,4 +44,4 @@ returns c =
     (units_in c.args.encoding)
     (chars c.args.before.now) (gap_at c.loop-item.low n text)) (ap length c.requires.old) c.deref-2.ensures.value
     ∙ write_end (units_in c.args.encoding) (chars c.args.before.now) _ _ _ _ _ c.loop-item.invariant
-    (item_none c.args.items.now c.loop-item.item-index c.loop-item-test.false))))
+    (rest_none item_of c.args.items.now c.loop-item.item-index c.loop-item-test.false))))

@@ -1,5 +1,6 @@
-use Rattle.lsp_edit.proofs.Prelude.{ℕ, List, ◌≡◌, ◌<◌, ◌≤◌, ◌⊎◌, ◌==◌, false, length, take, inl, inr, sym, ap, ◌∙◌, refl, arith, encode_utf8_all, ⊎_elim, chars, cases_lt, eqb-false, units_in, HasExactEnds, gap_at, common_steps}
-use Rattle.lsp_edit.proofs.Batches.PlainLemmas.{gap_some, gap_one, end_place}
+use Rattle.lsp_edit.proofs.Prelude.{ℕ, List, ◌≡◌, ◌<◌, ◌≤◌, ◌⊎◌, ◌==◌, false, length, take, inl, inr, sym, ap, ◌∙◌, refl, arith, encode_utf8_all, ⊎_elim, chars, cases_lt, eqb-false, units_in, chars_from_encodes, IsUtf8-string_bytes, HasExactEnds, gap_at, common_steps}
+use Rattle.lsp_edit.proofs.Batches.PlainLemmas.{end_place}
+use Rattle.lsp_edit.proofs.Canonical.WalkLemmas.{gap_one, gap_some}
 use Rattle.lsp_edit.proofs.plain.items.put_gap.Goals.{then-low-high-via-then-low-high, then-low-high-via-else-low-high+then-not-is_empty}
 use Rattle.lsp_edit.proofs.plain.items.put_gap.Goals as goal
 
@@ -18,8 +19,7 @@ position-stop-requires-clause-place c =
       | then-low-high-via-else-low-high+then-not-is_empty w ↦ inr (some_left c.args.text.now w.if-not-is_empty.ensures)
     ] in
     let ends : HasExactEnds (chars c.args.before.now) (gap_at c.args.low c.args.high c.args.text.now) =
-    c.requires.ends (gap_some (units_in c.args.encoding) (chars c.args.before.now) c.args.low c.args.high
-    c.args.text.now changed) in
+    c.requires.ends (gap_some c.args.low c.args.high c.args.text.now changed) in
     end_place (chars c.args.before.now) c.args.high c.in_ok-place_of-2.field-0 (omega (arith, ends.within))
     ends.high_whole (c.in_ok-place_of-2.ensures ∙ ap (λ (cs : List ℕ). length (encode_utf8_all (take c.args.high cs)))
     c.requires.old)
@@ -32,11 +32,11 @@ returns-in_ok-push c =
       | then-low-high-via-else-low-high+then-not-is_empty w ↦ inr (some_left c.args.text.now w.if-not-is_empty.ensures)
     ] in
     let ends : HasExactEnds (chars c.args.before.now) (gap_at c.args.low c.args.high c.args.text.now) =
-    c.requires.ends (gap_some (units_in c.args.encoding) (chars c.args.before.now) c.args.low c.args.high
-    c.args.text.now changed) in
+    c.requires.ends (gap_some c.args.low c.args.high c.args.text.now changed) in
     rw c.in_ok-push.ensures.items
     (gap_one (units_in c.args.encoding) (chars c.args.before.now) c.args.low c.args.high c.args.text.now _ _
-    c.position-start.result c.position-stop.result changed refl c.in_ok-text.ensures
+    c.position-start.result c.position-stop.result (gap_some c.args.low c.args.high c.args.text.now changed) refl
+    (sym (chars_from_encodes _ _ (IsUtf8-string_bytes c.in_ok-text.text) (sym c.in_ok-text.ensures)))
     (grind (
       arith,
       common_steps,
