@@ -21,11 +21,6 @@ pub ending : {E P : Type 0} {old new : Written} {t : Token} → (r : Result (Uni
     → Writes r old new t → OnOk r P
 ending r whole w = on_ok_weaker r (λ e. whole (record { before = w.room.0; tokens = e })) w.ok
 
--- the digits of a whole number
-pub integer_text : (n : ℤ) → number_text (of_integer n) ≡ signed_decimal n
-integer_text (pos n) = refl
-integer_text (negsuc n) = refl
-
 -- the tokens of joined members
 pub joined_tokens : (ms more : Members) → member_tokens (joined ms more) ≡ member_tokens ms ++ member_tokens more
 joined_tokens no_members more = refl
