@@ -1,5 +1,5 @@
 -- The value of each written message: it is not deep, and its text is read back as it.
-use Rattle.lsp_message.proofs.Prelude.{◌≡◌, ℕ, ◌^◌, ◌<◌, ◌≤◌, suc, List, [], ◌∷◌, map, true, Option, Some, None, FitsSigned, IsUtf8, IfSome, All, codes, refl, sym, ap, ◌∙◌, subst, arith, ℤ, IsUtf8-are_ascii, Data, number, string, array, object, no_members, member, depth, items_depth, of_integer, read, max_depth, items_of, Encoding, Utf8, Utf16, Utf32, Position, Range, Offers, SyncKind, Off, Full, Incremental, ErrorCode, ParseError, InvalidRequest, MethodNotFound, InvalidParams, ServerNotInitialized, IdData, whole, text, DocumentItem, ContentChangeData, ChangeData, CloseData, OutgoingData, IsProper, IsProperId, IsProperDocument, IsProperChange, IsProperEdit, IsProperRange, IsProperPosition}
+use Rattle.lsp_message.proofs.Prelude.{◌≡◌, ℕ, ◌^◌, ◌<◌, ◌≤◌, suc, List, [], ◌∷◌, map, true, Option, Some, None, FitsSigned, IsUtf8, IfSome, All, codes, refl, arith, ℤ, IsUtf8-are_ascii, Data, number, string, array, object, no_members, member, depth, items_depth, of_integer, read, max_depth, items_of, Encoding, Utf8, Position, Range, Offers, SyncKind, Off, ErrorCode, ParseError, IdData, whole, text, DocumentItem, ContentChangeData, ChangeData, CloseData, OutgoingData, IsProper, IsProperId, IsProperDocument, IsProperChange, IsProperEdit, IsProperRange, IsProperPosition}
 use Rattle.std.specs.Int.{w32}
 use Rattle.lsp_text.specs.Units.{name_of}
 use Rattle.lsp_message.proofs.Sound.{Sound, SoundItems, sound_null, sound_boolean, sound_string, sound_unsigned, sound_integer, sound_array, sound_object, sound_item, sound_no_items, read-compact_text}

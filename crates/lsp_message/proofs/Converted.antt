@@ -1,5 +1,5 @@
 -- What `converted` does at each outcome.
-use Rattle.lsp_message.proofs.Prelude.{◌≡◌, ◌≤◌, ℕ, List, [], ◌∷◌, ◌++◌, Option, Some, None, ◌⊎◌, inl, inr, Result, Ok, Err, OnOk, OnErr, option_map, option_and_then, refl, sym, ap, ◌∙◌, subst, ⊤, Token, Json, if_last, Data, of_json, converted, none-some, same_Some, tokens, json_tokens, value, value_at, max_depth, read}
+use Rattle.lsp_message.proofs.Prelude.{◌≡◌, ◌≤◌, ℕ, List, [], ◌++◌, Option, Some, None, ◌⊎◌, inl, inr, Result, Ok, Err, OnErr, option_map, option_and_then, refl, sym, ap, ◌∙◌, Token, Json, if_last, Data, of_json, converted, none-some, same_Some, tokens, json_tokens, value, value_at, max_depth, read}
 use Rattle.json.specs.Tree.{depth}
 use Rattle.json.proofs.Printed.Trees.{value-json_tokens}
 

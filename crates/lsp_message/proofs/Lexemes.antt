@@ -1,10 +1,10 @@
 -- The parts of a message with one change of a range, by their bytes.
-use Rattle.lsp_message.proofs.Prelude.{◌≡◌, ℕ, List, [], ◌∷◌, ◌++◌, take, drop, length, get_or, true, false, Option, Some, None, ◌≤◌, ◌<◌, max, refl, sym, ap, ap₂, ◌∙◌, subst, arith, codes, ◌==◌, ◌⊎◌, inl, inr, get_or-take, length-take-le, take-append-drop, drop-cons, suc, or_cases, eqb-true, ◌||◌, Bool, not, option_map, option_and_then, append_assoc, ends_word, is_stop, IsNumber, escape, Data, Members, number, string, array, object, no_members, no_items, item, put, unsigned, number_of, of_json, of_members, read, tokens, json_tokens, members_tokens, Range, content_change_in, member_at, natural_in, range_of, IsTaken, IsValueAt, IsLengthAt, common_steps}
+use Rattle.lsp_message.proofs.Prelude.{◌≡◌, ℕ, List, [], ◌∷◌, ◌++◌, take, drop, length, get_or, true, false, Option, Some, None, ◌≤◌, ◌<◌, max, refl, sym, ap, ap₂, ◌∙◌, subst, arith, codes, ◌==◌, ◌⊎◌, inl, inr, get_or-take, length-take-le, take-append-drop, drop-cons, suc, or_cases, eqb-true, ◌||◌, not, option_map, option_and_then, append_assoc, ends_word, is_stop, IsNumber, escape, Data, Members, number, string, array, object, no_members, no_items, item, put, unsigned, number_of, of_members, read, tokens, json_tokens, members_tokens, Range, content_change_in, member_at, natural_in, range_of, IsTaken, IsValueAt, IsLengthAt, common_steps}
 use Rattle.json.specs.Json as json
 use Rattle.json.specs.Text.{content}
 use Rattle.json.specs.Token as kind
 use Rattle.json.specs.Tree.{members_depth}
-use Rattle.json.specs.Lex.{Lexeme, token, comma, colon, lex, between, punctuate, fresh, after_value, begins_colon}
+use Rattle.json.specs.Lex.{token, comma, colon, lex, between, punctuate, fresh, after_value, begins_colon}
 use Rattle.json.proofs.Printed.Strings.{content-escape, lex-escape}
 use Rattle.json.proofs.Printed.Numbers.{lex-number}
 use Rattle.json.proofs.Printed.Plain.{escape_on_plain}

@@ -1,5 +1,5 @@
 -- What a value is read as, one member of it after another: the reading of `message_of`.
-use Rattle.lsp_message.proofs.Prelude.{◌≡◌, ℕ, Bool, true, false, List, Option, Some, None, option_map, option_and_then, codes, refl, if◌then◌else◌, option_map_or, Data, null, boolean, number, string, array, object, Members, get, as_object, as_str, is_missing, IdData, text, OutcomeData, given, failed, MessageData, request, response, Reading, not_a_message, message, id_in, id_found, is_version_two, message_by, message_of, outcome_of, reading_with, reading_by, reading_of_members}
+use Rattle.lsp_message.proofs.Prelude.{◌≡◌, ℕ, Bool, true, false, List, Option, Some, None, option_map, option_and_then, codes, refl, if◌then◌else◌, option_map_or, Data, null, number, string, object, Members, get, as_object, as_str, is_missing, IdData, text, OutcomeData, given, failed, MessageData, request, response, Reading, not_a_message, message, id_in, id_found, is_version_two, message_by, message_of, outcome_of, reading_with, reading_by, reading_of_members}
 
 -- a message, or an object that is none and has this id
 abbrev pub read_as : Option MessageData → Option IdData → Reading

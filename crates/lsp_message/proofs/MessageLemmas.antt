@@ -1,6 +1,5 @@
 -- The rows of the table of messages, over the six members that make an object a message.
-use Rattle.lsp_message.proofs.Prelude.{◌≡◌, ℕ, Bool, true, false, false_from_ne_true, List, Option, Some, None, option_map, codes, refl, ap, ◌∙◌, ℤ, bytes_eq-Decides, Data, null, boolean, number, string, array, object, as_str, as_i64, text_in, IdData, whole, text, request, message, id_in, id_found, is_version_two, call_of, outcome_of, answer_of, NamesRequest, RefusedRows, MessageRows, IsIdOf, IdLaw, version_of, method_of, id_of, params_of, error_of, result_of}
-use Rattle.std.specs.Str.{bytes_eq}
+use Rattle.lsp_message.proofs.Prelude.{◌≡◌, ℕ, false, false_from_ne_true, List, Option, Some, None, option_map, codes, refl, ap, ◌∙◌, ℤ, bytes_eq-Decides, Data, number, string, as_str, as_i64, text_in, IdData, whole, text, request, message, id_in, id_found, is_version_two, call_of, outcome_of, answer_of, NamesRequest, RefusedRows, MessageRows, IsIdOf, IdLaw, version_of, method_of, id_of, params_of, error_of, result_of}
 use Rattle.lsp_message.proofs.MemberLemmas.{message_of_object, message_of_other}
 
 -- ---- the members

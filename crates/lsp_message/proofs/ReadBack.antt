@@ -1,5 +1,5 @@
 -- What is written is read as the same message, and no two messages have one text.
-use Rattle.lsp_message.proofs.Prelude.{◌≡◌, ℕ, ◌^◌, ◌<◌, suc, pos, negsuc, List, [], ◌∷◌, map, Bool, true, false, Option, Some, None, option_map, option_and_then, FitsSigned, IfSome, All, bytes_eq, codes, refl, sym, ap, ◌∙◌, arith, lt-ltb, ℤ, if◌then◌else◌, Data, number, get, of_integer, as_i64, read, items_of, Encoding, Utf8, Utf16, Utf32, Position, Range, Offers, SyncKind, Off, Full, Incremental, ErrorCode, ParseError, InvalidRequest, MethodNotFound, InvalidParams, ServerNotInitialized, text_in, is_null, offers_of, announced_of, IdData, whole, text, message_of, message, reading, id_in, id_found, DocumentItem, ContentChangeData, ChangeData, open_of, change_of, close_of, version_from, version_in, position_in, range_in, content_change_in, content_changes_in, OutgoingData, sent, IsReadBack, IsProper, IsProperId, IsProperDocument, IsProperChange, IsProperEdit, IsProperRange, IsProperPosition, common_steps}
+use Rattle.lsp_message.proofs.Prelude.{◌≡◌, ℕ, ◌^◌, ◌<◌, suc, pos, negsuc, List, [], ◌∷◌, map, Bool, true, false, Option, Some, None, option_map, option_and_then, FitsSigned, IfSome, All, bytes_eq, codes, refl, sym, ap, ◌∙◌, arith, lt-ltb, ℤ, if◌then◌else◌, Data, number, get, of_integer, as_i64, read, items_of, Encoding, Utf8, Utf16, Utf32, Position, Range, Offers, SyncKind, Off, ErrorCode, ParseError, InvalidRequest, MethodNotFound, InvalidParams, ServerNotInitialized, text_in, is_null, offers_of, announced_of, IdData, whole, message_of, message, reading, id_in, id_found, DocumentItem, ContentChangeData, ChangeData, open_of, change_of, close_of, version_from, version_in, position_in, range_in, content_change_in, content_changes_in, OutgoingData, sent, IsReadBack, IsProper, IsProperId, IsProperDocument, IsProperChange, IsProperEdit, IsProperRange, IsProperPosition, common_steps}
 use Rattle.std.specs.Int.{w32, w64}
 use Rattle.std.proofs.lemmas.Bool.Decides.{nat_tests}
 use Rattle.std.proofs.lemmas.Option.{same_Some}

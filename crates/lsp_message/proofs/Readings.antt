@@ -1,5 +1,5 @@
 -- A body against the value that its bytes are.
-use Rattle.lsp_message.proofs.Prelude.{◌≡◌, ◌≢◌, ℕ, [], ◌∷◌, slice_index, ◌<◌, Bool, true, false, List, length, Some, None, Result, Ok, Err, IfOk, IfErr, IsErrAnd, MatchResult, IsUtf8, refl, sym, subst, ◌∙◌, arith, is_utf8, IsUtf8-from_is_utf8, is_utf8-from_IsUtf8, Data, read, view, Value, MessageData, Reading, message_of, not_json, message, reading, message_view, IsReadFault, IsFaultOfError, common_steps}
+use Rattle.lsp_message.proofs.Prelude.{◌≡◌, ◌≢◌, ℕ, [], ◌∷◌, slice_index, ◌<◌, Bool, true, false, List, length, Some, None, Result, Ok, Err, IfOk, IfErr, IsUtf8, refl, sym, subst, ◌∙◌, arith, is_utf8, IsUtf8-from_is_utf8, is_utf8-from_IsUtf8, Data, read, MessageData, Reading, message_of, not_json, message, reading, message_view, IsReadFault, IsFaultOfError, common_steps}
 use Rattle.json.specs.Json.{value}
 use Rattle.json.specs.Lex.{punctuate, lex}
 use Rattle.json.specs.Word.{word, after_number}

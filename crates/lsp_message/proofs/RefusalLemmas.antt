@@ -1,5 +1,5 @@
 -- What an id that was told, or none, says of the object; and what is looked at.
-use Rattle.lsp_message.proofs.Prelude.{◌≡◌, ℕ, Bool, true, false, List, Option, Some, None, option_map, option_and_then, refl, sym, ◌∙◌, if◌then◌else◌, Data, null, boolean, number, string, array, object, IdData, OutcomeData, MessageData, request, notification, response, not_a_message, message, id_in, id_found, outcome_in, is_version_two, message_by, message_in, NotificationLaw, RefusalLaw, NamedLaw, version_of, method_of, id_of}
+use Rattle.lsp_message.proofs.Prelude.{◌≡◌, ℕ, Bool, true, false, List, Option, Some, None, option_map, option_and_then, refl, sym, ◌∙◌, if◌then◌else◌, Data, null, number, string, object, IdData, OutcomeData, MessageData, request, notification, response, not_a_message, message, id_in, id_found, outcome_in, is_version_two, message_by, message_in, NotificationLaw, RefusalLaw, NamedLaw, version_of, method_of, id_of}
 use Rattle.lsp_message.proofs.MemberLemmas.{read_as, message_of_object}
 
 -- ---- no notification

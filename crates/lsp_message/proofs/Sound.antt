@@ -6,7 +6,6 @@ use Rattle.json.proofs.Printed.Tokens.{tokens-print}
 use Rattle.json.proofs.Printed.Trees.{ArePrintable-json_tokens}
 use Rattle.lsp_message.proofs.Converted.{read_json}
 use Rattle.serde_json.proofs.Numbers.{number_of-decimal, number_of-negative}
-use Rattle.json.specs.Json as json
 use Rattle.json.specs.Tree as tree
 
 pub record Sound (d : Data) : Type 0 where

@@ -1,5 +1,5 @@
 -- Tokens that are written one after another.
-use Rattle.lsp_message.proofs.Prelude.{◌≡◌, ℤ, pos, negsuc, List, [], ◌∷◌, ◌++◌, map, refl, sym, ap, ◌∙◌, append_assoc, on_ok_weaker, signed_decimal, flat_map, Result, Ok, OnOk, Token, items_tokens, members_tokens, Data, Members, no_members, member, of_integer, items_of, number_text, items_outline, members_outline, Appends, joined, member_tokens, tokens_of}
+use Rattle.lsp_message.proofs.Prelude.{◌≡◌, List, [], ◌∷◌, ◌++◌, map, refl, sym, ap, ◌∙◌, append_assoc, on_ok_weaker, flat_map, Result, Ok, OnOk, Token, items_tokens, members_tokens, Data, Members, no_members, member, items_of, items_outline, members_outline, Appends, joined, member_tokens, tokens_of}
 use Rattle.json.specs.Written.{Written, Writes}
 use Rattle.json.specs.Token as token
 

@@ -1,4 +1,4 @@
-use Rattle.lsp_message.proofs.Prelude.{◌≡◌, ◌-◌, ◌<◌, ◌∷◌, ◌++◌, [], length, map, map-append, option_map, Some, None, sym, ap, ◌∙◌, arith, after_end_array, content_change_in, content_change_view, items_at}
+use Rattle.lsp_message.proofs.Prelude.{◌≡◌, ◌-◌, ◌<◌, ◌∷◌, ◌++◌, [], length, map, map-append, option_map, Some, None, sym, ap, ◌∙◌, arith, after_end_array, content_change_in, content_change_view}
 use Rattle.lsp_message.proofs.Grammar.{items_at-more, items_at-refused, items_at-end}
 use Rattle.lsp_message.proofs.Growing.{grows_first, grows_change, grows_none, grows_end}
 use Rattle.lsp_message.proofs.reader.changes.read_items.Goals as goal
