@@ -1,6 +1,6 @@
 -- `value_at`, `items_at` and `members_at`, a token or a turn at a time.
-use Rattle.lsp_message.proofs.Prelude.{◌≡◌, ℕ, zero, suc, ◌-◌, ◌<◌, ◌≤◌, List, [], ◌∷◌, length, inl, inr, Bool, Option, Some, None, option_map, option_and_then, refl, sym, ap, ◌∙◌, arith, Token, Json, parse_map, after_end_array, read_key, value, value_is, value-begin_array, value-begin_object, items_more, items_fail, items_end, members_more, members_fail, members_no_key, members_end, Num, Data, null, boolean, number, string, array, object, Items, no_items, item, Members, no_members, put, number_of, of_json, of_items, of_members, converted, value_at, items_at, members_at, kept_number, common_steps}
-use Rattle.lsp_message.proofs.Converted.{Failure, source, failure, no_some, some_value}
+use Rattle.lsp_message.proofs.Prelude.{◌≡◌, ℕ, zero, suc, ◌-◌, ◌<◌, ◌≤◌, List, [], ◌∷◌, length, inl, inr, Bool, Option, Some, None, option_map, option_and_then, refl, sym, ap, ◌∙◌, arith, Token, Json, parse_map, after_end_array, read_key, value, value_is, value-begin_array, value-begin_object, items_more, items_fail, items_end, members_more, members_fail, members_no_key, members_end, Num, Data, null, boolean, number, string, array, object, Items, no_items, item, Members, no_members, put, number_of, of_json, of_items, of_members, converted, value_at, items_at, members_at, kept_number, none-some, same_Some, common_steps}
+use Rattle.lsp_message.proofs.Converted.{Failure, source, failure}
 use Rattle.json.specs.Json as json
 
 -- ---- no turn is left
@@ -36,8 +36,8 @@ number_read depth s ts o is = grind (arith, common_steps, value_is)
 number_at : (depth : ℕ) (s : List ℕ) (ts : List Token) (f : Data) (o : Option Num) → number_of s ≡ o
     → Some f ≡ option_map kept_number o
     → (n : Num) × (value_at depth (Token.number s ∷ ts) ≡ Some (number n, ts)) × (f ≡ kept_number n)
-number_at depth s ts f None is kind = no_some f (sym kind)
-number_at depth s ts f (Some n) is kind = (n, number_read depth s ts (Some n) is, some_value f (kept_number n) kind)
+number_at depth s ts f None is kind = absurd (none-some _ (sym kind))
+number_at depth s ts f (Some n) is kind = (n, number_read depth s ts (Some n) is, same_Some _ _ kind)
 
 pub value_at-number : (depth : ℕ) (s : List ℕ) (ts : List Token) (f : Data)
     → Some f ≡ option_map kept_number (number_of s)
@@ -47,7 +47,7 @@ value_at-number depth s ts f kind = number_at depth s ts f (number_of s) refl ki
 no_number : (depth : ℕ) (s : List ℕ) (ts : List Token) (o : Option Num) → number_of s ≡ o
     → None ≡ option_map kept_number o → value_at depth (Token.number s ∷ ts) ≡ None
 no_number depth s ts None is none = number_read depth s ts None is
-no_number depth s ts (Some n) is none = no_some (kept_number n) none
+no_number depth s ts (Some n) is none = absurd (none-some _ none)
 
 pub value_at-no_number : (depth : ℕ) (s : List ℕ) (ts : List Token) → None ≡ option_map kept_number (number_of s)
     → value_at depth (Token.number s ∷ ts) ≡ None
@@ -99,8 +99,7 @@ item_converted j d (Some p) is = grind (arith, common_steps, option_and_then, it
 item_refused : (j : Json) (r : Option (json.Items × List Token)) → of_json j ≡ None
     → converted of_items (parse_map (json.item j) r) ≡ None
 item_refused j None is = refl
-item_refused j (Some p) is =
-    ap (λ o. option_map (λ x. (x, p.1)) (option_and_then (λ e. option_map (item e) (of_items p.0)) o)) is
+item_refused j (Some p) is = rw is refl
 
 pub items_at-more : (depth n : ℕ) (ts rest : List Token) (d : Data) → 0 < n → after_end_array ts ≡ None
     → value_at depth ts ≡ Some (d, rest) → items_at depth n ts ≡ parse_map (item d) (items_at depth (n - 1) rest)
@@ -134,14 +133,12 @@ into found ms = of_members ms found
 member_converted : (k : List ℕ) (j : Json) (d : Data) (found : Members) (r : Option (json.Members × List Token))
     → of_json j ≡ Some d → converted (into found) (parse_map (json.member k j) r) ≡ converted (into (put k d found)) r
 member_converted k j d found None is = refl
-member_converted k j d found (Some p) is =
-    ap (λ o. option_map (λ x. (x, p.1)) (option_and_then (λ e. of_members p.0 (put k e found)) o)) is
+member_converted k j d found (Some p) is = rw is refl
 
 member_refused : (k : List ℕ) (j : Json) (found : Members) (r : Option (json.Members × List Token)) → of_json j ≡ None
     → converted (into found) (parse_map (json.member k j) r) ≡ None
 member_refused k j found None is = refl
-member_refused k j found (Some p) is =
-    ap (λ o. option_map (λ x. (x, p.1)) (option_and_then (λ e. of_members p.0 (put k e found)) o)) is
+member_refused k j found (Some p) is = rw is refl
 
 pub members_at-more : (depth n : ℕ) (found : Members) (k : List ℕ) (ts s rest : List Token) (d : Data) → 0 < n
     → read_key ts ≡ Some (Some k, s) → value_at depth s ≡ Some (d, rest)

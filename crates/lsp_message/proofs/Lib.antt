@@ -1,14 +1,13 @@
--- Where to begin: `lsp_message::read.ok` is `read_by` of `Readings`. `write.body` is `body_is` of `BodyLemmas`: the
--- bytes are the compact text of the message's value (`Bodies`), which the writers' own proofs put together by `Tokens`.
--- `write.read_back` and `unique` are `is_read_back` and `body_of-unique` of `ReadBack`, over `Sound`: which values
--- are read back as themselves. `message_laws` is in `MessageLemmas`, the rows of the table of messages, and in
--- `RefusalLemmas`. `MemberLemmas` leads from `message_of` to the private contracts of `src/message.rt`.
+-- Where to begin: `lsp_message::read.ok` is over `Readings`. `write.body`, the compact text of the message's value, is
+-- put together by the writers' own proofs, over `Tokens`. `write.read_back` and `unique` are `is_read_back` and
+-- `body_of-unique` of `ReadBack`, over `Sound`: which values are read back as themselves. `message_laws` is in
+-- `MessageLemmas`, the rows of the table of messages, and in `RefusalLemmas`. `MemberLemmas` leads from `message_of` to
+-- the private contracts of `src/message.rt`.
 --
 -- `Incoming::read.ok` has two main ways. By tokens, each object is read a member at a time: `Grammar` says what
 -- one more token or member makes of the value (`members_at-more`), `Openings` what the first token does, `Puts` what
--- a kept member is then, `Kept` why a scalar is enough, and `Messages` what the message is by its members. A
--- keystroke is read by its bytes: `Lexemes` has the tokens of its two layouts, and `keystroke_read` of `Keystrokes`
--- what these mean. `Growing` is for the list of changes, `Digits` for numbers, `Converted` for results.
+-- a kept member is then, and why a scalar is enough. A keystroke is read by its bytes: `Lexemes` says what each
+-- part of its text is read as. `Growing` is for the list of changes, `Digits` for numbers, `Converted` for values.
 mod Prelude
 pub mod Readings
 pub mod Sound
@@ -20,14 +19,10 @@ pub mod MessageLemmas
 pub mod RefusalLemmas
 pub mod Examples
 pub mod Tokens
-pub mod BodyLemmas
 pub mod Converted
 pub mod Grammar
 pub mod Openings
 pub mod Puts
-pub mod Kept
 pub mod Growing
-pub mod Messages
 pub mod Digits
 pub mod Lexemes
-pub mod Keystrokes

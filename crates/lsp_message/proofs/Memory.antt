@@ -3,9 +3,8 @@ use Rattle.lsp_message.proofs.Prelude.{◌≡◌, ◌<◌, ℕ, true, ◌&&◌, 
 
 one_more : (edit : Option ContentChangeData) (edits : Option (List ContentChangeData)) →
     is_some (option_and_then (λ e. option_and_then (λ es. Some (e ∷ es)) edits) edit) ≡ (is_some edit && is_some edits)
-one_more None edits = refl
 one_more (Some e) None = refl
-one_more (Some e) (Some es) = refl
+one_more _ _ = refl
 
 pub edits_there : (values : List Value) → list_all (λ v. is_some (content_change_in (view v))) values
     ≡ is_some (content_changes_in (items_view values))
@@ -15,9 +14,8 @@ edits_there (value ∷ values) = grind (arith, common_steps, (edits_there values
 some_more : (edit : Option ContentChangeData) (edits : Option (List ContentChangeData)) →
     is_some (option_and_then (λ e. option_and_then (λ es. Some (e ∷ es)) edits) edit) ≡ true →
     IsSomeAnd (option_and_then (λ e. option_and_then (λ es. Some (e ∷ es)) edits) edit) (λ es. 0 < length es)
-some_more None edits there = cc
-some_more (Some e) None there = cc
 some_more (Some e) (Some es) there = omega arith
+some_more _ _ there = cc
 
 pub has_edits : (values : List Value) → 0 < length values → is_some (content_changes_in (items_view values)) ≡ true
     → IsSomeAnd (content_changes_in (items_view values)) (λ es. 0 < length es)
@@ -30,7 +28,6 @@ pub has_changes : (uri : Option (List ℕ)) (version : Option ℤ) (edits : Opti
     (λ u. option_and_then
     (λ v. option_and_then (λ es. Some (let c : ChangeData = record { uri = u; version = v; changes = es } in c)) edits)
     version) uri) HasChanges
-has_changes None version edits there known some = cc
-has_changes (Some u) None edits there known some = cc
 has_changes (Some u) (Some v) None there known some = some
 has_changes (Some u) (Some v) (Some es) there known some = some
+has_changes _ _ edits there known some = cc

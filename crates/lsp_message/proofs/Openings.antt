@@ -1,8 +1,7 @@
 -- A value by its first token.
-use Rattle.lsp_message.proofs.Prelude.{◌≡◌, ℕ, zero, suc, ◌-◌, List, ◌∷◌, length, Bool, true, false, Option, Some, None, refl, sym, ap, ◌∙◌, arith, Token, parse_map, token_of, left_some, left-parse_map, value_is, Num, Data, boolean, number, array, object, Items, Members, as_array, as_object, of_json, converted, number_of, is_null, value_at, items_at, rest_of, kept, common_steps}
+use Rattle.lsp_message.proofs.Prelude.{◌≡◌, ℕ, zero, suc, ◌-◌, List, ◌∷◌, length, Bool, true, false, Option, Some, None, refl, sym, ap, ◌∙◌, arith, Token, parse_map, token_of, left_some, left-parse_map, value_is, Num, Data, boolean, number, array, object, Items, Members, as_array, as_object, of_json, converted, number_of, is_null, value_at, items_at, rest_of, kept, none-some, same_Some, common_steps}
 use Rattle.json.specs.declared.token.Token.{Token as Read}
 use Rattle.lsp_message.specs.inside.Objects.{IsArrayOpening}
-use Rattle.lsp_message.proofs.Converted.{no_some, some_value}
 use Rattle.lsp_message.proofs.Grammar.{value_at-null, value_at-boolean, value_at-string, number_read, value_at-shallow_array, value_at-shallow_object, value_at-array, value_at-object}
 use Rattle.json.specs.declared.token.Token.TheVariants as read
 
@@ -10,12 +9,12 @@ use Rattle.json.specs.declared.token.Token.TheVariants as read
 
 pub array_read : (depth : ℕ) (ts rest : List Token) → rest_of (value_at depth (Token.begin_array ∷ ts)) ≡ Some rest
     → (ds : Items) × (value_at depth (Token.begin_array ∷ ts) ≡ Some (array ds, rest))
-array_read zero ts rest e = no_some rest (sym (ap rest_of (value_at-shallow_array 0 ts refl)) ∙ e)
+array_read zero ts rest e = absurd (none-some _ (sym (ap rest_of (value_at-shallow_array 0 ts refl)) ∙ e))
 array_read (suc d) ts rest e = grind (arith, common_steps, value_at-array, left_some, left-parse_map)
 
 pub object_read : (depth : ℕ) (ts rest : List Token) → rest_of (value_at depth (Token.begin_object ∷ ts)) ≡ Some rest
     → (ms : Members) × (value_at depth (Token.begin_object ∷ ts) ≡ Some (object ms, rest))
-object_read zero ts rest e = no_some rest (sym (ap rest_of (value_at-shallow_object 0 ts refl)) ∙ e)
+object_read zero ts rest e = absurd (none-some _ (sym (ap rest_of (value_at-shallow_object 0 ts refl)) ∙ e))
 object_read (suc d) ts rest e = grind (arith, common_steps, value_at-object, left_some, left-parse_map)
 
 -- ---- the value of any other token
@@ -23,19 +22,19 @@ object_read (suc d) ts rest e = grind (arith, common_steps, value_at-object, lef
 -- a token that is a whole value
 one_token : (depth : ℕ) (t : Token) (ts rest : List Token) (d : Data) → value_at depth (t ∷ ts) ≡ Some (d, ts)
     → rest_of (value_at depth (t ∷ ts)) ≡ Some rest → value_at depth (t ∷ ts) ≡ Some (d, rest)
-one_token depth t ts rest d is e = is ∙ ap (λ r. Some (d, r)) (some_value ts rest (sym (ap rest_of is) ∙ e))
+one_token depth t ts rest d is e = is ∙ ap (λ r. Some (d, r)) (same_Some ts rest (sym (ap rest_of is) ∙ e))
 
 number_token : (depth : ℕ) (s : List ℕ) (ts rest : List Token) (o : Option Num) → number_of s ≡ o
     → rest_of (value_at depth (Token.number s ∷ ts)) ≡ Some rest
     → (n : Num) × (value_at depth (Token.number s ∷ ts) ≡ Some (number n, rest))
-number_token depth s ts rest None is e = no_some rest (sym (ap rest_of (number_read depth s ts None is)) ∙ e)
+number_token depth s ts rest None is e = absurd (none-some _ (sym (ap rest_of (number_read depth s ts None is)) ∙ e))
 number_token depth s ts rest (Some n) is e =
     (n, one_token depth (Token.number s) ts rest (number n) (number_read depth s ts (Some n) is) e)
 
 -- a token that begins no value
 no_value : {P : Type 0} (depth : ℕ) (t : Token) (ts rest : List Token) → value_at depth (t ∷ ts) ≡ None
     → rest_of (value_at depth (t ∷ ts)) ≡ Some rest → P
-no_value depth t ts rest none e = no_some rest (sym (ap rest_of none) ∙ e)
+no_value depth t ts rest none e = absurd (none-some _ (sym (ap rest_of none) ∙ e))
 
 -- what a value is not, by a first token that is another
 pub record Begins (t : Read) (d : Data) : Type 0 where

@@ -1,18 +1,21 @@
--- A member that was put in, and the others.
-use Rattle.lsp_message.proofs.Prelude.{◌≡◌, ℕ, List, Bool, true, false, Some, bytes_eq, true≢false, refl, sym, ap, ◌∙◌, if◌then◌else◌, bytes_eq-Decides, Data, Members, put, get_member, get_member-put, get_member-put_other}
+-- A member that was put in, and the others; and why what is kept of a value is enough.
+use Rattle.lsp_message.proofs.Prelude.{◌≡◌, ℕ, List, Some, refl, sym, Data, number, float, Members, put, get_member, get_member-put, get_member-put_other, is_version_two, is_null, kept}
+pub use Rattle.json.proofs.Grammar.{left_some}
 
--- two texts that differ
-pub differs : (k name : List ℕ) → (k ≡ name → ⊥) → bytes_eq k name ≡ false
-differs k name other = by_case (bytes_eq k name) refl where
-  by_case : (same : Bool) → bytes_eq k name ≡ same → same ≡ false
-  by_case true is = absurd (other ((bytes_eq-Decides k name).0 is))
-  by_case false is = refl
+pub get_put_same : (k name : List ℕ) (d : Data) (ms : Members) → k ≡ name → get_member name (put k d ms) ≡ Some d
+get_put_same k name d ms is = rw is (get_member-put name d ms)
 
--- the member of a name, after one was put in
-pub get_put : (k name : List ℕ) (d : Data) (ms : Members) → get_member name (put k d ms)
-    ≡ (if bytes_eq k name then Some d else get_member name ms)
-get_put k name d ms = by_case (bytes_eq k name) refl where
-  by_case : (same : Bool) → bytes_eq k name ≡ same
-      → get_member name (put k d ms) ≡ (if same then Some d else get_member name ms)
-  by_case true is = ap (λ n. get_member n (put k d ms)) (sym ((bytes_eq-Decides k name).0 is)) ∙ get_member-put k d ms
-  by_case false is = get_member-put_other name k d ms (λ e. true≢false (sym ((bytes_eq-Decides k name).1 (sym e)) ∙ is))
+pub get_put_other : (k name : List ℕ) (d : Data) (ms : Members) → (k ≡ name → ⊥)
+    → get_member name (put k d ms) ≡ get_member name ms
+get_put_other k name d ms other = get_member-put_other name k d ms (λ e. other (sym e))
+
+pub kept_two : (d : Data) → is_version_two (Some (kept d)) ≡ is_version_two (Some d)
+kept_two (number (float x)) = refl
+kept_two d = refl
+
+pub kept_null : (d : Data) → is_null (kept d) ≡ is_null d
+kept_null (number (float x)) = refl
+kept_null d = refl
+
+-- what is kept of an object after one more member
+pub ruleset one_more_member = (get_put_same, get_put_other, left_some, kept_two, kept_null)

@@ -1,5 +1,5 @@
 -- A body against the value that its bytes are.
-use Rattle.lsp_message.proofs.Prelude.{◌≡◌, ◌≢◌, ℕ, [], ◌∷◌, slice_index, ◌<◌, Bool, true, false, List, length, Some, None, Result, Ok, Err, IfOk, IfErr, IsErrAnd, MatchResult, IsUtf8, refl, sym, subst, ◌∙◌, arith, is_utf8, IsUtf8-from_is_utf8, is_utf8-from_IsUtf8, Data, read, view, Value, MessageData, Reading, message_of, not_json, message, reading, message_view, IsReadFault, IsFaultOfError, common_steps}
+use Rattle.lsp_message.proofs.Prelude.{◌≡◌, ◌≢◌, ℕ, [], ◌∷◌, slice_index, ◌<◌, Bool, true, false, List, length, Some, None, Result, Ok, Err, IfOk, IfErr, IsUtf8, refl, sym, subst, ◌∙◌, arith, is_utf8, IsUtf8-from_is_utf8, is_utf8-from_IsUtf8, Data, read, MessageData, Reading, message_of, not_json, message, reading, message_view, IsReadFault, IsFaultOfError, common_steps}
 use Rattle.json.specs.Json.{value}
 use Rattle.json.specs.Lex.{punctuate, lex}
 use Rattle.json.specs.Word.{word, after_number}
@@ -30,9 +30,8 @@ ok_by_reading (Err e) body found is h = tt
 pub err_by_reading : (r : Result Message ReadFault) (body : List ℕ) (found : Reading) → reading body ≡ found
     → Answers r found → IfErr r (IsReadFault body)
 err_by_reading (Ok m) body found is h = tt
-err_by_reading (Err NotJson) body found is h = absurd h
 err_by_reading (Err (NotAMessage id)) body found is h = is ∙ h
-err_by_reading (Err NoMemory) body found is h = absurd h
+err_by_reading _ body found is h = absurd h
 
 -- the fault that an error of `serde_json` makes
 pub fault_by_error : (body : List ℕ) (error : Error) (fault : ReadFault) → IsUtf8 body → IsFaultOfError error fault
@@ -41,28 +40,6 @@ pub fault_by_error : (body : List ℕ) (error : Error) (fault : ReadFault) → I
 fault_by_error body error NotJson utf8 is refused memory unmarked = reading_of_none body (λ u. refused is)
 fault_by_error body error (NotAMessage id) utf8 is refused memory unmarked = absurd is
 fault_by_error body error NoMemory utf8 is refused memory unmarked = (memory is, unmarked, utf8)
-
-read_of : (body : List ℕ) (parsed : Result Value Error) (answer : Result Message ReadFault) → IsUtf8 body →
-    IfOk parsed (λ value. read body ≡ Some (view value)) → IfErr parsed (λ error. ¬ IsMemory error → read body ≡ None)
-    → IfErr parsed (λ error. IsMemory error → 0 < length body) →
-    slice_index body 0 ≢ 239 → MatchResult parsed (λ value. Answers answer (message_of (view value)))
-    (λ error. IsErrAnd answer (IsFaultOfError error)) →
-    IfOk answer (λ m. reading body ≡ message (message_view m)) × IfErr answer (IsReadFault body)
-read_of body (Ok value) answer utf8 ok refused memory unmarked h =
-    grind (arith, common_steps, reading_of_value, ok_by_reading, err_by_reading)
-read_of body (Err error) (Ok m) utf8 ok refused memory unmarked h = absurd h
-read_of body (Err error) (Err fault) utf8 ok refused memory unmarked h =
-    (tt, fault_by_error body error fault utf8 h refused memory unmarked)
-
--- What is answered to a body by what `serde_json` makes of its text.
-pub read_by : (text body : List ℕ) (parsed : Result Value Error) (answer : Result Message ReadFault) → text ≡ body →
-    IsUtf8 body → IfOk parsed (λ value. read text ≡ Some (view value)) →
-    IfErr parsed (λ error. ¬ IsMemory error → read text ≡ None)
-    → IfErr parsed (λ error. IsMemory error → 0 < length text) →
-    slice_index body 0 ≢ 239 → MatchResult parsed (λ value. Answers answer (message_of (view value)))
-    (λ error. IsErrAnd answer (IsFaultOfError error)) →
-    IfOk answer (λ m. reading body ≡ message (message_view m)) × IfErr answer (IsReadFault body)
-read_by text body parsed answer same utf8 ok refused memory unmarked h = grind (arith, common_steps, read_of)
 
 utf8_at : (body : List ℕ) (m : MessageData) (b : Bool) → is_utf8 body ≡ b → reading body ≡ message m → IsUtf8 body
 utf8_at body m true valid is = IsUtf8-from_is_utf8 body valid

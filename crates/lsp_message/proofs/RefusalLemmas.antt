@@ -1,5 +1,5 @@
 -- What an id that was told, or none, says of the object; and what is looked at.
-use Rattle.lsp_message.proofs.Prelude.{◌≡◌, ℕ, Bool, true, false, List, Option, Some, None, option_map, option_and_then, refl, sym, ◌∙◌, if◌then◌else◌, Data, null, boolean, number, string, array, object, IdData, OutcomeData, MessageData, request, notification, response, not_a_message, message, id_in, id_found, outcome_in, is_version_two, message_by, message_in, NotificationLaw, RefusalLaw, NamedLaw, version_of, method_of, id_of}
+use Rattle.lsp_message.proofs.Prelude.{◌≡◌, ℕ, Bool, true, false, List, Option, Some, None, option_map, option_and_then, refl, sym, ◌∙◌, if◌then◌else◌, Data, null, number, string, object, IdData, OutcomeData, MessageData, request, notification, response, not_a_message, message, id_in, id_found, outcome_in, is_version_two, message_by, message_in, NotificationLaw, RefusalLaw, NamedLaw, version_of, method_of, id_of}
 use Rattle.lsp_message.proofs.MemberLemmas.{read_as, message_of_object}
 
 -- ---- no notification
@@ -26,16 +26,9 @@ response_none (Some i) outcome is = outcome_none (Some i) outcome is
 with_id : (method : Option Data) (id value : Data) → IsNotification (message_by method (Some id) value) → ⊥
 with_id (Some (string s)) id value is = request_none (id_in id) s _ is
 with_id None null value is = outcome_none None (outcome_in value) is
-with_id None (boolean b) value (name, params, is) = cc
 with_id None (number n) value is = response_none (id_in (number n)) (outcome_in value) is
 with_id None (string s) value is = response_none (id_in (string s)) (outcome_in value) is
-with_id None (array ds) value (name, params, is) = cc
-with_id None (object ms) value (name, params, is) = cc
-with_id (Some null) id value (name, params, is) = cc
-with_id (Some (boolean b)) id value (name, params, is) = cc
-with_id (Some (number n)) id value (name, params, is) = cc
-with_id (Some (array ds)) id value (name, params, is) = cc
-with_id (Some (object ms)) id value (name, params, is) = cc
+with_id method id value (name, params, is) = cc
 
 no_id : (two : Bool) (method id : Option Data) (value : Data)
     → IsNotification (if two then message_by method id value else None) → id ≡ None

@@ -3,9 +3,9 @@ use Rattle.lsp_message.proofs.Prelude.{◌≡◌, ℕ, ◌^◌, ◌<◌, ◌≤�
 use Rattle.std.proofs.lemmas.Fmt.{IsAscii-decimal, IsAscii-signed}
 use Rattle.json.proofs.Printed.Decimals.{IsNumber-decimal, IsNumber-signed_decimal}
 use Rattle.json.proofs.Printed.Tokens.{tokens-print}
-use Rattle.json.proofs.Printed.Trees.{value-json_tokens, ArePrintable-json_tokens}
+use Rattle.json.proofs.Printed.Trees.{ArePrintable-json_tokens}
+use Rattle.lsp_message.proofs.Converted.{read_json}
 use Rattle.serde_json.proofs.Numbers.{number_of-decimal, number_of-negative}
-use Rattle.json.specs.Json as json
 use Rattle.json.specs.Tree as tree
 
 pub record Sound (d : Data) : Type 0 where
@@ -17,12 +17,9 @@ pub record Sound (d : Data) : Type 0 where
 
 mutual
   depth-outline : (d : Data) → tree.depth (outline d) ≡ depth d
-  depth-outline null = refl
-  depth-outline (boolean b) = refl
-  depth-outline (number n) = refl
-  depth-outline (string s) = refl
   depth-outline (array ds) = ap suc (depth-items_outline ds)
   depth-outline (object ms) = ap suc (depth-members_outline ms)
+  depth-outline _ = refl
 
   depth-items_outline : (ds : Items) → tree.items_depth (items_outline ds) ≡ items_depth ds
   depth-items_outline no_items = refl
@@ -37,11 +34,7 @@ read-compact_text d h shallow =
     let ts = json_tokens (outline d) in
     let text : tokens (compact_text d) ≡ ts =
     ap tokens (sym (print-outline d)) ∙ tokens-print ts (ArePrintable-json_tokens (outline d) h.numbers) in
-    let value : json.value max_depth ts ≡ Some (outline d, []) =
-    ap (json.value max_depth) (sym (append-nil ts)) ∙ value-json_tokens (outline d) max_depth []
-    (omega (arith, depth-outline d)) in
-    ap (λ o. option_and_then of_json (option_and_then (λ p. json.if_last p.0 p.1) o)) (ap (json.value max_depth) text
-    ∙ value) ∙ h.reads
+    read_json _ (outline d) d (text ∙ sym (append-nil ts)) (omega (arith, depth-outline d)) h.reads
 
 -- ---- what is sound
 

@@ -1,5 +1,5 @@
 -- Tokens that are written one after another.
-use Rattle.lsp_message.proofs.Prelude.{◌≡◌, ℤ, pos, negsuc, List, [], ◌∷◌, ◌++◌, map, refl, sym, ap, ◌∙◌, append_assoc, on_ok_weaker, signed_decimal, flat_map, Result, Ok, OnOk, Token, items_tokens, members_tokens, Data, Members, no_members, member, of_integer, items_of, number_text, items_outline, members_outline, Appends, joined, member_tokens, tokens_of}
+use Rattle.lsp_message.proofs.Prelude.{◌≡◌, List, [], ◌∷◌, ◌++◌, map, refl, sym, ap, ◌∙◌, append_assoc, on_ok_weaker, flat_map, Result, Ok, OnOk, Token, items_tokens, members_tokens, Data, Members, no_members, member, items_of, items_outline, members_outline, Appends, joined, member_tokens, tokens_of}
 use Rattle.json.specs.Written.{Written, Writes}
 use Rattle.json.specs.Token as token
 
@@ -20,11 +20,6 @@ put {t = t} w rest = add {xs = t ∷ []} (record { before = w.room.0; tokens = w
 pub ending : {E P : Type 0} {old new : Written} {t : Token} → (r : Result (Unit {0}) E) → (Appends old new (t ∷ []) → P)
     → Writes r old new t → OnOk r P
 ending r whole w = on_ok_weaker r (λ e. whole (record { before = w.room.0; tokens = e })) w.ok
-
--- the digits of a whole number
-pub integer_text : (n : ℤ) → number_text (of_integer n) ≡ signed_decimal n
-integer_text (pos n) = refl
-integer_text (negsuc n) = refl
 
 -- the tokens of joined members
 pub joined_tokens : (ms more : Members) → member_tokens (joined ms more) ≡ member_tokens ms ++ member_tokens more

@@ -10,7 +10,7 @@ ghost use Rattle.lsp_message.specs.declared.params.ParamsFault.TheVariants.{Inva
 ghost use Rattle.lsp_message.specs.Values.{each_of, bool_in, is_missing, optional};
 ghost use Rattle.lsp_message.specs.Outgoing.{kind_number};
 ghost use Rattle.lsp_message.specs.Agreement.{is_offered, offers_of, offers_named, announced_of, sync_in, kind_in, announced_encoding};
-ghost use Rattle.lsp_message.specs.inside.Agreement.{offers_by_capabilities, offers_by_general, offers_by_encodings, announced_by, sync_of};
+ghost use Rattle.lsp_message.specs.inside.Agreement.{optional_member};
 
 use crate::members::find;
 use crate::params::ParamsFault;
@@ -121,36 +121,24 @@ fn offers_of(params: Option<&Value>) -> Option<Offers>
     ensures { result ≡ offers_of (option_map (λ v. view v.now) params.entry) }
 {
     let members = params?.as_object()?;
-    offers_by_capabilities(find(members, "capabilities"))
-}
-
-fn offers_by_capabilities(value: Option<&Value>) -> Option<Offers>
-    ensures { result ≡ offers_by_capabilities (option_map (λ v. view v.now) value.entry) }
-{
-    if is_missing(value) {
+    let general = optional_member(find(members, "capabilities"), "general")?;
+    let encodings = optional_member(general, "positionEncodings")?;
+    if is_missing(encodings) {
         return Some(Offers::new(false, false));
     }
-    let members = value?.as_object()?;
-    offers_by_general(find(members, "general"))
+    offers_named(encodings?.as_array()?)
 }
 
-fn offers_by_general(value: Option<&Value>) -> Option<Offers>
-    ensures { result ≡ offers_by_general (option_map (λ v. view v.now) value.entry) }
+/// Returns the member of this name of an object, which may be missing; `None` where it is another
+/// value.
+fn optional_member<'v>(value: Option<&'v Value>, name: &str) -> Option<Option<&'v Value>>
+    ensures { option_map (option_map (λ v. view v.now)) result
+        ≡ optional_member name.now (option_map (λ v. view v.now) value.entry) }
 {
     if is_missing(value) {
-        return Some(Offers::new(false, false));
+        return Some(None);
     }
-    let members = value?.as_object()?;
-    offers_by_encodings(find(members, "positionEncodings"))
-}
-
-fn offers_by_encodings(value: Option<&Value>) -> Option<Offers>
-    ensures { result ≡ offers_by_encodings (option_map (λ v. view v.now) value.entry) }
-{
-    if is_missing(value) {
-        return Some(Offers::new(false, false));
-    }
-    offers_named(value?.as_array()?)
+    Some(find(value?.as_object()?, name))
 }
 
 /// Returns the offers that a list of names makes; `None` if an item is no string. Unknown names are
@@ -173,12 +161,6 @@ fn announced_of(value: &Value) -> Option<Announced>
     ensures { result ≡ announced_of (view value.now) }
 {
     let capabilities = value.get("capabilities")?.as_object()?;
-    announced_by(capabilities)
-}
-
-fn announced_by(capabilities: &Map<String, Value>) -> Option<Announced>
-    ensures { result ≡ announced_by (members_view capabilities.now.entries) }
-{
     let (open_close, kind) = sync_of(find(capabilities, "textDocumentSync"))?;
     let encoding = encoding_of(find(capabilities, "positionEncoding"))?;
     Some(Announced {
@@ -189,7 +171,8 @@ fn announced_by(capabilities: &Map<String, Value>) -> Option<Announced>
 }
 
 fn sync_of(value: Option<&Value>) -> Option<(bool, SyncKind)>
-    ensures { result ≡ sync_of (option_map (λ v. view v.now) value.entry) }
+    ensures { result
+        ≡ optional (false, Off) sync_in (option_map (λ v. view v.now) value.entry) }
 {
     match value {
         None | Some(Value::Null) => Some((false, SyncKind::Off)),

@@ -1,9 +1,9 @@
 //! Which message a body is (LSP 3.17, Base Protocol).
 
-ghost use Rattle.std.specs.Prelude.{◌≡◌, ◌↔◌, Some, IfOk, IfErr, IsErrAnd, IsTrue, MatchResult, option_map, slice_index, string_bytes};
+ghost use Rattle.std.specs.Prelude.{◌≡◌, ◌↔◌, Some, IfOk, IfErr, IsTrue, option_map, slice_index, string_bytes};
 ghost use Rattle.serde_json.specs.View.{view};
 ghost use Rattle.lsp_message.specs.Message.{reading, message, id_in, id_found, message_of, is_version_two};
-ghost use Rattle.lsp_message.specs.Seen.{id_view, message_view, IsReadFault, IsFaultOfError};
+ghost use Rattle.lsp_message.specs.Seen.{id_view, message_view, IsReadFault};
 ghost use Rattle.lsp_message.specs.inside.Message.{call_of, answer_of, outcome_of, reading_by};
 ghost use Rattle.lsp_message.specs.inside.Seen.{Answers};
 
@@ -96,7 +96,8 @@ pub fn read(alloc: Global, body: &[u8]) -> Result<Message, ReadFault>
     let Ok(text) = std::str::from_utf8(body) else {
         return Err(ReadFault::NotJson);
     };
-    message_from(Value::from_str(alloc, text))
+    let value = Value::from_str(alloc, text)?;
+    message_of(value)
 }
 
 /// Returns whether a body begins with the first byte of a byte order mark. No JSON does.
@@ -109,16 +110,7 @@ fn begins_with_mark(body: &[u8]) -> bool
 /// A message, or why a value is none.
 type Found = Result<Message, ReadFault>;
 
-/// Reads a parsed value as a message, or converts the error of its parse. Only the parse runs out
-/// of memory.
-fn message_from(parsed: Result<Value, serde_json::Error>) -> Found
-    ensures { MatchResult parsed
-        (λ value. Answers result (message_of (view value)))
-        (λ error. IsErrAnd result (IsFaultOfError error)) }
-{
-    message_of(parsed?)
-}
-
+/// Reads a parsed value as a message. Takes no memory.
 fn message_of(value: Value) -> Found
     ensures { Answers result (message_of (view value)) }
 {

@@ -7,7 +7,6 @@ ghost use Rattle.std.specs.Prelude.{◌≡◌, ◌++◌, IfOk, OnErr, OnOk};
 ghost use Rattle.serde_json.specs.Written.{compact_text};
 ghost use Rattle.lsp_frame.specs.Frame.{frame};
 ghost use Rattle.lsp_message.specs.Outgoing as spec;
-ghost use Rattle.lsp_message.specs.Written as values;
 ghost use Rattle.lsp_message.specs.laws.Sent.{IsProper, IsReadAsSent, IsReadBack};
 ghost use Rattle.lsp_message.specs.Seen.{did_change_of, outgoing_view};
 
@@ -38,6 +37,7 @@ const USUAL_LENGTH: usize = 256;
 /// Fails only where memory runs out. The receiver reads the body as the same message, and its
 /// parameters or result as those that were written. No other message has the same body. Linear in
 /// the body; texts are copied only into it.
+#[tactic(auto, using(crate::proofs::ReadBack::written_laws))]
 pub fn write(alloc: Global, message: &Outgoing) -> Result<Vec<u8>, AllocError>
     ensures body { IfOk result (λ body. body.items ≡ spec.body_of (outgoing_view message.now)) }
 
@@ -56,6 +56,7 @@ pub fn write(alloc: Global, message: &Outgoing) -> Result<Vec<u8>, AllocError>
 ///
 /// Fails only where memory runs out, and then the bytes are unchanged. What holds of a body of
 /// [`write`] holds of this one. Linear in the body; texts are copied only into it.
+#[tactic(auto, using(crate::proofs::ReadBack::written_laws))]
 pub fn push_change(
     bytes: &mut Vec<u8>,
     uri: &str,
@@ -135,7 +136,7 @@ fn push<V: WriteValue>(bytes: &mut Vec<u8>, value: &V) -> Result<(), AllocError>
 }
 
 impl WriteValue for Outgoing {
-    ghost value = { λ message. values.value_of (outgoing_view message) };
+    ghost value = { λ message. spec.value_of (outgoing_view message) };
 
     fn write(&self, writer: &mut Writer) -> Result<(), AllocError> {
         match self {

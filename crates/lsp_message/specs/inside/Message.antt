@@ -2,8 +2,8 @@
 -- it after another. `message_of_object` in `proofs/MemberLemmas.antt` shows that `message_of` reads
 -- the same.
 use Rattle.std.specs.Prelude.{if◌then◌else◌}
-use Rattle.lsp_message.specs.Prelude.{ℕ, false, List, Option, Some, None, codes, not, option_map_or, Data, Members, get_member}
-use Rattle.lsp_message.specs.Values.{text_in, is_null}
+use Rattle.lsp_message.specs.Prelude.{ℕ, List, Option, Some, None, codes, option_map, option_map_or, as_str, Data, Members, get_member}
+use Rattle.lsp_message.specs.Values.{is_null, is_missing}
 use Rattle.lsp_message.specs.Message.{IdData, given, failed, request, notification, response, Reading, not_a_message, message, id_in, id_found, is_version_two}
 
 -- A call, by its id, method and params. A notification has no member `id`; that of a request is a
@@ -17,8 +17,9 @@ call_of (Some id) method params
 -- result is.
 abbrev pub outcome_of : Option IdData → Option Data → Option Data → Reading
 outcome_of id error result =
-    if option_map_or (λ e. not (is_null e)) error false then message (response id failed)
-    else option_map_or (λ r. message (response id (given r))) result (not_a_message id)
+    if is_missing error then
+    option_map_or (λ r. message (response id (given r))) result (not_a_message id)
+    else message (response id failed)
 
 -- A response, by its member `id`, which may be null, its error and its result.
 abbrev pub answer_of : Option Data → Option Data → Option Data → Reading
@@ -29,18 +30,18 @@ answer_of (Some id) error result =
 
 -- A message of version 2.0: a call where there is a member `method`, which has to be a string, else
 -- a response.
-abbrev pub reading_with : Option Data → Option Data → Option Data → Option Data → Option Data →
-    Reading
+abbrev pub reading_with : Option (Option (List ℕ)) → Option Data → Option Data → Option Data →
+    Option Data → Reading
 reading_with None id params error result = answer_of id error result
-reading_with (Some method) id params error result
-    = option_map_or (λ m. call_of id m params) (text_in (Some method)) (not_a_message (id_found id))
+reading_with (Some None) id params error result = not_a_message (id_found id)
+reading_with (Some (Some method)) id params error result = call_of id method params
 
 -- A message, by the members `jsonrpc`, `method`, `id`, `params`, `error` and `result`.
 abbrev pub reading_by : Option Data → Option Data → Option Data → Option Data → Option Data →
     Option Data → Reading
 reading_by version method id params error result =
-    if is_version_two version then reading_with method id params error result else
-    not_a_message (id_found id)
+    if is_version_two version then reading_with (option_map as_str method) id params error result
+    else not_a_message (id_found id)
 
 -- What the members of an object are read as.
 abbrev pub reading_of_members : Members → Reading

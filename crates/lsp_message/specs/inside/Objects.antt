@@ -1,10 +1,10 @@
 -- What the code keeps of objects and arrays. In names, `ms` are the members of an object.
 use Rattle.std.specs.Prelude.{◌≡◌, ◌<◌, ◌∷◌}
-use Rattle.lsp_message.specs.Prelude.{ℕ, List, Bool, true, false, not, Option, Some, None, option_map, option_and_then, is_some, map, codes, ⊤, option_map_or, Token, Data, null, object, Members, get_member, as_object, as_array, as_str, Scalar}
+use Rattle.lsp_message.specs.Prelude.{ℕ, List, Bool, true, false, not, Option, Some, None, option_map, option_and_then, is_some, map, codes, ⊤, Token, Data, null, object, Members, get_member, as_object, as_array, as_str, Scalar}
 use Rattle.lsp_message.specs.Message.{is_version_two}
 use Rattle.lsp_message.specs.Params.{coordinate_in, version_in, position_in, range_of, content_change_in}
 use Rattle.lsp_message.specs.Seen.{content_change_view}
-use Rattle.lsp_message.specs.Values.{is_null, text_in, member_at, members_in, array_in, each_of}
+use Rattle.lsp_message.specs.Values.{is_null, is_missing, text_in, member_at, members_in, array_in, each_of}
 use Rattle.lsp_message.specs.declared.reader.object.Object.{Object}
 use Rattle.lsp_message.specs.declared.reader.object.Object.TheVariants as read
 use Rattle.lsp_message.specs.declared.reader.position.PositionMembers.{PositionMembers}
@@ -78,10 +78,6 @@ AreParamsMembers p ms = IsParamsOf p (Some (object ms))
 abbrev pub IsKeptId : Option Scalar → Option Data → Type 0
 IsKeptId id value = option_map scalar_data id ≡ option_map kept value
 
--- Whether a member `error` says that a request has failed.
-abbrev pub is_failure : Option Data → Bool
-is_failure error = option_map_or (λ e. not (is_null e)) error false
-
 -- These are what is kept of the members of a message.
 abbrev pub IsMessageOf : MessageMembers → Members → Type 0
 IsMessageOf m ms =
@@ -89,6 +85,6 @@ IsMessageOf m ms =
     × (option_map (λ t. option_map (λ s. s.now) t) m.method
     ≡ option_map as_str (get_member (codes "method") ms))
     × IsKeptId m.id (get_member (codes "id") ms)
-    × (m.has_failed ≡ is_failure (get_member (codes "error") ms))
+    × (m.has_failed ≡ not (is_missing (get_member (codes "error") ms)))
     × (m.has_result ≡ is_some (get_member (codes "result") ms))
     × IsParamsOf m.params (get_member (codes "params") ms)

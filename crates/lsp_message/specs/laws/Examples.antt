@@ -1,7 +1,8 @@
 -- What the definitions read on a table of bodies.
-use Rattle.std.specs.Prelude.{◌≡◌}
-use Rattle.lsp_message.specs.Prelude.{ℕ, pos, negsuc, List, Option, Some, None, option_and_then, codes, null, number, unsigned, negative}
+use Rattle.std.specs.Prelude.{◌≡◌, ◌∷◌, ◌++◌}
+use Rattle.lsp_message.specs.Prelude.{ℕ, pos, negsuc, List, [], Option, Some, None, option_and_then, codes, null, number, unsigned, negative}
 use Rattle.lsp_message.specs.Message.{whole, given, failed, request, response, not_json, not_a_message, message, json_of, reading}
+use Rattle.lsp_message.specs.Outgoing.{body_of, did_change}
 use Rattle.lsp_message.specs.Params.{ContentChangeData, version_in, coordinate_in, content_change_in}
 
 -- The change that a body of JSON is.
@@ -45,3 +46,19 @@ pub record HoldsOnExamples : Type 0 where
       ≡ Some (record { range = None; text = codes "a" })
   pub a_range_length : content_change_read (codes "{\"rangeLength\":\"x\",\"text\":\"a\"}")
       ≡ Some (record { range = None; text = codes "a" })
+  -- a body, byte for byte
+  pub a_written_change :
+      body_of (did_change (record {
+        uri = codes "a";
+        version = pos 2;
+        changes = record {
+          range = Some (record {
+            start = record { line = 0; character = 1 };
+            stop = record { line = 3; character = 4 };
+          });
+          text = codes "b";
+        } ∷ [];
+      })) ≡ codes "{\"jsonrpc\":\"2.0\",\"method\":\"textDocument/didChange\",\"params\":"
+      ++ codes "{\"contentChanges\":[{\"range\":{\"end\":{\"character\":4,\"line\":3},"
+      ++ codes "\"start\":{\"character\":1,\"line\":0}},\"text\":\"b\"}],"
+      ++ codes "\"textDocument\":{\"uri\":\"a\",\"version\":2}}}"

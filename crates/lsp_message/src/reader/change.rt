@@ -28,6 +28,7 @@ impl<'a> Kept<'a> for ChangeMembers<'a> {
     ghost IsOf = { IsChangeOf };
 
     #[inline(always)]
+    #[tactic(auto, using(crate::proofs::Puts::one_more_member))]
     fn read_member(&mut self, reader: &mut Reader<'a>, depth: usize, name: &str) -> Read<()> {
         match name {
             "text" => self.text = read_text(reader, depth)?,

@@ -3,13 +3,14 @@
 //! A call returns `None` where the text goes on otherwise. The text may be JSON all the same, and
 //! is then read by its tokens.
 
-ghost use Rattle.std.specs.Prelude.{◌≡◌, ◌∷◌, ◌++◌, ◌||◌, ◌==◌, ◌≤◌, [], drop, length, take, IfSome, IsTrue, true};
+ghost use Rattle.std.specs.Prelude.{◌≡◌, ◌++◌, ◌||◌, ◌==◌, ◌≤◌, [], drop, length, take, IfSome, IsTrue, Some, true};
 ghost use Rattle.json.specs.Print.{escape};
 ghost use Rattle.json.specs.Run.{is_stop};
-ghost use Rattle.json.specs.Token.{string};
-ghost use Rattle.json.specs.Lex.{token, lex, between};
+ghost use Rattle.json.specs.Lex.{lex, between};
 ghost use Rattle.json.specs.Word.{ends_word};
-ghost use Rattle.lsp_message.specs.inside.Lexemes.{IsNaturalAt, IsCoordinateAt, IsVersionAt};
+ghost use Rattle.serde_json.specs.Data.{number, string, unsigned};
+ghost use Rattle.lsp_message.specs.Params.{coordinate_in, version_in};
+ghost use Rattle.lsp_message.specs.inside.Lexemes.{IsTaken, IsValueAt, IsReadAt};
 
 use crate::reader::number::{Number, short_natural};
 
@@ -30,8 +31,7 @@ impl<'a> Cursor<'a> {
     /// Reads this piece, after blanks.
     #[inline(always)]
     pub(crate) fn take(&mut self, piece: &str) -> Option<()>
-        ensures { IfSome result (λ _. lex between self.old.rest.now
-            ≡ lex between (piece.now ++ self.new.rest.now)) }
+        ensures { IfSome result (λ _. IsTaken self.old.rest.now piece.now self.new.rest.now) }
     {
         let text = after_blanks(self.rest);
         let rest = after(text, piece)?;
@@ -47,8 +47,8 @@ impl<'a> Cursor<'a> {
 
     /// Reads a string without escapes, after blanks.
     pub(crate) fn plain_text(&mut self) -> Option<&'a str>
-        ensures { IfSome result (λ text. lex between self.old.rest.now
-            ≡ token (string text.now) ∷ lex between self.new.rest.now) }
+        ensures { IfSome result
+            (λ text. IsValueAt 0 self.old.rest.now (string text.now) self.new.rest.now) }
     {
         let start = after_blanks(self.rest);
         let content = after(start, "\"")?;
@@ -61,7 +61,8 @@ impl<'a> Cursor<'a> {
     /// Reads a whole number below 2^64, after blanks, where a comma, a closing brace or a line
     /// feed follows it.
     pub(crate) fn natural(&mut self) -> Option<u64>
-        ensures { IfSome result (λ n. IsNaturalAt self.old.rest.now n self.new.rest.now) }
+        ensures { IfSome result
+            (λ n. IsValueAt 0 self.old.rest.now (number (unsigned n)) self.new.rest.now) }
     {
         let text = after_blanks(self.rest);
         let (digits, rest) = text.split_at_checked(digits_len(text.as_bytes()))?;
@@ -75,7 +76,8 @@ impl<'a> Cursor<'a> {
 
     /// Reads a line or a character, as [`Cursor::natural`].
     pub(crate) fn coordinate(&mut self) -> Option<u32>
-        ensures { IfSome result (λ n. IsCoordinateAt self.old.rest.now n self.new.rest.now) }
+        ensures { IfSome result (λ n. IsReadAt 0 self.old.rest.now self.new.rest.now
+            (λ d. coordinate_in (Some d) ≡ Some n)) }
     {
         let value = self.natural()?;
         Number::Natural(value).coordinate()
@@ -83,7 +85,8 @@ impl<'a> Cursor<'a> {
 
     /// Reads a version that isn't negative, as [`Cursor::natural`].
     pub(crate) fn version(&mut self) -> Option<i32>
-        ensures { IfSome result (λ n. IsVersionAt self.old.rest.now n self.new.rest.now) }
+        ensures { IfSome result (λ n. IsReadAt 0 self.old.rest.now self.new.rest.now
+            (λ d. version_in (Some d) ≡ Some n)) }
     {
         let value = self.natural()?;
         Number::Natural(value).version()

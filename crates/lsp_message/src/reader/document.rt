@@ -29,6 +29,7 @@ impl<'a> Kept<'a> for DocumentMembers<'a> {
     ghost IsOf = { IsDocumentOf };
 
     #[inline(always)]
+    #[tactic(auto, using(crate::proofs::Puts::one_more_member))]
     fn read_member(&mut self, reader: &mut Reader<'a>, depth: usize, name: &str) -> Read<()> {
         match name {
             "uri" => self.uri = read_text(reader, depth)?,

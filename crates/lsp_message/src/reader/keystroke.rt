@@ -7,14 +7,14 @@
 //! [`write`]: crate::write
 
 ghost use Rattle.std.specs.Prelude.{◌≡◌, ◌∷◌, [], Some, IfOk, IfSome};
-ghost use Rattle.json.specs.Lex.{lex, between};
 ghost use Rattle.serde_json.specs.Data.{Data};
 ghost use Rattle.serde_json.specs.Read.{read as read_value};
 ghost use Rattle.lsp_message.specs.Incoming.{did_change, incoming_of};
 ghost use Rattle.lsp_message.specs.Lengths.{lengths_of};
 ghost use Rattle.lsp_message.specs.Message.{message_of};
+ghost use Rattle.lsp_message.specs.Params.{position_in, range_of};
 ghost use Rattle.lsp_message.specs.Seen.{change_view};
-ghost use Rattle.lsp_message.specs.inside.Lexemes.{in_order, head_lexemes, IsPositionAt, IsRangeAt, IsLengthAt, IsDocumentAt, IsChangesAt, AreParamsAt, IsKeystroke, one_change};
+ghost use Rattle.lsp_message.specs.inside.Lexemes.{in_order, one_change, IsReadAt, IsDocumentAt, IsLengthAt, AreChangesAt, AreParamsAt, IsKeystroke};
 
 use crate::params::ChangeParams;
 use crate::reader::cursor::Cursor;
@@ -59,29 +59,12 @@ struct Keystroke<'a> {
 }
 
 impl<'a> Cursor<'a> {
-    /// Reads a message up to its params.
-    #[inline(always)]
-    fn head(&mut self) -> Option<()>
-        ensures { IfSome result (λ _. lex between self.old.rest.now
-            ≡ head_lexemes (lex between self.new.rest.now)) }
-    {
-        self.take("{")?;
-        self.take("\"jsonrpc\":")?;
-        self.take("\"2.0\"")?;
-        self.take(",")?;
-        self.take("\"method\":")?;
-        self.take("\"textDocument/didChange\"")?;
-        self.take(",")?;
-        self.take("\"params\":")
-    }
-
-    /// Reads the member `textDocument`.
+    /// Reads the value of `textDocument`.
     #[inline(always)]
     fn document(&mut self) -> Option<Document<'a>>
-        ensures { IfSome result (λ d. IsDocumentAt self.old.rest.now d.uri.now d.version
-            self.new.rest.now) }
+        ensures { IfSome result
+            (λ d. IsDocumentAt self.old.rest.now d.uri.now d.version self.new.rest.now) }
     {
-        self.take("\"textDocument\":")?;
         self.take("{")?;
         self.take("\"uri\":")?;
         let uri = self.plain_text()?;
@@ -95,8 +78,8 @@ impl<'a> Cursor<'a> {
     /// Reads a position.
     #[inline(always)]
     fn position(&mut self, by_name: bool) -> Option<Position>
-        ensures { IfSome result
-            (λ p. IsPositionAt by_name self.old.rest.now p self.new.rest.now) }
+        ensures { IfSome result (λ p. IsReadAt 1 self.old.rest.now self.new.rest.now
+            (λ d. position_in (Some d) ≡ Some p)) }
     {
         let (first, second) = pieces(by_name, "\"line\":", "\"character\":");
         self.take("{")?;
@@ -119,8 +102,8 @@ impl<'a> Cursor<'a> {
     /// Reads a range.
     #[inline(always)]
     fn range(&mut self, by_name: bool) -> Option<Range>
-        ensures { IfSome result
-            (λ r. IsRangeAt by_name self.old.rest.now r self.new.rest.now) }
+        ensures { IfSome result (λ r. IsReadAt 2 self.old.rest.now self.new.rest.now
+            (λ d. range_of (Some d) ≡ Some (Some r))) }
     {
         let (first, second) = pieces(by_name, "\"start\":", "\"end\":");
         self.take("{")?;
@@ -140,35 +123,34 @@ impl<'a> Cursor<'a> {
         }
     }
 
-    /// Reads the member `rangeLength` and its comma, if they are next.
+    /// Reads a comma and the member `rangeLength`, if they are next.
     #[inline(always)]
     fn range_length(&mut self) -> Option<Option<u64>>
         ensures { IfSome result
             (λ length. IsLengthAt self.old.rest.now length self.new.rest.now) }
     {
         let before = *self;
+        self.take(",")?;
         let Some(()) = self.take("\"rangeLength\":") else {
             *self = before;
             return Some(None);
         };
         let length = self.natural()?;
-        self.take(",")?;
         Some(Some(length))
     }
 
-    /// Reads the member `contentChanges`, with one change of a range.
+    /// Reads the value of `contentChanges`, one change of a range.
     #[inline(always)]
     fn changes(&mut self, by_name: bool) -> Option<PlainChange<'a>>
-        ensures { IfSome result (λ e. IsChangesAt by_name self.old.rest.now e.range e.length
-            e.text.now self.new.rest.now) }
+        ensures { IfSome result (λ e. AreChangesAt self.old.rest.now e.range e.length e.text.now
+            self.new.rest.now) }
     {
-        self.take("\"contentChanges\":")?;
         self.take("[")?;
         self.take("{")?;
         self.take("\"range\":")?;
         let range = self.range(by_name)?;
-        self.take(",")?;
         let length = self.range_length()?;
+        self.take(",")?;
         self.take("\"text\":")?;
         let text = self.plain_text()?;
         self.take("}")?;
@@ -189,14 +171,18 @@ impl<'a> Cursor<'a> {
     {
         self.take("{")?;
         if self.is_next("\"contentChanges\":") {
+            self.take("\"contentChanges\":")?;
             let change = self.changes(true)?;
             self.take(",")?;
+            self.take("\"textDocument\":")?;
             let document = self.document()?;
             self.take("}")?;
             return Some(Keystroke { document, change });
         }
+        self.take("\"textDocument\":")?;
         let document = self.document()?;
         self.take(",")?;
+        self.take("\"contentChanges\":")?;
         let change = self.changes(false)?;
         self.take("}")?;
         Some(Keystroke { document, change })
@@ -209,7 +195,14 @@ fn keystroke_of(text: &str) -> Option<Keystroke<'_>>
         k.change.range k.change.length k.change.text.now) }
 {
     let mut cursor = Cursor::new(text);
-    cursor.head()?;
+    cursor.take("{")?;
+    cursor.take("\"jsonrpc\":")?;
+    cursor.take("\"2.0\"")?;
+    cursor.take(",")?;
+    cursor.take("\"method\":")?;
+    cursor.take("\"textDocument/didChange\"")?;
+    cursor.take(",")?;
+    cursor.take("\"params\":")?;
     let found = cursor.params()?;
     cursor.take("}")?;
     if !cursor.is_at_end() {

@@ -1,12 +1,13 @@
 //! The members of a message, and what the message asks by them.
 
-ghost use Rattle.std.specs.Prelude.{◌≡◌, option_map, Option, Some, None, IfOk, IfSome, is_some};
+ghost use Rattle.std.specs.Prelude.{◌≡◌, option_map, Option, Some, None, IfOk, IfSome, is_some, not};
 ghost use Rattle.serde_json.specs.Data.{Data, object, Members, no_members};
 ghost use Rattle.lsp_message.specs.Incoming.{incoming_of, request_of, notification_of};
 ghost use Rattle.lsp_message.specs.Message.{id_found, message_of};
 ghost use Rattle.lsp_message.specs.Seen.{id_view, incoming_view};
+ghost use Rattle.lsp_message.specs.Values.{is_missing};
 ghost use Rattle.lsp_message.specs.inside.Message.{call_of, answer_of, outcome_of};
-ghost use Rattle.lsp_message.specs.inside.Objects.{IsParamsOf, IsMessageOf, IsKeptId, is_failure};
+ghost use Rattle.lsp_message.specs.inside.Objects.{IsParamsOf, IsMessageOf, IsKeptId};
 
 use crate::message::Id;
 use crate::reader::fault::Read;
@@ -36,6 +37,7 @@ impl<'a> Kept<'a> for MessageMembers<'a> {
     ghost IsOf = { IsMessageOf };
 
     #[inline(always)]
+    #[tactic(auto, using(crate::proofs::Puts::one_more_member))]
     fn read_member(&mut self, reader: &mut Reader<'a>, depth: usize, name: &str) -> Read<()> {
         match name {
             "jsonrpc" => self.is_version_two = read_scalar(reader, depth)?.is_two(),
@@ -163,7 +165,7 @@ fn response(
     has_result: bool,
 ) -> Result<Incoming, AllocError>
     ensures { IfOk result (λ m. (i : Option Data) (e : Option Data) (o : Option Data)
-        → IsKeptId id.entry i → has_failed ≡ is_failure e → has_result ≡ is_some o
+        → IsKeptId id.entry i → has_failed ≡ not (is_missing e) → has_result ≡ is_some o
         → incoming_view m ≡ incoming_of (answer_of i e o)) }
 {
     let Some(id) = id else {
@@ -180,7 +182,7 @@ fn response(
 
 /// Returns a response where there is an error that isn't null, or a result.
 fn response_with(id: Option<Id>, has_failed: bool, has_result: bool) -> Incoming
-    ensures { (e : Option Data) (o : Option Data) → has_failed ≡ is_failure e
+    ensures { (e : Option Data) (o : Option Data) → has_failed ≡ not (is_missing e)
         → has_result ≡ is_some o
         → incoming_view result ≡ incoming_of (outcome_of (option_map id_view id) e o) }
 {

@@ -33,6 +33,7 @@ impl<'a> Kept<'a> for ParamsMembers<'a> {
     ghost IsOf = { AreParamsMembers };
 
     #[inline(always)]
+    #[tactic(auto, using(crate::proofs::Puts::one_more_member))]
     fn read_member(&mut self, reader: &mut Reader<'a>, depth: usize, name: &str) -> Read<()> {
         match name {
             "textDocument" => self.document = read_document(reader, depth)?,

@@ -24,6 +24,7 @@ impl<'a> Kept<'a> for RangeMembers {
     ghost IsOf = { IsRangeOf };
 
     #[inline(always)]
+    #[tactic(auto, using(crate::proofs::Puts::one_more_member))]
     fn read_member(&mut self, reader: &mut Reader<'a>, depth: usize, name: &str) -> Read<()> {
         match name {
             "start" => self.start = read_position(reader, depth)?,

@@ -4,7 +4,6 @@ ghost use Rattle.std.specs.Prelude.{◌≡◌, OnOk, Some, option_map};
 ghost use Rattle.serde_json.specs.Data.{array};
 ghost use Rattle.serde_json.specs.View.{items_of};
 ghost use Rattle.lsp_message.specs.Outgoing as spec;
-ghost use Rattle.lsp_message.specs.Written as values;
 ghost use Rattle.lsp_message.specs.Seen.{id_view};
 ghost use Rattle.lsp_message.specs.inside.Tokens.{Appends, tokens_of, offer_tokens};
 
@@ -28,7 +27,7 @@ pub(crate) fn write_notification<P: WriteValue + Drop>(
     params: P,
 ) -> Result<(), AllocError>
     ensures tokens { OnOk result (Appends writer.old writer.new
-        (tokens_of (values.notification_value method.now (Some (P.value params))))) }
+        (tokens_of (spec.notification_value method.now (Some (P.value params))))) }
     ensures before { writer.new.before ≡ writer.old.before }
 {
     Object((VERSION, Member("method", method), Member("params", params))).write(writer)
@@ -42,7 +41,7 @@ pub(crate) fn write_response<R: WriteValue + Drop>(
     value: R,
 ) -> Result<(), AllocError>
     ensures tokens { OnOk result (Appends writer.old writer.new
-        (tokens_of (values.result_value (id_view id.now) (R.value value)))) }
+        (tokens_of (spec.result_value (id_view id.now) (R.value value)))) }
     ensures before { writer.new.before ≡ writer.old.before }
 {
     Object((Member("id", Some(id)), VERSION, Member("result", value))).write(writer)
@@ -51,7 +50,7 @@ pub(crate) fn write_response<R: WriteValue + Drop>(
 /// Writes `initialize`, with the encodings that the client offers.
 pub(crate) fn write_initialize(writer: &mut Writer, offers: Offers) -> Result<(), AllocError>
     ensures tokens { OnOk result
-        (Appends writer.old writer.new (tokens_of (values.value_of (spec.initialize offers)))) }
+        (Appends writer.old writer.new (tokens_of (spec.value_of (spec.initialize offers)))) }
     ensures before { writer.new.before ≡ writer.old.before }
 {
     let general = Object(Member("positionEncodings", offers));
@@ -76,7 +75,7 @@ pub(crate) fn write_initialize_result(
     kind: SyncKind,
 ) -> Result<(), AllocError>
     ensures tokens { OnOk result (Appends writer.old writer.new
-        (tokens_of (values.value_of (spec.initialize_result (id_view id.now) encoding kind)))) }
+        (tokens_of (spec.value_of (spec.initialize_result (id_view id.now) encoding kind)))) }
     ensures before { writer.new.before ≡ writer.old.before }
 {
     let sync = Object((Member("change", kind.number()), Member("openClose", true)));
@@ -94,7 +93,7 @@ pub(crate) fn write_error_reply(
     error: ErrorCode,
 ) -> Result<(), AllocError>
     ensures tokens { OnOk result (Appends writer.old writer.new (tokens_of
-        (values.value_of (spec.error_reply (option_map (λ id. id_view id.now) id.entry) error)))) }
+        (spec.value_of (spec.error_reply (option_map (λ id. id_view id.now) id.entry) error)))) }
     ensures before { writer.new.before ≡ writer.old.before }
 {
     let error = Object((
@@ -105,7 +104,7 @@ pub(crate) fn write_error_reply(
 }
 
 impl WriteValue for Offers {
-    ghost value = { λ offers. array (items_of (values.names_of offers)) };
+    ghost value = { λ offers. array (items_of (spec.names_of offers)) };
 
     fn write(&self, writer: &mut Writer) -> Result<(), AllocError> {
         writer.begin_array()?;
@@ -128,7 +127,7 @@ fn write_offer(writer: &mut Writer, offers: Offers, encoding: Encoding) -> Resul
 }
 
 impl<'a> WriteValue for Option<&'a Id> {
-    ghost value = { λ id. values.id_or_null (option_map (λ id. id_view id.now) id) };
+    ghost value = { λ id. spec.id_or_null (option_map (λ id. id_view id.now) id) };
 
     fn write(&self, writer: &mut Writer) -> Result<(), AllocError> {
         match self {

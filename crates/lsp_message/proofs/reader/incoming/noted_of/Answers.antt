@@ -7,9 +7,8 @@ use Rattle.lsp_message.proofs.reader.incoming.noted_of.Goals as goal
 -- notes go by no more of a request
 unnoted : (first last : Bool) (id : IdData) (offers : Option Offers) (method : List ℕ) → is_noted
     (if first then initialize id offers else if last then shutdown id else other_request id method) ≡ false
-unnoted true last id offers method = refl
 unnoted false true id offers method = refl
-unnoted false false id offers method = refl
+unnoted _ _ id offers method = refl
 
 pub returns-in-Request : goal.returns-in-Request
 returns-in-Request c = rw c.in-Request.is (c.nothing.ensures _ _ c.request-incoming.ensures (unnoted _ _ _ _ _))

@@ -1,10 +1,7 @@
 use Rattle.lsp_message.proofs.Prelude.{Some, sym, ap, ◌∙◌, did_change}
-use Rattle.lsp_message.proofs.Keystrokes.{keystroke_read}
 use Rattle.lsp_message.proofs.reader.keystroke.read_keystroke.Goals as goal
 
 pub returns : goal.returns
 returns c =
-    let found = c.in-Some.found in
-    let read = keystroke_read c.args.text.now found.document.uri.now found.document.version found.change.range
-    found.change.length found.change.text.now c.in-Some.ensures in
+    let read = c.in-Some.ensures in
     (read.0, read.1, read.2 ∙ ap (λ p. did_change (Some p)) (sym c.in_ok-params.ensures), read.3)

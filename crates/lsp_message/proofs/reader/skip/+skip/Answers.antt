@@ -1,5 +1,5 @@
-use Rattle.lsp_message.proofs.Prelude.{◌≡◌, ◌-◌, ◌<◌, ◌∷◌, length, Some, None, refl, ap, ◌∙◌, arith, after_end_array, read_key, token_of, read_key-shorter, value_is, left_some, left_none, left-parse_map, no_members, item, put, value_at, items_at, rest_of, common_steps}
-use Rattle.lsp_message.proofs.Converted.{on_err, on_err_weaker, on_ok_weaker}
+use Rattle.lsp_message.proofs.Prelude.{◌≡◌, ◌-◌, ◌<◌, ◌∷◌, length, Some, None, refl, ap, ◌∙◌, arith, after_end_array, read_key, token_of, read_key-shorter, value_is, left_some, left_none, left-parse_map, no_members, item, put, value_at, items_at, rest_of, on_err_weaker, on_ok_weaker, common_steps}
+use Rattle.lsp_message.proofs.Converted.{on_err}
 use Rattle.lsp_message.proofs.Grammar.{value_at-nil, value_at-string, value_at-boolean, value_at-null, value_at-number, value_at-no_number, value_at-shallow_array, value_at-shallow_object, value_at-array, value_at-object, items_at-more, items_at-refused, items_at-end, members_at-more, members_at-refused, members_at-no_key, members_at-end}
 use Rattle.lsp_message.proofs.reader.skip.+skip.Goals as goal
 

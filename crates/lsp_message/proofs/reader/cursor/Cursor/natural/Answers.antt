@@ -7,10 +7,7 @@ returns c =
     let text = c.after_blanks-text.result.now in
     let digits = c.in_ok-digits.digits.now in
     let rest = c.in_ok-digits.rest.now in
-    record {
-      digits = digits;
-      value = ap number_of (sym c.as_bytes-2.ensures.value) ∙ c.in_ok-value.ensures;
-      lexemes = number_read c.args.self.now.rest.now text digits rest c.after_blanks-text.ensures
-          (split_is text digits rest _ c.in_ok-digits.ensures.front c.in_ok-digits.ensures.back)
-          (c.is_number.ensures.0 c.if-not-is_number.false) (c.ends_number.ensures c.if-not-ends_number.false);
-    }
+    number_read c.args.self.now.rest.now text digits rest _ c.after_blanks-text.ensures
+    (split_is text digits rest _ c.in_ok-digits.ensures.front c.in_ok-digits.ensures.back)
+    (c.is_number.ensures.0 c.if-not-is_number.false) (c.ends_number.ensures c.if-not-ends_number.false)
+    (ap number_of (sym c.as_bytes-2.ensures.value) ∙ c.in_ok-value.ensures)

@@ -1,6 +1,5 @@
-use Rattle.lsp_message.proofs.Prelude.{◌≡◌, true, Some, None, codes, sym, ap, ◌∙◌, arith, get_member, incoming_of, is_version_two}
-use Rattle.lsp_message.proofs.MemberLemmas.{message_of_object}
-use Rattle.lsp_message.proofs.Messages.{if_ok_weaker, if_some_weaker, by_method}
+use Rattle.lsp_message.proofs.Prelude.{◌≡◌, true, Some, None, codes, sym, ap, ◌∙◌, arith, get_member, incoming_of, is_version_two, IfOk-weaker, IfSome_then}
+use Rattle.lsp_message.proofs.MemberLemmas.{message_of_object, by_method}
 use Rattle.lsp_message.proofs.reader.message.MessageMembers.incoming.Goals as goal
 
 pub returns-in_ok-response-in-None : goal.returns-in_ok-response-in-None
@@ -16,7 +15,7 @@ returns-in_ok-response-in-None c = λ ms b.
 pub returns-in-Some-Some : goal.returns-in-Some-Some
 returns-in-Some-Some c =
     let named : c.args.self.method ≡ Some (Some c.in-Some-Some.method) = grind arith in
-    if_ok_weaker c.call.result _ _ (λ r. if_some_weaker r _ _ (λ m asks ms b.
+    IfOk-weaker c.call.result _ _ (λ r found. IfSome_then r found (λ m asks ms b.
     let two : c.args.self.is_version_two ≡ true = grind arith in
     let version : is_version_two (get_member (codes "jsonrpc") ms) ≡ true = sym b.0 ∙ two in
     let read = by_method (get_member (codes "jsonrpc") ms) (get_member (codes "method") ms) (get_member (codes "id") ms)
