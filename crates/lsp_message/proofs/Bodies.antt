@@ -1,9 +1,11 @@
 -- The value of each written message: it is not deep, and its text is read back as it.
-use Rattle.lsp_message.proofs.Prelude.{◌≡◌, ℕ, ◌^◌, ◌<◌, ◌≤◌, suc, List, [], ◌∷◌, map, true, Option, Some, None, FitsSigned, IsUtf8, IfSome, All, codes, refl, arith, ℤ, IsUtf8-are_ascii, Data, number, string, array, object, no_members, member, depth, items_depth, of_integer, read, max_depth, items_of, Encoding, Utf8, Position, Range, Offers, SyncKind, Off, ErrorCode, ParseError, IdData, whole, text, DocumentItem, ContentChangeData, ChangeData, CloseData, OutgoingData, IsProper, IsProperId, IsProperDocument, IsProperChange, IsProperEdit, IsProperRange, IsProperPosition}
+use Rattle.lsp_message.proofs.Prelude.{◌≡◌, ℕ, ◌^◌, ◌<◌, ◌≤◌, suc, List, [], ◌∷◌, map, true, Option, Some, None, FitsSigned, IsUtf8, IfSome, All, codes, refl, sym, ap, ◌∙◌, subst, arith, ℤ, IsUtf8-are_ascii, Data, number, string, array, object, no_members, member, depth, items_depth, of_integer, read, max_depth, items_of, Encoding, Utf8, Position, Range, Offers, SyncKind, Off, ErrorCode, ParseError, IdData, whole, text, DocumentItem, ContentChangeData, ChangeData, CloseData, OutgoingData, IsProper, IsProperId, IsProperDocument, IsProperChange, IsProperEdit, IsProperRange, IsProperPosition}
 use Rattle.std.specs.Int.{w32}
 use Rattle.lsp_text.specs.Units.{name_of}
+use Rattle.lsp_message.proofs.BodyLemmas.{body_is}
 use Rattle.lsp_message.proofs.Sound.{Sound, SoundItems, sound_null, sound_boolean, sound_string, sound_unsigned, sound_integer, sound_array, sound_object, sound_item, sound_no_items, read-compact_text}
 use Rattle.lsp_message.specs.Outgoing as spec
+use Rattle.lsp_message.specs.Written as values
 
 -- ---- the depth
 
@@ -12,24 +14,24 @@ items_depth-strings : {X : Type 0} (f : X → List ℕ) (xs : List X) → items_
 items_depth-strings f [] = refl
 items_depth-strings f (x ∷ xs) = omega (arith, items_depth-strings f xs)
 
-depth-content_change_value : (r : Option Range) (s : List ℕ) → depth (spec.content_change_value
+depth-content_change_value : (r : Option Range) (s : List ℕ) → depth (values.content_change_value
     (record { range = r; text = s })) ≤ 3
 depth-content_change_value None s = omega arith
 depth-content_change_value (Some r) s = omega arith
 
-items_depth-edits : (es : List ContentChangeData) → items_depth (items_of (map spec.content_change_value es)) ≤ 3
+items_depth-edits : (es : List ContentChangeData) → items_depth (items_of (map values.content_change_value es)) ≤ 3
 items_depth-edits [] = omega arith
 items_depth-edits (e ∷ es) = omega (arith, depth-content_change_value e.range e.text, items_depth-edits es)
 
-depth-id_value : (id : IdData) → depth (spec.id_value id) ≡ 0
+depth-id_value : (id : IdData) → depth (values.id_value id) ≡ 0
 depth-id_value (whole n) = refl
 depth-id_value (text s) = refl
 
-depth-id_or_null : (id : Option IdData) → depth (spec.id_or_null id) ≡ 0
+depth-id_or_null : (id : Option IdData) → depth (values.id_or_null id) ≡ 0
 depth-id_or_null None = refl
 depth-id_or_null (Some id) = depth-id_value id
 
-pub depth-value_of : (m : OutgoingData) → depth (spec.value_of m) ≤ max_depth
+pub depth-value_of : (m : OutgoingData) → depth (values.value_of m) ≤ max_depth
 depth-value_of (spec.initialize offers) = omega (arith, items_depth-strings name_of)
 depth-value_of (spec.did_change p) = omega (arith, items_depth-edits p.changes)
 depth-value_of (spec.initialize_result id encoding kind) = omega (arith, depth-id_value id)
@@ -50,7 +52,7 @@ sound_names (e ∷ es) = sound_item _ _ (sound_string (name_of e) (utf8-name_of 
 sound_version : (z : ℤ) → FitsSigned w32 z → Sound (number (of_integer z))
 sound_version z h = let small = h.sfits in sound_integer z (record { sfits = omega arith })
 
-sound_position : (p : Position) → IsProperPosition p → Sound (spec.position_value p)
+sound_position : (p : Position) → IsProperPosition p → Sound (values.position_value p)
 sound_position p h =
     let line = h.line in
     let character = h.character in
@@ -60,27 +62,27 @@ sound_position p h =
       (refl, sound_unsigned p.line (omega arith), tt),
     )
 
-sound_range : (r : Range) → IsProperRange r → Sound (spec.range_value r)
+sound_range : (r : Range) → IsProperRange r → Sound (values.range_value r)
 sound_range r h = sound_object _ refl (refl, sound_position r.stop h.stop, (refl, sound_position r.start h.start, tt))
 
 sound_edit : (r : Option Range) (s : List ℕ) → IfSome r IsProperRange → IsUtf8 s
-    → Sound (spec.content_change_value (record { range = r; text = s }))
+    → Sound (values.content_change_value (record { range = r; text = s }))
 sound_edit None s h u = sound_object _ refl (refl, sound_string s u, tt)
 sound_edit (Some r) s h u = sound_object _ refl (refl, sound_range r h, (refl, sound_string s u, tt))
 
 sound_edits : (es : List ContentChangeData) → All IsProperEdit es → SoundItems (items_of
-    (map spec.content_change_value es))
+    (map values.content_change_value es))
 sound_edits [] h = sound_no_items
 sound_edits (e ∷ es) h =
     let first = h 0 e (omega arith) in
     sound_item _ _ (sound_edit e.range e.text first.range first.text)
     (sound_edits es (λ k d l. h (suc k) d (omega arith)))
 
-sound_id : (id : IdData) → IsProperId id → Sound (spec.id_value id)
+sound_id : (id : IdData) → IsProperId id → Sound (values.id_value id)
 sound_id (whole n) h = sound_integer n h
 sound_id (text s) h = sound_string s h
 
-sound_id_or_null : (id : Option IdData) → IfSome id IsProperId → Sound (spec.id_or_null id)
+sound_id_or_null : (id : Option IdData) → IfSome id IsProperId → Sound (values.id_or_null id)
 sound_id_or_null None h = sound_null
 sound_id_or_null (Some id) h = sound_id id h
 
@@ -92,10 +94,10 @@ utf8-error_message : (e : ErrorCode) → IsUtf8 (spec.error_message e)
 utf8-error_message ParseError = IsUtf8-are_ascii _ refl
 utf8-error_message _ = IsUtf8-are_ascii _ refl
 
-sound_error : (e : ErrorCode) → Sound (spec.error_value e)
+sound_error : (e : ErrorCode) → Sound (values.error_value e)
 sound_error e = sound_object _ refl (refl, sound_code e, (refl, sound_string _ (utf8-error_message e), tt))
 
-sound_kind : (kind : SyncKind) → Sound (spec.sync_value kind)
+sound_kind : (kind : SyncKind) → Sound (values.sync_value kind)
 sound_kind Off = sound_object _ refl (refl, sound_unsigned _ (omega arith), (refl, sound_boolean true, tt))
 sound_kind _ = sound_object _ refl (refl, sound_unsigned _ (omega arith), (refl, sound_boolean true, tt))
 
@@ -103,7 +105,7 @@ two : Sound (string (codes "2.0"))
 two = sound_string _ (IsUtf8-are_ascii _ refl)
 
 sound_request : (id : ℕ) (method : List ℕ) (params : Data) → id < 2 ^ 64 → IsUtf8 method → Sound params
-    → Sound (spec.request_value id method (Some params))
+    → Sound (values.request_value id method (Some params))
 sound_request id method params small u h = sound_object _ refl (
   refl,
   sound_unsigned id small,
@@ -111,16 +113,16 @@ sound_request id method params small u h = sound_object _ refl (
 )
 
 sound_notification : (method : List ℕ) (params : Data) → IsUtf8 method → Sound params
-    → Sound (spec.notification_value method (Some params))
+    → Sound (values.notification_value method (Some params))
 sound_notification method params u h = sound_object _ refl (refl, two, (refl, sound_string method u, (refl, h, tt)))
 
-sound_result : (id : IdData) (d : Data) → IsProperId id → Sound d → Sound (spec.result_value id d)
+sound_result : (id : IdData) (d : Data) → IsProperId id → Sound d → Sound (values.result_value id d)
 sound_result id d proper h = sound_object _ refl (refl, sound_id id proper, (refl, two, (refl, h, tt)))
 
-sound_initialize_params : (offers : Offers) → Sound (spec.initialize_params offers)
+sound_initialize_params : (offers : Offers) → Sound (values.initialize_params offers)
 sound_initialize_params offers =
     let general =
-    sound_object (member (codes "positionEncodings") (array (items_of (spec.names_of offers))) no_members) refl (
+    sound_object (member (codes "positionEncodings") (array (items_of (values.names_of offers))) no_members) refl (
       refl,
       sound_array _ (sound_names _),
       tt,
@@ -128,9 +130,9 @@ sound_initialize_params offers =
     let capabilities = sound_object (member (codes "general") _ no_members) refl (refl, general, tt) in
     sound_object _ refl (refl, capabilities, (refl, sound_null, (refl, sound_null, tt)))
 
-sound_open_params : (p : DocumentItem) → IsProperDocument p → Sound (spec.open_params p)
+sound_open_params : (p : DocumentItem) → IsProperDocument p → Sound (values.open_params p)
 sound_open_params p h =
-    let document : Sound (spec.opened_document p) =
+    let document : Sound (values.opened_document p) =
     sound_object _ refl (
       refl,
       sound_string p.language h.language,
@@ -142,25 +144,25 @@ sound_open_params p h =
     ) in
     sound_object _ refl (refl, document, tt)
 
-sound_change_params : (p : ChangeData) → IsProperChange p → Sound (spec.change_params p)
+sound_change_params : (p : ChangeData) → IsProperChange p → Sound (values.change_params p)
 sound_change_params p h =
-    let document : Sound (spec.versioned_document p.uri p.version) =
+    let document : Sound (values.versioned_document p.uri p.version) =
     sound_object _ refl (refl, sound_string p.uri h.uri, (refl, sound_version p.version h.version, tt)) in
     sound_object _ refl (refl, sound_array _ (sound_edits p.changes h.changes), (refl, document, tt))
 
-sound_close_params : (p : CloseData) → IsUtf8 p.uri → Sound (spec.close_params p)
+sound_close_params : (p : CloseData) → IsUtf8 p.uri → Sound (values.close_params p)
 sound_close_params p u =
     let document : Sound (object (member (codes "uri") (string p.uri) no_members)) =
     sound_object _ refl (refl, sound_string p.uri u, tt) in
     sound_object _ refl (refl, document, tt)
 
-sound_initialize_value : (encoding : Encoding) (kind : SyncKind) → Sound (spec.initialize_value encoding kind)
+sound_initialize_value : (encoding : Encoding) (kind : SyncKind) → Sound (values.initialize_value encoding kind)
 sound_initialize_value encoding kind =
-    let announced : Sound (spec.announced_value encoding kind) =
+    let announced : Sound (values.announced_value encoding kind) =
     sound_object _ refl (refl, sound_string _ (utf8-name_of encoding), (refl, sound_kind kind, tt)) in
     sound_object _ refl (refl, announced, tt)
 
-pub sound-value_of : (m : OutgoingData) → IsProper m → Sound (spec.value_of m)
+pub sound-value_of : (m : OutgoingData) → IsProper m → Sound (values.value_of m)
 sound-value_of (spec.initialize offers) h =
     sound_request 1 _ _ (omega arith) (IsUtf8-are_ascii _ refl) (sound_initialize_params offers)
 sound-value_of spec.initialized h = sound_notification _ _ (IsUtf8-are_ascii _ refl) (sound_object no_members refl tt)
@@ -179,8 +181,8 @@ sound-value_of (spec.error_reply id error) h =
     sound_object _ refl (refl, sound_error error, (refl, sound_id_or_null id h, (refl, two, tt)))
 
 -- the body of a message is read as its value
-pub read-body_of : (m : OutgoingData) → IsProper m → read (spec.body_of m) ≡ Some (spec.value_of m)
-read-body_of m h = read-compact_text (spec.value_of m) (sound-value_of m h) (depth-value_of m)
+pub read-body_of : (m : OutgoingData) → IsProper m → read (spec.body_of m) ≡ Some (values.value_of m)
+read-body_of m h = ap read (body_is m) ∙ read-compact_text (values.value_of m) (sound-value_of m h) (depth-value_of m)
 
 pub utf8-body_of : (m : OutgoingData) → IsProper m → IsUtf8 (spec.body_of m)
-utf8-body_of m h = let sound = sound-value_of m h in sound.utf8
+utf8-body_of m h = let sound = sound-value_of m h in subst IsUtf8 (sym (body_is m)) sound.utf8

@@ -1,5 +1,5 @@
--- Where to begin: `lsp_message::read.ok` is over `Readings`. `write.body`, the compact text of the message's value, is
--- put together by the writers' own proofs, over `Tokens`. `write.read_back` and `unique` are `is_read_back` and
+-- Where to begin: `lsp_message::read.ok` is over `Readings`. `write.body` is `body_is` of `BodyLemmas`: the bytes
+-- are the compact text of the message's value, which the writers' own proofs put together, over `Tokens`. `write.read_back` and `unique` are `is_read_back` and
 -- `body_of-unique` of `ReadBack`, over `Sound`: which values are read back as themselves. `message_laws` is in
 -- `MessageLemmas`, the rows of the table of messages, and in `RefusalLemmas`. `MemberLemmas` leads from `message_of` to
 -- the private contracts of `src/message.rt`.
@@ -19,6 +19,7 @@ pub mod MessageLemmas
 pub mod RefusalLemmas
 pub mod Examples
 pub mod Tokens
+pub mod BodyLemmas
 pub mod Converted
 pub mod Grammar
 pub mod Openings

@@ -32,7 +32,8 @@ pub use Rattle.lsp_message.specs.Agreement.{announced_of, offers_named, offers_o
 pub use Rattle.lsp_message.specs.Incoming.{did_change, incoming_of}
 pub use Rattle.lsp_message.specs.Lengths.{lengths_in, lengths_of}
 pub use Rattle.lsp_message.specs.Message.{IdData, MessageData, OutcomeData, Reading, failed, given, id_found, id_in, is_version_two, message, message_by, message_in, message_of, not_a_message, not_json, notification, outcome_in, reading, request, response, text, whole}
-pub use Rattle.lsp_message.specs.Outgoing.{OutgoingData, body_of, did_close, did_open, error_reply, exit, initialize, initialize_result, initialized, opened_document, range_before, shutdown, shutdown_result, value_of}
+pub use Rattle.lsp_message.specs.Outgoing.{OutgoingData, body_of, content_change_text, did_close, did_open, document_text, error_reply, error_text, exit, id_text, initialize, initialize_result, initialized, notification_text, position_text, range_text, result_text, shutdown, shutdown_result}
+pub use Rattle.lsp_message.specs.Written.{opened_document, range_before, value_of}
 pub use Rattle.lsp_message.specs.Params.{ChangeData, CloseData, ContentChangeData, DocumentItem, HasChanges, change_of, close_of, content_change_in, coordinate_in, open_of, position_in, range_in, range_of, version_from, version_in}
 pub use Rattle.lsp_message.specs.Seen.{IsFaultOfError, IsReadFault, content_change_view, did_change_of, message_view, outgoing_view}
 pub use Rattle.lsp_message.specs.Values.{each_of, is_missing, is_null, member_at, natural_in, text_in}

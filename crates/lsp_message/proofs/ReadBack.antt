@@ -7,6 +7,7 @@ use Rattle.lsp_message.specs.declared.agreement.Announced.{Announced}
 use Rattle.lsp_message.proofs.Readings.{reading_of_value}
 use Rattle.lsp_message.proofs.Bodies.{read-body_of, utf8-body_of}
 use Rattle.lsp_message.specs.Outgoing as spec
+use Rattle.lsp_message.specs.Written as values
 
 -- ---- numbers
 
@@ -23,42 +24,42 @@ version_in-of_integer z h = grind (arith, common_steps, option_and_then, as_i64-
 
 -- ---- which message it is
 
-id_in-id_value : (id : IdData) → IsProperId id → id_in (spec.id_value id) ≡ Some id
+id_in-id_value : (id : IdData) → IsProperId id → id_in (values.id_value id) ≡ Some id
 id_in-id_value (whole (pos n)) h = ap (option_map whole) (as_i64-of_integer (pos n) h)
 id_in-id_value _ h = refl
 
 message_of-error_reply : (id : Option IdData) (error : ErrorCode) → IfSome id IsProperId
-    → message_of (spec.error_reply_value id error) ≡ message (sent (spec.error_reply id error))
+    → message_of (values.error_reply_value id error) ≡ message (sent (spec.error_reply id error))
 message_of-error_reply (Some (whole n)) error h = rw (id_in-id_value (whole n) h) refl
 message_of-error_reply _ error h = refl
 
-message_of-value_of : (m : OutgoingData) → IsProper m → message_of (spec.value_of m) ≡ message (sent m)
+message_of-value_of : (m : OutgoingData) → IsProper m → message_of (values.value_of m) ≡ message (sent m)
 message_of-value_of (spec.initialize_result (whole n) encoding kind) h = rw (id_in-id_value (whole n) h) refl
 message_of-value_of (spec.shutdown_result (whole n)) h = rw (id_in-id_value (whole n) h) refl
 message_of-value_of (spec.error_reply id error) h = message_of-error_reply id error h
 message_of-value_of _ h = refl
 
 pub reading-body_of : (m : OutgoingData) → IsProper m → reading (spec.body_of m) ≡ message (sent m)
-reading-body_of m h = reading_of_value (spec.body_of m) (spec.value_of m) (utf8-body_of m h) (read-body_of m h)
+reading-body_of m h = reading_of_value (spec.body_of m) (values.value_of m) (utf8-body_of m h) (read-body_of m h)
     ∙ message_of-value_of m h
 
 -- ---- its parameters
 
-position_in-position_value : (p : Position) → IsProperPosition p → position_in (Some (spec.position_value p)) ≡ Some p
+position_in-position_value : (p : Position) → IsProperPosition p → position_in (Some (values.position_value p)) ≡ Some p
 position_in-position_value p h = grind (arith, common_steps, lt-ltb)
 
-range_in-range_value : (r : Range) → IsProperRange r → range_in (Some (spec.range_value r)) ≡ Some r
+range_in-range_value : (r : Range) → IsProperRange r → range_in (Some (values.range_value r)) ≡ Some r
 range_in-range_value r h = rw (position_in-position_value r.start h.start, position_in-position_value r.stop h.stop)
     refl
 
 content_change_in-content_change_value : (r : Option Range) (s : List ℕ) → IfSome r IsProperRange
-    → content_change_in (spec.content_change_value (record { range = r; text = s }))
+    → content_change_in (values.content_change_value (record { range = r; text = s }))
     ≡ Some (record { range = r; text = s })
 content_change_in-content_change_value None s h = refl
 content_change_in-content_change_value (Some r) s h = rw (range_in-range_value r h) refl
 
 content_changes_in-edits : (es : List ContentChangeData) → All IsProperEdit es → content_changes_in (items_of
-    (map spec.content_change_value es)) ≡ Some es
+    (map values.content_change_value es)) ≡ Some es
 content_changes_in-edits [] h = refl
 content_changes_in-edits (e ∷ es) h =
     let first = h 0 e (omega arith) in
@@ -68,10 +69,10 @@ content_changes_in-edits (e ∷ es) h =
           (omega arith)),
     ) refl
 
-open_of-open_params : (p : DocumentItem) → IsProperDocument p → open_of (Some (spec.open_params p)) ≡ Some p
+open_of-open_params : (p : DocumentItem) → IsProperDocument p → open_of (Some (values.open_params p)) ≡ Some p
 open_of-open_params p h = rw (version_in-of_integer p.version h.version) refl
 
-change_of-change_params : (p : ChangeData) → IsProperChange p → change_of (Some (spec.change_params p)) ≡ Some p
+change_of-change_params : (p : ChangeData) → IsProperChange p → change_of (Some (values.change_params p)) ≡ Some p
 change_of-change_params p h = rw (
   version_in-of_integer p.version h.version,
   content_changes_in-edits p.changes
@@ -79,7 +80,7 @@ change_of-change_params p h = rw (
 ) refl
 
 offers_of-initialize_params : (utf8 utf32 : Bool) → let offers : Offers = record { utf8 = utf8; utf32 = utf32 } in
-    offers_of (Some (spec.initialize_params offers)) ≡ Some offers
+    offers_of (Some (values.initialize_params offers)) ≡ Some offers
 offers_of-initialize_params true true = refl
 offers_of-initialize_params false false = refl
 offers_of-initialize_params _ _ = refl
@@ -88,7 +89,7 @@ abbrev announces : Encoding → SyncKind → Announced
 announces encoding kind = record { open_close = true; kind = kind; encoding = Some encoding }
 
 announced_of-initialize_value : (encoding : Encoding) (kind : SyncKind)
-    → announced_of (spec.initialize_value encoding kind) ≡ Some (announces encoding kind)
+    → announced_of (values.initialize_value encoding kind) ≡ Some (announces encoding kind)
 announced_of-initialize_value Utf8 Off = refl
 announced_of-initialize_value Utf16 Off = refl
 announced_of-initialize_value Utf32 Off = refl
@@ -146,7 +147,7 @@ written_by None d = replied (id_found (get (codes "id") d)) (get (codes "error")
 abbrev written_as : Data → Option OutgoingData
 written_as d = written_by (text_in (get (codes "method") d)) d
 
-id_found-id_or_null : (id : Option IdData) → IfSome id IsProperId → id_found (Some (spec.id_or_null id)) ≡ id
+id_found-id_or_null : (id : Option IdData) → IfSome id IsProperId → id_found (Some (values.id_or_null id)) ≡ id
 id_found-id_or_null None h = refl
 id_found-id_or_null (Some id) h = id_in-id_value id h
 
@@ -154,7 +155,7 @@ error_named-text : (e : ErrorCode) → error_named (spec.error_message e) ≡ So
 error_named-text ParseError = refl
 error_named-text _ = refl
 
-written_as-value_of : (m : OutgoingData) → IsProper m → written_as (spec.value_of m) ≡ Some m
+written_as-value_of : (m : OutgoingData) → IsProper m → written_as (values.value_of m) ≡ Some m
 written_as-value_of (spec.initialize offers) h =
     ap (option_map spec.initialize) (offers_of-initialize_params offers.utf8 offers.utf32)
 written_as-value_of (spec.did_open p) h = ap (option_map spec.did_open) (open_of-open_params p h)
@@ -168,7 +169,7 @@ written_as-value_of _ h = refl
 -- two messages with one text are one message
 pub body_of-unique : (m n : OutgoingData) → IsProper m → IsProper n → spec.body_of m ≡ spec.body_of n → m ≡ n
 body_of-unique m n h k same =
-    let same_values : spec.value_of m ≡ spec.value_of n =
+    let same_values : values.value_of m ≡ values.value_of n =
     same_Some _ _ (sym (read-body_of m h) ∙ ap read same ∙ read-body_of n k) in
     same_Some _ _ (sym (written_as-value_of m h) ∙ ap written_as same_values ∙ written_as-value_of n k)
 

@@ -4,6 +4,7 @@ pub mod Message
 pub mod Params
 pub mod Agreement
 pub mod Outgoing
+pub mod Written
 pub mod Incoming
 pub mod Lengths
 pub mod Seen

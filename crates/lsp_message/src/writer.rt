@@ -7,6 +7,7 @@ ghost use Rattle.std.specs.Prelude.{◌≡◌, ◌++◌, IfOk, OnErr, OnOk};
 ghost use Rattle.serde_json.specs.Written.{compact_text};
 ghost use Rattle.lsp_frame.specs.Frame.{frame};
 ghost use Rattle.lsp_message.specs.Outgoing as spec;
+ghost use Rattle.lsp_message.specs.Written as values;
 ghost use Rattle.lsp_message.specs.laws.Sent.{IsProper, IsReadAsSent, IsReadBack};
 ghost use Rattle.lsp_message.specs.Seen.{did_change_of, outgoing_view};
 
@@ -136,7 +137,7 @@ fn push<V: WriteValue>(bytes: &mut Vec<u8>, value: &V) -> Result<(), AllocError>
 }
 
 impl WriteValue for Outgoing {
-    ghost value = { λ message. spec.value_of (outgoing_view message) };
+    ghost value = { λ message. values.value_of (outgoing_view message) };
 
     fn write(&self, writer: &mut Writer) -> Result<(), AllocError> {
         match self {

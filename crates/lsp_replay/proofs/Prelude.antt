@@ -64,10 +64,11 @@ pub use Rattle.lsp_log.specs.laws.Logs.{BufferedLaw, FirstLaw, IsFirstOf, RestLa
 pub use Rattle.lsp_message.proofs.ReadBack.{body_of-unique, is_read_back, reading-body_of}
 pub use Rattle.lsp_message.specs.Lengths.{is_save, lengths_of, notification_params}
 pub use Rattle.lsp_message.specs.Message.{IdData, MessageData, OutcomeData, Reading, id_in, json_of, message_of, reading, text, whole}
-pub use Rattle.lsp_message.specs.Outgoing.{OutgoingData, body_of, document_text, error_reply, initialize_result, initialize_value, value_of}
+pub use Rattle.lsp_message.specs.Outgoing.{OutgoingData, body_of, document_text, error_reply, initialize_result}
 pub use Rattle.lsp_message.specs.Params.{ChangeData, CloseData, ContentChangeData, DocumentItem, change_by, change_of, close_by, close_of, content_change_in, document_and_changes, document_in, open_by, open_of, version_from, version_in}
 pub use Rattle.lsp_message.specs.Seen.{change_view, content_change_view}
 pub use Rattle.lsp_message.specs.Values.{array_in, each_of, member_at, text_in, whole_in}
+pub use Rattle.lsp_message.specs.Written.{initialize_value, value_of}
 pub use Rattle.lsp_message.specs.declared.outgoing.ErrorCode.{ErrorCode}
 pub use Rattle.lsp_message.specs.declared.outgoing.ErrorCode.TheVariants.{InvalidParams, InvalidRequest, MethodNotFound, ParseError, ServerNotInitialized}
 pub use Rattle.lsp_message.specs.laws.Sent.{IsProperDocument, IsProperId}

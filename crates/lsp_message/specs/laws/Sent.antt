@@ -4,7 +4,8 @@ use Rattle.std.specs.Prelude.{IsUtf8, ◌≡◌, ◌^◌, ◌<◌}
 use Rattle.std.specs.Int.{w32, w64}
 use Rattle.lsp_message.specs.Agreement.{offers_of, announced_of}
 use Rattle.lsp_message.specs.Message.{IdData, whole, text, given, failed, MessageData, request, notification, response, message, reading}
-use Rattle.lsp_message.specs.Outgoing.{OutgoingData, body_of, initialize, initialized, did_open, did_change, did_close, shutdown, exit, initialize_result, shutdown_result, error_reply, initialize_params, open_params, change_params, close_params, initialize_value}
+use Rattle.lsp_message.specs.Outgoing.{OutgoingData, body_of, initialize, initialized, did_open, did_change, did_close, shutdown, exit, initialize_result, shutdown_result, error_reply}
+use Rattle.lsp_message.specs.Written.{initialize_params, open_params, change_params, close_params, initialize_value}
 use Rattle.lsp_message.specs.Params.{DocumentItem, ContentChangeData, ChangeData, open_of, change_of, close_of}
 
 -- ---- messages as the types hold them: numbers in their ranges, and texts in UTF-8

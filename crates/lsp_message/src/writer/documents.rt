@@ -1,6 +1,6 @@
 //! The messages on open documents.
 
-ghost use Rattle.lsp_message.specs.Outgoing as spec;
+ghost use Rattle.lsp_message.specs.Written as values;
 ghost use Rattle.lsp_message.specs.Seen.{content_change_view, did_change_of};
 
 use crate::writer::lifecycle::write_notification;
@@ -21,7 +21,7 @@ pub(crate) struct TextDocumentItem<'a> {
 }
 
 impl<'a> WriteValue for TextDocumentItem<'a> {
-    ghost value = { λ item. spec.opened_document (record {
+    ghost value = { λ item. values.opened_document (record {
       uri = item.uri.now;
       language = item.language.now;
       version = item.version;
@@ -48,7 +48,7 @@ pub(crate) struct DidChange<'a> {
 
 impl<'a> WriteValue for DidChange<'a> {
     ghost value = { λ message.
-        spec.value_of (did_change_of message.uri.now message.version message.changes.now) };
+        values.value_of (did_change_of message.uri.now message.version message.changes.now) };
 
     fn write(&self, writer: &mut Writer) -> Result<(), AllocError> {
         let document = Object((Member("uri", self.uri), Member("version", self.version)));
@@ -61,7 +61,7 @@ impl<'a> WriteValue for DidChange<'a> {
 }
 
 impl WriteValue for Change {
-    ghost value = { λ change. spec.content_change_value (content_change_view change) };
+    ghost value = { λ change. values.content_change_value (content_change_view change) };
 
     fn write(&self, writer: &mut Writer) -> Result<(), AllocError> {
         let text = Member("text", self.text.as_str());
@@ -73,7 +73,7 @@ impl WriteValue for Change {
 }
 
 impl WriteValue for Range {
-    ghost value = { spec.range_value };
+    ghost value = { values.range_value };
 
     fn write(&self, writer: &mut Writer) -> Result<(), AllocError> {
         Object((Member("end", self.stop), Member("start", self.start))).write(writer)
@@ -81,7 +81,7 @@ impl WriteValue for Range {
 }
 
 impl WriteValue for Position {
-    ghost value = { spec.position_value };
+    ghost value = { values.position_value };
 
     fn write(&self, writer: &mut Writer) -> Result<(), AllocError> {
         Object((

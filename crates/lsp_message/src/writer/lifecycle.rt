@@ -4,6 +4,7 @@ ghost use Rattle.std.specs.Prelude.{◌≡◌, OnOk, Some, option_map};
 ghost use Rattle.serde_json.specs.Data.{array};
 ghost use Rattle.serde_json.specs.View.{items_of};
 ghost use Rattle.lsp_message.specs.Outgoing as spec;
+ghost use Rattle.lsp_message.specs.Written as values;
 ghost use Rattle.lsp_message.specs.Seen.{id_view};
 ghost use Rattle.lsp_message.specs.inside.Tokens.{Appends, tokens_of, offer_tokens};
 
@@ -27,7 +28,7 @@ pub(crate) fn write_notification<P: WriteValue + Drop>(
     params: P,
 ) -> Result<(), AllocError>
     ensures tokens { OnOk result (Appends writer.old writer.new
-        (tokens_of (spec.notification_value method.now (Some (P.value params))))) }
+        (tokens_of (values.notification_value method.now (Some (P.value params))))) }
     ensures before { writer.new.before ≡ writer.old.before }
 {
     Object((VERSION, Member("method", method), Member("params", params))).write(writer)
@@ -41,7 +42,7 @@ pub(crate) fn write_response<R: WriteValue + Drop>(
     value: R,
 ) -> Result<(), AllocError>
     ensures tokens { OnOk result (Appends writer.old writer.new
-        (tokens_of (spec.result_value (id_view id.now) (R.value value)))) }
+        (tokens_of (values.result_value (id_view id.now) (R.value value)))) }
     ensures before { writer.new.before ≡ writer.old.before }
 {
     Object((Member("id", Some(id)), VERSION, Member("result", value))).write(writer)
@@ -50,7 +51,7 @@ pub(crate) fn write_response<R: WriteValue + Drop>(
 /// Writes `initialize`, with the encodings that the client offers.
 pub(crate) fn write_initialize(writer: &mut Writer, offers: Offers) -> Result<(), AllocError>
     ensures tokens { OnOk result
-        (Appends writer.old writer.new (tokens_of (spec.value_of (spec.initialize offers)))) }
+        (Appends writer.old writer.new (tokens_of (values.value_of (spec.initialize offers)))) }
     ensures before { writer.new.before ≡ writer.old.before }
 {
     let general = Object(Member("positionEncodings", offers));
@@ -75,7 +76,7 @@ pub(crate) fn write_initialize_result(
     kind: SyncKind,
 ) -> Result<(), AllocError>
     ensures tokens { OnOk result (Appends writer.old writer.new
-        (tokens_of (spec.value_of (spec.initialize_result (id_view id.now) encoding kind)))) }
+        (tokens_of (values.value_of (spec.initialize_result (id_view id.now) encoding kind)))) }
     ensures before { writer.new.before ≡ writer.old.before }
 {
     let sync = Object((Member("change", kind.number()), Member("openClose", true)));
@@ -93,7 +94,7 @@ pub(crate) fn write_error_reply(
     error: ErrorCode,
 ) -> Result<(), AllocError>
     ensures tokens { OnOk result (Appends writer.old writer.new (tokens_of
-        (spec.value_of (spec.error_reply (option_map (λ id. id_view id.now) id.entry) error)))) }
+        (values.value_of (spec.error_reply (option_map (λ id. id_view id.now) id.entry) error)))) }
     ensures before { writer.new.before ≡ writer.old.before }
 {
     let error = Object((
@@ -104,7 +105,7 @@ pub(crate) fn write_error_reply(
 }
 
 impl WriteValue for Offers {
-    ghost value = { λ offers. array (items_of (spec.names_of offers)) };
+    ghost value = { λ offers. array (items_of (values.names_of offers)) };
 
     fn write(&self, writer: &mut Writer) -> Result<(), AllocError> {
         writer.begin_array()?;
@@ -127,7 +128,7 @@ fn write_offer(writer: &mut Writer, offers: Offers, encoding: Encoding) -> Resul
 }
 
 impl<'a> WriteValue for Option<&'a Id> {
-    ghost value = { λ id. spec.id_or_null (option_map (λ id. id_view id.now) id) };
+    ghost value = { λ id. values.id_or_null (option_map (λ id. id_view id.now) id) };
 
     fn write(&self, writer: &mut Writer) -> Result<(), AllocError> {
         match self {

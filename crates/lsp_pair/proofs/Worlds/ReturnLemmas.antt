@@ -1,7 +1,7 @@
 -- What the client makes of each message that waits for it.
 use Rattle.lsp_pair.proofs.Prelude.{ℕ, ◌≡◌, ◌≤◌, true, false, List, [], ◌∷◌, ◌++◌, length, map, Some, refl, ap, ◌∙◌, arith, ⊤, drop-append-le, Encoding, Utf8, Utf16, Utf32, Offers, reading, message, OutgoingData, body_of, sent, reading-body_of, is_read_back, encoding_chosen, announced_kind, Closed, ClientData, Delivery, delivery_of, delivery_in, is_awaited, begin_if_agreed, begin_as_announced, begin_in, is_listening, Client, Setting, heard_of, messages_in, IsFitting, can_choose_utf16, ClientMessage, lifecycle, World, client_of, turn_of_delivery, waiting_back, IsUsualBack, common_steps}
 use Rattle.lsp_message.specs.Agreement.{is_offered, announced_of}
-use Rattle.lsp_message.specs.Outgoing.{initialize_value}
+use Rattle.lsp_message.specs.Written.{initialize_value}
 use Rattle.lsp_server.specs.declared.config.EncodingChoice.{EncodingChoice}
 use Rattle.lsp_server.specs.declared.config.EncodingChoice.TheVariants.{Fixed, Negotiated}
 use Rattle.lsp_server.specs.declared.config.ChangeForm.{ChangeForm}

@@ -2,6 +2,7 @@
 use Rattle.lsp_replay.proofs.Prelude.{◌≡◌, ℕ, ℤ, zero, suc, ◌^◌, ◌<◌, ◌≤◌, Bool, true, false, List, [], ◌∷◌, ◌++◌, length, map, Option, Some, None, refl, sym, ap, ◌∙◌, subst, arith, take, bytes_eq, FitsSigned, IsUtf8, ⊤, codes, if◌then◌else◌, option_and_then, option_map, option_map_or, is_utf8, cases_Bool, ltb-false, IsUtf8-from_is_utf8, Json, IsUtf8-are_ascii, are_ascii, Data, null, boolean, number, string, array, object, Members, get, get_member, read, LimitsData, AreInRange, units_in, ContentChange, IdData, MessageData, OutcomeData, Reading, id_in, json_of, message_of, reading, ChangeData, CloseData, close_by, close_of, DocumentItem, change_by, change_of, document_and_changes, document_in, open_by, open_of, version_in, content_change_in, each_of, text_in, value_of, IsProperId, AllWithin, Refusal, after_change, after_close, after_open, change_refusal, close_refusal, entry_at, open_refusal, unless_refused, AnswerData, changed, refused, Phase, New, Running, Down, Ended, IncomingData, not_json, not_a_message, response, initialize, shutdown, other_request, exit, did_open, did_change, did_close, other_notification, incoming_by, incoming_of, ServerData, content_change_from_data, result_step, session_encoding, step_in, one_more, Sender, Client, Server, Version, Record, canonical_change_body, canonical_if, canonical_of_record, change_in, Known, known_after, last_in, uri_of, Mention, is_mention, last_for, last_record, mentioned, most_mentions, without, Session, Verdict, answered, recorded, bad, encoding_for, has_changed, is_change, judge, judge_from, id_of, is_json, method_of, within, common_steps}
 use Rattle.std.specs.Int.{w32}
 use Rattle.lsp_message.specs.Agreement.{offers_of}
+use Rattle.lsp_message.proofs.BodyLemmas.{body_is}
 use Rattle.lsp_store.specs.Message.{change_body, change_message}
 use Rattle.lsp_replay.proofs.JsonLines.PlainLemmas.{visible_compact}
 use Rattle.lsp_replay.proofs.JsonLines.StringLemmas.{are_visible}
@@ -394,7 +395,9 @@ is_change_body server p _ body e = absurd (let no : None ≡ Some body = e in cc
 visible_change : (uri : List ℕ) (version : ℤ) (batch : List ContentChange)
     → are_visible (change_body uri version batch) ≡ true
 unfolding change_body
-visible_change uri version batch = visible_compact (value_of (change_message uri version batch))
+visible_change uri version batch =
+    ap are_visible (body_is (change_message uri version batch))
+    ∙ visible_compact (value_of (change_message uri version batch))
 
 within_both : (max : ℕ) (o : Option (List ℕ)) (body : List ℕ) → within max o ≡ Some body
     → (o ≡ Some body) × (length body ≤ max)

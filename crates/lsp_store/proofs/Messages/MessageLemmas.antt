@@ -3,8 +3,9 @@ use Rattle.lsp_store.proofs.Prelude.{ℕ, ℤ, ◌≡◌, ◌<◌, ◌≤◌, �
 use Rattle.std.specs.Int.{w32}
 use Rattle.lsp_frame.specs.Encode.{IsEncodeFault}
 use Rattle.lsp_frame.specs.declared.written.EncodeFault.{EncodeFault}
-use Rattle.lsp_message.specs.Outgoing.{OutgoingData, initialize, initialized, did_open, did_change, did_close, shutdown, exit, initialize_result, shutdown_result, error_reply, body_of, change_params}
+use Rattle.lsp_message.specs.Outgoing.{OutgoingData, initialize, initialized, did_open, did_change, did_close, shutdown, exit, initialize_result, shutdown_result, error_reply, body_of}
 use Rattle.lsp_message.specs.Seen.{content_change_view}
+use Rattle.lsp_message.specs.Written.{change_params}
 use Rattle.lsp_store.specs.Message.{AreTexts, DoAlike, IsCanonicalOn, IsReadAgain, IsCanonicalOf, body_refusal, canonical_batch, canonical_body, canonical_frame, change_body, change_message, else_refused, written_content_change}
 use Rattle.lsp_store.proofs.Messages.FrameLemmas.{frame_one}
 use Rattle.lsp_store.proofs.Messages.ProperLemmas.{bytes_sum, canonical_proper}
