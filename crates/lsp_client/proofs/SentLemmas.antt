@@ -2,18 +2,21 @@
 use Rattle.lsp_client.proofs.Prelude.{◌≡◌, ◌≢◌, ℕ, ℤ, List, [], ◌∷◌, Option, Some, None, Ok, refl, sym, ap, ◌∙◌, frame, Encoding, units_in, ContentChange, SyncKind, Full, did_open, did_close, body_of, DocumentItem, StoreFault, IsRefusal, StoreData, Takes, Command, entry_at, command_refusal, table_after, IsSent, IsFaultOf, client_fault, IsOrderFault, order_refusal, whole_change, whole_text}
 use Rattle.lsp_frame.specs.Limits.{LimitsData}
 use Rattle.lsp_message.specs.declared.agreement.Offers.{Offers}
-use Rattle.lsp_store.specs.Message.{body_refusal, change_body, whole_batch, else_refused, message_refusal, canonical_body, canonical_frame}
+use Rattle.lsp_store.specs.Message.{body_refusal, change_body, whole_batch, message_refusal, canonical_body, canonical_frame}
 use Rattle.lsp_client.specs.declared.agreed.Agreed.{Agreed}
 use Rattle.lsp_client.specs.declared.phase.Phase.{Phase}
 use Rattle.lsp_client.specs.declared.phase.Phase.TheVariants.{Ready}
 use Rattle.lsp_client.specs.Step.{ClientData, Order, edits, orders, agreement, sent_body, command_result, call_result}
-use Rattle.lsp_client.proofs.OrderLemmas.{refused, refused_later, sent_if, canonical_sent}
+use Rattle.lsp_client.proofs.OrderLemmas.{refused, canonical_sent}
 use Rattle.lsp_edit.specs.Delta.{bytes_after}
 use Rattle.lsp_store.specs.declared.store.plan.Plan.{Plan}
 use Rattle.lsp_store.specs.Plan.{IsPlanOf}
 use Rattle.lsp_store.proofs.LawLemmas.{found_changed}
 use Rattle.lsp_store.proofs.Tables.RefusalLemmas.{meaning_accepted}
 use Rattle.lsp_store.specs.Table as documents
+use Rattle.lsp_store.proofs.Tables.FirstLemmas.{later_none}
+use Rattle.std.specs.Prelude.{String, string_bytes}
+use Rattle.std.specs.declared.alloc.Global.{Global}
 
 -- a client with these documents
 abbrev pub with_store : Offers → Phase → Option Agreed → StoreData → ClientData
@@ -23,6 +26,15 @@ with_store offers phase agreed store = record {
   phase = phase;
   agreed = agreed;
   table = store.table;
+}
+
+-- the document that an order opens
+abbrev pub document_of : String Global → String Global → ℤ → String Global → DocumentItem
+document_of uri language version text = record {
+  uri = string_bytes uri;
+  language = string_bytes language;
+  version = version;
+  text = string_bytes text;
 }
 
 unless_ok : (refusal : Option documents.Refusal) (table new : List DocumentItem)
@@ -52,20 +64,23 @@ pub order_sent : (offers : Offers) (phase : Phase) (agreed : Option Agreed) (old
     (kind : SyncKind) (command : Command) (bytes : List ℕ)
     → with_store offers phase agreed old ≡ s → Takes old command new → IsFramed s kind command bytes
     → IsSent (command_result s kind command) bytes (with_store offers phase agreed new)
+unfolding sent_body
 order_sent offers phase agreed old new s kind command bytes view takes framed =
     let parts = taken_parts old new command takes in
     let limits : old.limits ≡ s.limits = ap (λ (x : ClientData). x.limits) view in
     let table : old.table ≡ s.table = ap (λ (x : ClientData). x.table) view in
     let next : new.table ≡ table_after s.table command = parts.1 ∙ ap (λ t. table_after t command) table in
     let may : command_refusal s.limits s.table command ≡ None = rw (limits, table) at parts.0 in
-    sent_if s kind command bytes (with_store offers phase agreed new) may framed.0 framed.1
-    (λ i. record {
-      limits = (takes.limits ∙ limits) i;
-      offers = (view i).offers;
-      phase = (view i).phase;
-      agreed = (view i).agreed;
-      table = next i;
-    })
+    rw (may, framed.0) (
+      framed.1,
+      λ i. record {
+        limits = (takes.limits ∙ limits) i;
+        offers = (view i).offers;
+        phase = (view i).phase;
+        agreed = (view i).agreed;
+        table = next i;
+      },
+    )
 
 -- The body of an order is the one that is sent.
 pub close_sent : (kind : SyncKind) (table : List DocumentItem) (copy uri : List ℕ) → copy ≡ uri
@@ -84,8 +99,7 @@ pub long_refused : (limits : LimitsData) (s : ClientData) (kind : SyncKind) (com
     → command_refusal s.limits s.table command ≡ None → body ≡ sent_body kind s.table command
     → IsRefusal (body_refusal limits body) fault → IsRefusal (order_refusal s.limits kind s.table command) fault
 long_refused limits s kind command body fault same may is why =
-    refused_later (command_refusal s.limits s.table command) (body_refusal s.limits (sent_body kind s.table command))
-    fault may (rw (same, is) at why)
+    rw may (rw (same, is) at why)
 
 -- A document that is open may be closed.
 pub may_close : (limits : LimitsData) (table : List DocumentItem) (uri : List ℕ) (entry : DocumentItem) → Some entry
@@ -98,11 +112,6 @@ pub order_fault : (s : ClientData) (order : Order) (fault : StoreFault) → s.ph
 order_fault s order fault ready why = rw ready (refused _ _ fault why)
 
 -- ---- changes
-
--- A later refusal, if there is none of both.
-second_none : (first later : Option documents.Refusal) → else_refused first later ≡ None → later ≡ None
-second_none None later none = none
-second_none (Some refusal) later none = absurd (cc)
 
 module _ (s : ClientData) (uri : List ℕ) (version : ℤ) (batch : List ContentChange) where
   abbrev pub change_of : Command
@@ -124,9 +133,8 @@ module _ (s : ClientData) (uri : List ℕ) (version : ℤ) (batch : List Content
         → message_refusal s.limits (units_in (agreement s).encoding) s.table uri version batch ≡ None
         → IsFramed s (agreement s).kind change_of bytes
     canonical_framed bytes framed none = (
-      rw same_body (second_none (command_refusal s.limits s.table change_of) _ none),
-      framed ∙ ap frame
-          (sym same_body),
+      rw same_body (later_none (command_refusal s.limits s.table change_of) _ none),
+      framed ∙ ap frame (sym same_body),
     )
 
   -- Under Full the body is that of the text that the batch leaves.

@@ -1,5 +1,5 @@
 -- A change in two halves, as one step.
-use Rattle.lsp_server.proofs.Prelude.{ℕ, ℤ, ◌≡◌, ◌≢◌, ◌⊎◌, inl, inr, List, map, Result, Ok, Some, string_bytes, sym, ap, subst, refl, ◌∙◌, Change, ContentChange, ChangeData, change_view, content_change_view, did_change, Encoding, StoreFault, NoMemory, StoreData, IsRefused, Command, changes, Answer, Dropped, Refused, Store, Down, New, Running, dropped, refused, IsStepOf, IsNotObeyed, IsPlanOfChange, IsPlannedAs, store_of, ServerData, Step, change_command, content_change_from_data, session_encoding, command_step, unchanged_step, step_in, step_on}
+use Rattle.lsp_server.proofs.Prelude.{ℕ, ℤ, ◌≡◌, ◌≢◌, ◌⊎◌, inl, inr, List, map, Result, Ok, Some, string_bytes, sym, ap, subst, refl, ◌∙◌, Change, ContentChange, ChangeData, change_view, content_change_view, did_change, Encoding, StoreFault, NoMemory, StoreData, IsRefused, Command, changes, Answer, Dropped, Refused, Store, Down, New, Running, refused, IsStepOf, IsNotObeyed, IsPlanOfChange, IsPlannedAs, store_of, ServerData, Step, change_command, content_change_from_data, session_encoding, command_step, unchanged_step, step_in, step_on}
 use Rattle.lsp_edit.specs.Edited.{content_change}
 use Rattle.lsp_message.specs.declared.params.ChangeParams.{ChangeParams}
 use Rattle.lsp_store.specs.declared.store.plan.Plan.{Plan}
@@ -48,32 +48,13 @@ refused_is s store p uri version encoding edits fault a store_is uri_is version_
     subst (λ (of : StoreData). IsRefused of (change_command s (change_view p)) fault) store_is given in
     let step : step_on s (did_change (Some (change_view p))) ≡ unchanged_step s (refused (Store fault)) =
     running_step s (change_view p) running ∙ obeyed_as_refused s (change_command s (change_view p)) fault why.0 same in
-    subst (λ (b : Answer). IsNotObeyed s (step_on s (did_change (Some (change_view p)))) b) (sym why.1)
-    (subst (λ (taken : Step). IsNotObeyed s taken (Refused (Store fault))) (sym step) (record {
-      answer = refl;
-      unchanged = refl;
-      not_changed = λ e. cc;
-    }))
+    rw (why.1, step) (record { answer = refl; unchanged = refl; not_changed = λ e. cc })
 
 -- Outside phase Running a change is dropped.
 pub dropped_is : (s : ServerData) (p : ChangeData) → (s.phase ≡ New) ⊎ (s.phase ≡ Down)
     → IsNotObeyed s (step_on s (did_change (Some p))) Dropped
-dropped_is s p (inl new) =
-    let step : step_on s (did_change (Some p)) ≡ unchanged_step s dropped =
-    ap (λ phase. step_in phase s (did_change (Some p))) new in
-    subst (λ (taken : Step). IsNotObeyed s taken Dropped) (sym step) (record {
-      answer = refl;
-      unchanged = refl;
-      not_changed = λ e. cc;
-    })
-dropped_is s p (inr down) =
-    let step : step_on s (did_change (Some p)) ≡ unchanged_step s dropped =
-    ap (λ phase. step_in phase s (did_change (Some p))) down in
-    subst (λ (taken : Step). IsNotObeyed s taken Dropped) (sym step) (record {
-      answer = refl;
-      unchanged = refl;
-      not_changed = λ e. cc;
-    })
+dropped_is s p (inl new) = rw new (record { answer = refl; unchanged = refl; not_changed = λ e. cc })
+dropped_is s p (inr down) = rw down (record { answer = refl; unchanged = refl; not_changed = λ e. cc })
 
 -- What was planned may be committed, if it is a plan.
 pub accepted_on : (s : ServerData) (p : ChangeData) (planned : PlannedChange) (plan : Plan) → planned ≡ Accepted plan

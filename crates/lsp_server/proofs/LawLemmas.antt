@@ -1,15 +1,16 @@
 -- What holds of every row of the table of steps.
-use Rattle.lsp_server.proofs.Prelude.{ℕ, ◌≡◌, ◌≢◌, ◌≤◌, Bool, true, false, if◌then◌else◌, codes, List, Option, Some, None, Result, Ok, Err, refl, ap, arith, bytes_eq, OutgoingData, initialize_result, shutdown_result, error_reply, DocumentItem, open_of, change_of, close_of, Encoding, Command, after_command, New, Running, Down, Ended, AnswerData, reply, changed, exits, IncomingData, response, initialize, shutdown, other_request, exit, did_open, did_change, did_close, other_notification, request_of, notification_of, RepliesTo, way_of, ChangesNothing, ServerData, Step, unchanged_step, phase_step, begin_step, result_step, step_in}
+use Rattle.lsp_server.proofs.Prelude.{ℕ, ◌≡◌, ◌≢◌, ◌≤◌, Bool, true, false, if◌then◌else◌, List, Option, Some, None, Result, Ok, Err, refl, ap, arith, bytes_eq, OutgoingData, shutdown_result, DocumentItem, Encoding, New, Running, Down, Ended, AnswerData, reply, changed, exits, IncomingData, response, initialize, shutdown, other_request, exit, did_open, did_change, did_close, other_notification, request_of, notification_of, RepliesTo, way_of, ChangesNothing, ServerData, Step, unchanged_step, phase_step, result_step, step_in}
 use Rattle.serde_json.specs.Data.{Data}
 use Rattle.lsp_message.specs.declared.agreement.Offers.{Offers}
-use Rattle.lsp_message.specs.declared.outgoing.ErrorCode.TheVariants.{InvalidRequest, MethodNotFound, InvalidParams, ServerNotInitialized}
-use Rattle.lsp_message.specs.Agreement.{is_offered, offers_of}
+use Rattle.lsp_message.specs.Agreement.{is_offered}
 use Rattle.lsp_message.specs.Message.{IdData}
 use Rattle.lsp_text.specs.declared.encoding.Encoding.TheVariants.{Utf16}
 use Rattle.lsp_server.specs.declared.config.EncodingChoice.TheVariants.{Negotiated}
 use Rattle.lsp_server.specs.declared.phase.Phase.{Phase}
-use Rattle.lsp_server.specs.Choice.{encoding_chosen, announced_kind}
+use Rattle.lsp_server.specs.Choice.{encoding_chosen}
 use Rattle.lsp_store.specs.Table as table
+use Rattle.std.proofs.lemmas.Grind.{common_steps}
+use Rattle.std.proofs.lemmas.Bool.{cases_Bool}
 
 -- ---- requests
 
@@ -20,34 +21,17 @@ IsRequestOf id (shutdown other) = other ≡ id
 IsRequestOf id (other_request other method) = other ≡ id
 IsRequestOf id m = ⊥
 
-one_of : (id : IdData) (a b : Bool) (x y z : IncomingData) → IsRequestOf id x → IsRequestOf id y → IsRequestOf id z
-    → IsRequestOf id (if a then x else if b then y else z)
-one_of id true b x y z p q r = p
-one_of id false true x y z p q r = q
-one_of id false false x y z p q r = r
-
 pub request_of-is : (id : IdData) (method : List ℕ) (params : Option Data)
     → IsRequestOf id (request_of id method params)
-request_of-is id method params =
-    one_of id (bytes_eq method (codes "initialize")) (bytes_eq method (codes "shutdown"))
-    (initialize id (offers_of params)) (shutdown id)
-    (other_request id method) refl refl refl
+request_of-is id method params = grind (arith, common_steps, bytes_eq, cases_Bool)
 
 pub replied : (p : Phase) (s : ServerData) (id : IdData) (m : IncomingData) → IsRequestOf id m → p ≢ Ended
     → RepliesTo id (step_in p s m).answer
 replied Ended s id m is live = absurd (live refl)
-replied New s id (initialize other None) is live = (error_reply (Some other) InvalidParams, refl, ap Some is)
-replied New s id (initialize other (Some offers)) is live =
-    (initialize_result other (encoding_chosen s.config.choice offers) (announced_kind s.config.sync), refl, ap Some is)
-replied New s id (shutdown other) is live = (error_reply (Some other) ServerNotInitialized, refl, ap Some is)
-replied New s id (other_request other method) is live =
-    (error_reply (Some other) ServerNotInitialized, refl, ap Some is)
-replied Running s id (initialize other offers) is live = (error_reply (Some other) InvalidRequest, refl, ap Some is)
-replied Running s id (shutdown other) is live = (shutdown_result other, refl, ap Some is)
-replied Running s id (other_request other method) is live = (error_reply (Some other) MethodNotFound, refl, ap Some is)
-replied Down s id (initialize other offers) is live = (error_reply (Some other) InvalidRequest, refl, ap Some is)
-replied Down s id (shutdown other) is live = (error_reply (Some other) InvalidRequest, refl, ap Some is)
-replied Down s id (other_request other method) is live = (error_reply (Some other) InvalidRequest, refl, ap Some is)
+replied New s id (initialize other None) is live = (_, refl, ap Some is)
+replied p s id (initialize other offers) is live = (_, refl, ap Some is)
+replied p s id (shutdown other) is live = (_, refl, ap Some is)
+replied p s id (other_request other method) is live = (_, refl, ap Some is)
 replied p s id m is live = absurd is
 
 -- ---- notifications
@@ -60,22 +44,8 @@ IsNotification (did_close params) = Unit {0}
 IsNotification (other_notification method) = Unit {0}
 IsNotification m = ⊥
 
-one_of_five : (a b c d : Bool) (v w x y z : IncomingData)
-    → IsNotification v → IsNotification w → IsNotification x → IsNotification y → IsNotification z
-    → IsNotification (if a then v else if b then w else if c then x else if d then y else z)
-one_of_five true b c d v w x y z p q r s t = p
-one_of_five false true c d v w x y z p q r s t = q
-one_of_five false false true d v w x y z p q r s t = r
-one_of_five false false false true v w x y z p q r s t = s
-one_of_five false false false false v w x y z p q r s t = t
-
 pub notification_of-is : (method : List ℕ) (params : Option Data) → IsNotification (notification_of method params)
-notification_of-is method params =
-    one_of_five (bytes_eq method (codes "exit")) (bytes_eq method (codes "textDocument/didOpen"))
-    (bytes_eq method (codes "textDocument/didChange"))
-    (bytes_eq method (codes "textDocument/didClose")) exit (did_open (open_of params)) (did_change (change_of params))
-    (did_close (close_of params))
-    (other_notification method) tt tt tt tt tt
+notification_of-is method params = grind (arith, common_steps, bytes_eq, cases_Bool)
 
 obeyed_quietly : (s : ServerData) (result : Result (List DocumentItem) table.Refusal) (m : OutgoingData)
     → (result_step s result).answer ≢ reply m
@@ -85,32 +55,17 @@ obeyed_quietly s (Err refusal) m = λ e. cc
 pub unreplied : (p : Phase) (s : ServerData) (n : IncomingData) (m : OutgoingData) → IsNotification n
     → (step_in p s n).answer ≢ reply m
 unreplied Ended s n m is = λ e. cc
-unreplied New s exit m is = λ e. cc
-unreplied New s (did_open params) m is = λ e. cc
-unreplied New s (did_change params) m is = λ e. cc
-unreplied New s (did_close params) m is = λ e. cc
-unreplied New s (other_notification method) m is = λ e. cc
-unreplied Running s exit m is = λ e. cc
-unreplied Running s (did_open None) m is = λ e. cc
-unreplied Running s (did_change None) m is = λ e. cc
-unreplied Running s (did_close None) m is = λ e. cc
 unreplied Running s (did_open (Some p)) m is = obeyed_quietly s _ m
 unreplied Running s (did_change (Some p)) m is = obeyed_quietly s _ m
 unreplied Running s (did_close (Some p)) m is = obeyed_quietly s _ m
-unreplied Running s (other_notification method) m is = λ e. cc
-unreplied Down s exit m is = λ e. cc
-unreplied Down s (did_open params) m is = λ e. cc
-unreplied Down s (did_change params) m is = λ e. cc
-unreplied Down s (did_close params) m is = λ e. cc
-unreplied Down s (other_notification method) m is = λ e. cc
-unreplied p s n m is = absurd is
+unreplied p s exit m is = λ e. grind arith
+unreplied New s n m is = λ e. grind arith
+unreplied p s n m is = λ e. grind arith
 
 pub unanswered : (p : Phase) (s : ServerData) (id : Option IdData) (m : OutgoingData)
     → (step_in p s (response id)).answer ≢ reply m
 unanswered Ended s id m = λ e. cc
-unanswered New s id m = λ e. cc
-unanswered Running s id m = λ e. cc
-unanswered Down s id m = λ e. cc
+unanswered _ s id m = λ e. cc
 
 -- ---- what stays
 
@@ -130,10 +85,6 @@ goes_kept : (p q : Phase) (s : ServerData) (answer : AnswerData OutgoingData) �
 goes_kept p q s answer on apart =
     record { config = refl; forward = on; documents = λ _. refl; refusal = λ h. absurd (apart h) }
 
-begins_kept : (s : ServerData) (id : IdData) (offers : Offers) → Keeps New s (begin_step s id offers)
-begins_kept s id offers =
-    record { config = refl; forward = omega arith; documents = λ _. refl; refusal = λ h. absurd h }
-
 obeyed_kept : (p : Phase) (s : ServerData) (result : Result (List DocumentItem) table.Refusal) → s.phase ≡ p
     → Keeps p s (result_step s result)
 obeyed_kept p s (Ok next) e =
@@ -146,18 +97,16 @@ obeyed_kept p s (Ok next) e =
 obeyed_kept p s (Err refusal) e = stays_kept p s _ e
 
 pub kept : (p : Phase) (s : ServerData) (m : IncomingData) → s.phase ≡ p → Keeps p s (step_in p s m)
-kept Ended s m e = stays_kept Ended s _ e
 kept New s exit e = goes_kept New Ended s (exits 1) (omega arith) (λ h. h)
-kept New s (initialize id (Some offers)) e = begins_kept s id offers
-kept New s m e = stays_kept New s _ e
+kept New s (initialize id (Some offers)) e =
+    record { config = refl; forward = omega arith; documents = λ _. refl; refusal = λ h. absurd h }
 kept Running s exit e = goes_kept Running Ended s (exits 1) (omega arith) (λ h. h)
 kept Running s (shutdown id) e = goes_kept Running Down s (reply (shutdown_result id)) (omega arith) (λ h. h)
 kept Running s (did_open (Some p)) e = obeyed_kept Running s _ e
 kept Running s (did_change (Some p)) e = obeyed_kept Running s _ e
 kept Running s (did_close (Some p)) e = obeyed_kept Running s _ e
-kept Running s m e = stays_kept Running s _ e
 kept Down s exit e = goes_kept Down Ended s (exits 0) (omega arith) (λ h. h)
-kept Down s m e = stays_kept Down s _ e
+kept p s m e = stays_kept p s _ e
 
 -- ---- the encoding
 

@@ -16,32 +16,20 @@ IsRefusingSent a = ⊤
 
 as_viewed : (a : Answer) → IsRefusing a → IsRefusingSent (answer_view a)
 as_viewed (Reply frame code) h = h
-as_viewed Changed h = h
-as_viewed Dropped h = h
-as_viewed Ignored h = h
-as_viewed (Refused refusal) h = h
-as_viewed (variants.Exit status) h = h
+as_viewed _ h = h
 
 no_code : IsSome {T = ErrorCode} None → ⊥
 no_code h = cc
 
 as_answered : (a : AnswerData OutgoingData) → IsRefusingSent (as_sent a) → ChangesNothing a
 as_answered (reply (outgoing.error_reply id error)) h = tt
-as_answered (reply (outgoing.initialize offers)) h = no_code h
-as_answered (reply outgoing.initialized) h = no_code h
-as_answered (reply (outgoing.did_open p)) h = no_code h
-as_answered (reply (outgoing.did_change p)) h = no_code h
-as_answered (reply (outgoing.did_close p)) h = no_code h
-as_answered (reply outgoing.shutdown) h = no_code h
-as_answered (reply outgoing.exit) h = no_code h
-as_answered (reply (outgoing.initialize_result id encoding kind)) h = no_code h
-as_answered (reply (outgoing.shutdown_result id)) h = no_code h
 as_answered changed h = h
 as_answered dropped h = tt
 as_answered ignored h = tt
 as_answered already_ended h = tt
 as_answered (refused why) h = tt
 as_answered (exits status) h = h
+as_answered _ h = no_code h
 
 -- After a call that took a step and was refused the server is as before.
 pub refused_stays : {E : Type 0} (s new : ServerData) (m : IncomingData) (a : Answer)

@@ -1,11 +1,12 @@
 -- What is true of the table of documents.
 -- ---- what an accepted command says of the table
-use Rattle.lsp_store.proofs.Prelude.{ℕ, ℤ, ◌≡◌, true, false, List, [], ◌∷◌, ◌++◌, length, map, IsUtf8, bytes_eq, encode_utf8_all, Some, None, Ok, refl, ap, ◌∙◌, arith, ⊎_elim, chars, cases_Bool, sum_by-cons, bytes_eq-Decides, encodes-chars, LimitsData, AreInRange, units_in, New, ContentChange, meaning, bytes_left, DocumentItem, Command, opens, changes, closes, batch_bytes, entry_at, entry_refusal, change_refusal, changed, after_change, after_close, table_after, table_from, AreTexts, whole_text, whole_batch, WholeTextLaw, UniqueLaw, TableLaw, LastLaw, IsWithin, AreUnique, AreAccepted, IsInOrder, AreWithin, common_steps}
+use Rattle.lsp_store.proofs.Prelude.{ℕ, ℤ, ◌≡◌, false, List, [], ◌∷◌, ◌++◌, length, map, IsUtf8, bytes_eq, encode_utf8_all, Some, None, refl, ap, ◌∙◌, arith, chars, cases_Bool, sum_by-cons, bytes_eq-Decides, encodes-chars, LimitsData, AreInRange, units_in, New, ContentChange, bytes_left, DocumentItem, Command, opens, changes, closes, batch_bytes, entry_at, entry_refusal, changed, after_change, after_close, table_after, table_from, AreTexts, whole_text, WholeTextLaw, UniqueLaw, TableLaw, LastLaw, IsWithin, AreUnique, AreAccepted, IsInOrder, AreWithin, common_steps, subst, sym}
 use Rattle.lsp_edit.proofs.Parts.CutLemmas.{text_of-new}
 use Rattle.lsp_store.proofs.Tables.LenientLemmas.{still_new}
 use Rattle.lsp_store.proofs.Messages.MessageLemmas.{Accepts, accepted_parts, accepted_from, leaves_same}
 use Rattle.lsp_store.proofs.GreaterLemmas.{change_parts, change_from}
 use Rattle.lsp_store.proofs.WithinLemmas.{within_at, within_changed, within_law}
+use Rattle.lsp_store.specs.laws.Tables.{IsReplacedBy}
 
 -- a changed document is found where it was
 pub found_changed : (units : ℕ → ℕ) (table : List DocumentItem) (uri : List ℕ) (version : ℤ)
@@ -13,22 +14,10 @@ pub found_changed : (units : ℕ → ℕ) (table : List DocumentItem) (uri : Lis
     → entry_at (after_change units table uri version batch) uri ≡ Some (changed units entry version batch)
 found_changed units [] uri version batch entry found = absurd (let bad : None ≡ Some entry = found in cc)
 found_changed units (first ∷ table) uri version batch entry found =
-    ⊎_elim
-    (λ (is : bytes_eq uri first.uri ≡ true).
-    let at : Some first ≡ Some entry = rw is at found in
-    let same : first ≡ entry = cc in
-    rw (is, is, same) refl)
-    (λ (not : bytes_eq uri first.uri ≡ false). rw (
-      not,
-      not,
-    ) (found_changed units table uri version batch entry (rw not at found)))
-    (cases_Bool (bytes_eq uri first.uri))
+    grind (arith, common_steps, bytes_eq, cases_Bool, (found_changed units table uri version batch entry))
 
 abbrev pub one_text : List ℕ → List ContentChange
 one_text bytes = record { range = None; text = chars bytes } ∷ []
-
-one_means : (units : ℕ → ℕ) (old bytes : List ℕ) → meaning units old (one_text bytes) ≡ Ok (map New (chars bytes))
-one_means units old bytes = refl
 
 one_bytes : (old bytes : List ℕ) → IsUtf8 bytes → bytes_left old (map New (chars bytes)) ≡ bytes
 one_bytes old bytes utf8 = ap encode_utf8_all (text_of-new (chars old) (chars bytes)) ∙ encodes-chars bytes utf8
@@ -52,35 +41,27 @@ whole_accepts small great units entry version batch ranges within kept texts e =
       few = omega (arith, few, ranges.least_changes);
       fits = omega (arith, one_weighs bytes left.utf8, left.short, ranges.greatest_text);
       items = map New (chars bytes);
-      means = one_means units (chars entry.text) bytes;
+      means = refl;
       short = omega (arith, ap length (one_bytes entry.text bytes left.utf8), left.short, text);
     }
 
-whole_leaves : (units : ℕ → ℕ) (entry : DocumentItem) (version : ℤ) (bytes : List ℕ) → IsUtf8 bytes
-    → changed units entry version (one_text bytes) ≡ record entry { version = version; text = bytes }
-whole_leaves units entry version bytes utf8 = ap (λ (text : List ℕ). record entry { version = version; text = text })
-    (one_bytes entry.text bytes utf8)
-
 pub whole_text_law : WholeTextLaw
 whole_text_law small great encoding table uri version batch ranges within kept texts e =
-    let m = change_parts small (units_in encoding) table uri version batch e in
+    let units = units_in encoding in
+    let m = change_parts small units table uri version batch e in
     let h = within_at small table uri m.entry kept m.is_open in
-    let left = within_changed small (units_in encoding) m.entry version batch texts h m.may in
-    let is : whole_batch (units_in encoding) table uri version batch
-    ≡ one_text (changed (units_in encoding) m.entry version batch).text
-    = ap whole_text (found_changed (units_in encoding) table uri version batch m.entry m.is_open) in
-    record {
+    let left = within_changed small units m.entry version batch texts h m.may in
+    subst (λ (b : List ContentChange). IsReplacedBy great (units_in encoding) table uri version batch b)
+    (sym (ap whole_text (found_changed units table uri version batch m.entry m.is_open))) (record {
       accepted =
-          ap (λ (b : List ContentChange). change_refusal great (units_in encoding) table uri version b) is
-          ∙ change_from great (units_in encoding) table uri version _ m.entry m.is_open
-          (accepted_from great (units_in encoding) m.entry version _ (whole_accepts small great (units_in encoding)
-          m.entry version batch ranges within h texts m.may));
+          change_from great units table uri version _ m.entry m.is_open
+          (accepted_from great units m.entry version _ (whole_accepts small great units m.entry version batch ranges
+          within h texts m.may));
       leaves =
-          ap (λ (b : List ContentChange). after_change (units_in encoding) table uri version b) is
-          ∙ leaves_same (units_in encoding) table uri version _ batch m.entry m.is_open
-          (whole_leaves (units_in encoding) m.entry version (changed (units_in encoding) m.entry version batch).text
-          left.utf8);
-    }
+          leaves_same units table uri version _ batch m.entry m.is_open
+          (ap (λ (text : List ℕ). record m.entry { version = version; text = text })
+          (one_bytes m.entry.text _ left.utf8));
+    })
 
 -- ---- one command more
 
@@ -114,23 +95,13 @@ unique_last : (table : List DocumentItem) (entry : DocumentItem) → AreUnique t
     → AreUnique (table ++ entry ∷ [])
 unique_last [] entry unique new = (refl, tt)
 unique_last (first ∷ table) entry unique new =
-    let parts = first_differs first table entry.uri new in (
-      none_last table entry first.uri unique.0 (not_equal entry.uri first.uri parts.0),
-      unique_last table entry unique.1 parts.1,
-    )
+    grind (arith, common_steps, first_differs, none_last, not_equal, (unique_last table entry unique.1))
 
 none_changed : (units : ℕ → ℕ) (table : List DocumentItem) (uri : List ℕ) (version : ℤ) (batch : List ContentChange)
     (other : List ℕ) → entry_at table other ≡ None → entry_at (after_change units table uri version batch) other ≡ None
 none_changed units [] uri version batch other none = refl
 none_changed units (first ∷ table) uri version batch other none =
-    let parts = first_differs first table other none in
-    ⊎_elim
-    (λ (is : bytes_eq uri first.uri ≡ true). rw (is, parts.0) parts.1)
-    (λ (not : bytes_eq uri first.uri ≡ false). rw (
-      not,
-      parts.0,
-    ) (none_changed units table uri version batch other parts.1))
-    (cases_Bool (bytes_eq uri first.uri))
+    grind (arith, common_steps, bytes_eq, cases_Bool, (none_changed units table uri version batch other))
 
 unique_changed : (units : ℕ → ℕ) (table : List DocumentItem) (uri : List ℕ) (version : ℤ) (batch : List ContentChange)
     → AreUnique table → AreUnique (after_change units table uri version batch)
@@ -149,11 +120,7 @@ none_closed : (table : List DocumentItem) (uri other : List ℕ) → entry_at ta
     → entry_at (after_close table uri) other ≡ None
 none_closed [] uri other none = refl
 none_closed (first ∷ table) uri other none =
-    let parts = first_differs first table other none in
-    ⊎_elim
-    (λ (is : bytes_eq uri first.uri ≡ true). rw is parts.1)
-    (λ (not : bytes_eq uri first.uri ≡ false). rw (not, parts.0) (none_closed table uri other parts.1))
-    (cases_Bool (bytes_eq uri first.uri))
+    grind (arith, common_steps, bytes_eq, cases_Bool, (none_closed table uri other))
 
 unique_closed : (table : List DocumentItem) (uri : List ℕ) → AreUnique table → AreUnique (after_close table uri)
 unique_closed [] uri unique = tt

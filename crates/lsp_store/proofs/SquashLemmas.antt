@@ -1,7 +1,7 @@
 -- Batches of changes on one document, as one: what the fields that are kept are.
-use Rattle.lsp_store.proofs.Prelude.{ℕ, ℤ, ◌≡◌, ◌<◌, ◌≤◌, Bool, false, inr, lt-ltb, ltb-false, TooManyChanges, nat_lt, if◌then◌else◌, List, [], length, IsUtf8, encode_utf8_all, Option, None, Some, Ok, refl, sym, ap, ap₂, ◌∙◌, subst, arith, le-ltb, encodes-chars, chars, LimitsData, units_in, Encoding, Item, text_of, text_within, bytes_left, ContentChange, meaning, canonical, bytes_after, meant_by, canonical_law, units_some, StoreFault, Stored, IsRefusal, body_refusal, change_body, Plan, StoreData, entry_under, IsPlanOf, IsPlanOn, HasReached, IsSquashAfter, SquashData, add_refusal, reached_entry, squash_after, squash_batch, squash_refusal, squash_under, DocumentItem, IsLeftToMeaning, Refusal, changed, entry_refusal, is_stale, meant_text, too_many_changes, common_steps}
+use Rattle.lsp_store.proofs.Prelude.{ℕ, ℤ, ◌≡◌, ◌<◌, ◌≤◌, Bool, false, inr, lt-ltb, ltb-false, TooManyChanges, nat_lt, if◌then◌else◌, List, length, IsUtf8, encode_utf8_all, Option, None, Some, Ok, refl, sym, ap, ap₂, ◌∙◌, subst, arith, le-ltb, encodes-chars, chars, LimitsData, units_in, Encoding, Item, text_of, text_within, bytes_left, ContentChange, meaning, canonical, bytes_after, meant_by, canonical_law, units_some, StoreFault, Stored, IsRefusal, body_refusal, change_body, Plan, StoreData, entry_under, IsPlanOf, IsPlanOn, HasReached, IsSquashAfter, SquashData, add_refusal, reached_entry, squash_after, squash_batch, squash_refusal, squash_under, DocumentItem, IsLeftToMeaning, Refusal, changed, entry_refusal, is_stale, too_many_changes, common_steps}
 use Rattle.lsp_edit.specs.Compose.{then_items}
-use Rattle.lsp_edit.specs.Joined.{IsJoined, IsReached, JoinedData, joined_text}
+use Rattle.lsp_edit.specs.Joined.{IsJoined, IsReached, JoinedData}
 use Rattle.lsp_edit.proofs.Batches.ComposeLemmas.{then_means}
 use Rattle.lsp_store.proofs.Messages.MessageLemmas.{canonical_accepted}
 use Rattle.lsp_store.proofs.Tables.PlanLemmas.{on_utf8}
@@ -63,41 +63,17 @@ after_is old version batch new adds = grind (arith, common_steps)
 
 -- ---- batches on a document that is kept elsewhere
 
--- What became of the text's characters is what the batches before led to.
-pub is_reached : (joined : JoinedData) (text : List ℕ) → IsUtf8 text → chars text ≡ joined_text joined
-    → IsReached joined text
-is_reached joined text utf8 is = record { utf8 = utf8; text_is = is }
-
 module _ (kept : SquashData) (entry : DocumentItem) (version : ℤ) (more : List ContentChange) (utf8 : IsUtf8 entry.text)
     (at : HasReached kept entry) where
   same_text : entry.text ≡ bytes_left kept.text kept.items
   same_text = sym (encodes-chars entry.text utf8) ∙ ap encode_utf8_all at.text
 
   pub refusal_is : add_refusal kept version more ≡ entry_refusal kept.limits (units_in kept.encoding) entry version more
-  refusal_is =
-      ap₂ (λ (t : List ℕ) (v : ℤ). entry_refusal kept.limits (units_in kept.encoding) (record {
-        uri = kept.uri;
-        language = [];
-        version = v;
-        text = t;
-      }) version more)
-      (sym same_text) (sym at.version)
+  refusal_is = rw (← same_text, ← at.version) refl
 
   pub left_to_meaning : IsLeftToMeaning kept.limits entry version more
       → IsLeftToMeaning kept.limits (reached_entry kept) version more
-  left_to_meaning left =
-      let at_text = subst (λ (t : List ℕ). IsLeftToMeaning kept.limits (record {
-        uri = kept.uri;
-        language = [];
-        version = entry.version;
-        text = t;
-      }) version more) same_text left in
-      subst (λ (v : ℤ). IsLeftToMeaning kept.limits (record {
-        uri = kept.uri;
-        language = [];
-        version = v;
-        text = bytes_left kept.text kept.items;
-      }) version more) at.version at_text
+  left_to_meaning left = λ units. rw (← same_text, ← at.version) (left units)
 
 -- A batch more, by what is kept of the batches before it.
 pub joins_after : (uri : List ℕ) (limits : LimitsData) (encoding : Encoding) (joined next : JoinedData)
@@ -153,8 +129,10 @@ module _ (uri : List ℕ) (limits : LimitsData) (encoding : Encoding) (joined : 
       (subst (λ (k : SquashData). IsLeftToMeaning k.limits (entry_under uri stored) version more) view left)
 
   pub change_at : IsReached joined stored.text
-  change_at = is_reached joined stored.text utf8
-      ((at uri).text ∙ sym (ap (λ (k : SquashData). text_of (chars k.text) k.items) view))
+  change_at = record {
+    utf8 = utf8;
+    text_is = (at uri).text ∙ sym (ap (λ (k : SquashData). text_of (chars k.text) k.items) view);
+  }
 
   pub change_adds : entry_refusal limits (units_in encoding) (entry_under uri stored) version more ≡ None
       → (next : JoinedData) (next_version : ℤ) → IsJoined (units_in encoding) joined more next → next_version ≡ version
@@ -162,26 +140,6 @@ module _ (uri : List ℕ) (limits : LimitsData) (encoding : Encoding) (joined : 
   change_adds accepted next next_version is version_is =
       joins_after uri limits encoding joined next before version next_version kept more view
       (sym stored_refusal ∙ accepted) is version_is
-
--- ---- batches that are kept with the document that they lead to
-
-pub add_refused : (inside kept : SquashData) → inside ≡ kept → (version : ℤ) (batch : List ContentChange)
-    (fault : StoreFault) → IsRefusal (add_refusal inside version batch) fault
-    → IsRefusal (add_refusal kept version batch) fault
-add_refused inside kept view version batch fault why =
-    subst (λ (k : SquashData). IsRefusal (add_refusal k version batch) fault) view why
-
-pub add_accepted : (inside kept : SquashData) → inside ≡ kept → (version : ℤ) (batch : List ContentChange)
-    → add_refusal inside version batch ≡ None → add_refusal kept version batch ≡ None
-add_accepted inside kept view version batch accepted =
-    subst (λ (k : SquashData). add_refusal k version batch ≡ None) view accepted
-
--- What stays leads to what stays.
-pub reached_still : (old new : SquashData) (was is : Stored) → new ≡ old → is ≡ was
-    → ((uri : List ℕ) → HasReached old (entry_under uri was)) → (uri : List ℕ) → HasReached new (entry_under uri is)
-reached_still old new was is same same_stored at uri =
-    subst (λ (s : Stored). HasReached new (entry_under uri s)) (sym same_stored)
-    (subst (λ (k : SquashData). HasReached k (entry_under uri was)) (sym same) (at uri))
 
 -- ---- a batch that was planned
 
@@ -202,9 +160,6 @@ module _ (uri : List ℕ) (limits : LimitsData) (encoding : Encoding) (joined ne
     (document : List ℕ) (version : ℤ) (coded : Encoding) (batch : List ContentChange)
     (q : IsPlanOf store document version coded batch plan) (coded_is : kept.encoding ≡ coded)
     (limits_are : kept.limits ≡ store.limits) where
-  abbrev entry : DocumentItem
-  entry = q.on.entry
-
   entry_accepts : entry_refusal store.limits (units_in coded) q.on.entry version batch ≡ None
   entry_accepts = rw q.is_open at q.accepted
 
@@ -216,8 +171,7 @@ module _ (uri : List ℕ) (limits : LimitsData) (encoding : Encoding) (joined ne
       ∙ kept_accepts
 
   batch_means : meaning (units_in coded) (chars text) batch ≡ meant_by text plan.delta
-  batch_means = subst (λ (t : List ℕ). meaning (units_in coded) (chars t) batch ≡ meant_by t plan.delta)
-      (sym (same q.on)) q.delta.means
+  batch_means = rw (same q.on) q.delta.means
 
   encoding_is : encoding ≡ coded
   encoding_is = ap (λ (k : SquashData). k.encoding) view ∙ coded_is
@@ -226,29 +180,22 @@ module _ (uri : List ℕ) (limits : LimitsData) (encoding : Encoding) (joined ne
   added_joins = subst (λ (e : Encoding). IsJoined (units_in e) joined batch next) (sym encoding_is)
       (joins (units_in coded) batch batch_means)
 
-  pub plan_after : IsSquashAfter kept version batch (seen uri limits encoding next next_version)
-  plan_after = joins_after uri limits encoding joined next before version next_version kept batch view added_accepted
-      added_joins (given ∙ q.version_is)
-
   plan_within : text_within store.limits.max_text text (meant_by text plan.delta)
       ≡ Ok (bytes_after q.on.entry.text plan.delta)
-  plan_within =
-      subst (λ (t : List ℕ). text_within store.limits.max_text t (meant_by t plan.delta)
-      ≡ Ok (bytes_after q.on.entry.text plan.delta)) (sym (same q.on))
-      (subst (λ m. text_within store.limits.max_text q.on.entry.text m ≡ Ok (bytes_after q.on.entry.text plan.delta))
-      q.delta.means q.delta.is)
+  plan_within = rw (same q.on) (rw q.delta.means at q.delta.is)
 
-  plan_left : meant_text q.on.entry.text (meaning (units_in coded) (chars q.on.entry.text) batch)
-      ≡ bytes_after q.on.entry.text plan.delta
-  plan_left = (meaning_accepted store.limits q.on.entry.text _ _ q.delta.is).1
-
-  pub plan_reached : HasReached (seen uri limits encoding next next_version)
-      (changed (units_in coded) q.on.entry version batch)
-  plan_reached = record {
-    text = ap chars plan_left
-        ∙ (reaches store.limits.max_text (bytes_after q.on.entry.text plan.delta) plan_within).text_is;
-    version = sym (given ∙ q.version_is);
-  }
+  -- The batch is added, and leads to the document after the plan.
+  pub plan_added : IsSquashAfter kept version batch (seen uri limits encoding next next_version)
+      × HasReached (seen uri limits encoding next next_version) (changed (units_in coded) q.on.entry version batch)
+  plan_added = (
+    joins_after uri limits encoding joined next before version next_version kept batch view added_accepted added_joins
+        (given ∙ q.version_is),
+    record {
+      text = ap chars (meaning_accepted store.limits q.on.entry.text _ _ q.delta.is).1
+          ∙ (reaches store.limits.max_text (bytes_after q.on.entry.text plan.delta) plan_within).text_is;
+      version = sym (given ∙ q.version_is);
+    },
+  )
 
 -- The document that a plan is of is the one that was reached.
 pub plan_at : (uri : List ℕ) (limits : LimitsData) (encoding : Encoding) (joined : JoinedData) (before : ℤ)

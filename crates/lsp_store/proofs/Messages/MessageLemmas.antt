@@ -1,18 +1,19 @@
 -- The canonical message of a batch that is accepted on an open document.
-use Rattle.lsp_store.proofs.Prelude.{ℕ, ℤ, ◌≡◌, ◌<◌, ◌≤◌, ◌^◌, ◌↔◌, true, false, nat_lt, List, [], ◌∷◌, ◌++◌, length, map, sum_by, FitsSigned, IsUtf8, bytes_eq, string_bytes, encode_utf8_all, Option, Some, None, Result, Ok, Err, refl, sym, ap, ◌∙◌, subst, arith, ⊎_elim, inl, inr, cases_Bool, lt-ltb, le-ltb, ltb-false, or_parts, or_from, sum_by-le-sum_by, IsUtf8-string_bytes, encodes-chars, encodes_same, scalars-chars, len_utf8, chars, frame, LimitsData, utf8_bounds, utf16_bounds, utf32_bounds, units_in, Encoding, Utf8, Utf16, Utf32, Change, Item, text_of, ContentChange, Fault, meaning, canonical, content_change, IsCanonical, bytes_left, DocumentItem, ContentChangeData, IsProper, IsReadAsSent, IsReadBack, StoreFault, NoMemory, store_fault_of_encode, IsRefusal, IsLeftToMeaning, Refusal, edit, batch_bytes, greatest_batch, entry_at, entry_refusal, change_refusal, after_change, changed, is_stale, meaning_refusal, common_steps}
+use Rattle.lsp_store.proofs.Prelude.{ℕ, ℤ, ◌≡◌, ◌<◌, ◌≤◌, ◌^◌, ◌↔◌, false, nat_lt, List, [], ◌∷◌, ◌++◌, length, map, sum_by, FitsSigned, IsUtf8, bytes_eq, string_bytes, encode_utf8_all, Option, Some, None, Result, Ok, Err, refl, sym, ap, ◌∙◌, subst, arith, inl, inr, cases_Bool, lt-ltb, le-ltb, ltb-false, or_parts, or_from, sum_by-le-sum_by, IsUtf8-string_bytes, encodes-chars, encodes_same, scalars-chars, len_utf8, chars, frame, LimitsData, utf8_bounds, utf16_bounds, utf32_bounds, units_in, Encoding, Utf8, Utf16, Utf32, Change, Item, text_of, ContentChange, Fault, meaning, canonical, content_change, IsCanonical, bytes_left, DocumentItem, IsProper, IsReadAsSent, IsReadBack, StoreFault, NoMemory, store_fault_of_encode, IsRefusal, IsLeftToMeaning, Refusal, edit, batch_bytes, greatest_batch, entry_at, entry_refusal, change_refusal, after_change, changed, is_stale, meaning_refusal, common_steps}
 use Rattle.std.specs.Int.{w32}
 use Rattle.lsp_frame.specs.Encode.{IsEncodeFault}
 use Rattle.lsp_frame.specs.declared.written.EncodeFault.{EncodeFault}
-use Rattle.lsp_message.specs.Outgoing.{OutgoingData, initialize, initialized, did_open, did_change, did_close, shutdown, exit, initialize_result, shutdown_result, error_reply, body_of}
+use Rattle.lsp_message.specs.Outgoing.{OutgoingData, body_of}
 use Rattle.lsp_message.specs.Seen.{content_change_view}
 use Rattle.lsp_message.specs.Written.{change_params}
-use Rattle.lsp_store.specs.Message.{AreTexts, DoAlike, IsCanonicalOn, IsReadAgain, IsCanonicalOf, body_refusal, canonical_batch, canonical_body, canonical_frame, change_body, change_message, else_refused, written_content_change}
+use Rattle.lsp_store.specs.Message.{AreTexts, DoAlike, IsReadAgain, IsCanonicalOf, body_refusal, canonical_batch, canonical_body, canonical_frame, change_body, change_message, else_refused, written_content_change}
 use Rattle.lsp_store.proofs.Messages.FrameLemmas.{frame_one}
 use Rattle.lsp_store.proofs.Messages.ProperLemmas.{bytes_sum, canonical_proper}
 use Rattle.lsp_store.proofs.Tables.RefusalLemmas.{refused_meaning}
 use Rattle.lsp_store.proofs.Messages.ScalarLemmas.{canonical_texts}
 use Rattle.lsp_frame.specs.declared.written.EncodeFault.TheVariants as encode
 use Rattle.lsp_message.specs.Seen as seen
+use Rattle.lsp_message.specs.Params.{ChangeData, ContentChangeData}
 
 -- ---- what is written
 
@@ -23,18 +24,12 @@ written_same [] = refl
 written_same (c ∷ changes) = rw (encodes-chars (string_bytes c.text) (IsUtf8-string_bytes c.text), written_same changes)
     refl
 
-pub body_written : (uri given : List ℕ) (version error : ℤ) (changes : List Change) → uri ≡ given → error ≡ version
-    → body_of (did_change (record { uri = uri; version = error; changes = map content_change_view changes }))
-    ≡ change_body given version (map content_change changes)
-unfolding change_body
-body_written uri given version error changes same is = rw (same, is, written_same changes) refl
-
 -- what is appended
 pub body_pushed : (old new uri : List ℕ) (version error : ℤ) (changes : List Change)
     → new ≡ old ++ body_of (seen.did_change_of uri error changes) → error ≡ version
     → new ≡ old ++ change_body uri version (map content_change changes)
-body_pushed old new uri version error changes is same =
-    is ∙ ap (λ body. old ++ body) (body_written uri uri version error changes refl same)
+unfolding change_body
+body_pushed old new uri version error changes is same = rw (is, same, written_same changes) refl
 
 pub encode_refused : (limits : LimitsData) (body : List ℕ) (fault : EncodeFault)
     → IsEncodeFault limits.max_body (length body) fault → IsRefusal (body_refusal limits body)
@@ -52,24 +47,12 @@ pub texts_held : (changes : List Change) → AreTexts (map content_change change
 texts_held [] = tt
 texts_held (c ∷ changes) = (scalars-chars (string_bytes c.text) (IsUtf8-string_bytes c.text), texts_held changes)
 
--- a batch is known by what is written of it
-abbrev changes_in : OutgoingData → List ContentChangeData
-changes_in (initialize offers) = []
-changes_in initialized = []
-changes_in (did_open p) = []
-changes_in (did_change p) = p.changes
-changes_in (did_close p) = []
-changes_in shutdown = []
-changes_in exit = []
-changes_in (initialize_result id encoding kind) = []
-changes_in (shutdown_result id) = []
-changes_in (error_reply id error) = []
+abbrev changed_to : List ℕ → ℤ → List ContentChange → ChangeData
+changed_to uri version batch = record { uri = uri; version = version; changes = map written_content_change batch }
 
 written_one : (batch other : List ContentChange) → map written_content_change batch
     ≡ map written_content_change other → batch ≡ other
 written_one [] [] e = refl
-written_one [] (d ∷ other) e = absurd (cc)
-written_one (c ∷ batch) [] e = absurd (cc)
 written_one (c ∷ batch) (d ∷ other) e =
     let first : written_content_change c ≡ written_content_change d = cc in
     let rest : map written_content_change batch ≡ map written_content_change other = cc in
@@ -77,6 +60,13 @@ written_one (c ∷ batch) (d ∷ other) e =
     let text : c.text ≡ d.text = encodes_same c.text d.text (ap (λ (x : ContentChangeData). x.text) first) in
     let same : c ≡ d = λ i. record { range = range i; text = text i } in
     rw (same, written_one batch other rest) refl
+written_one _ _ e = absurd (cc)
+
+message_one : (uri : List ℕ) (version : ℤ) (batch other : List ContentChange) → change_message uri version batch
+    ≡ change_message uri version other → batch ≡ other
+message_one uri version batch other same =
+    let params : changed_to uri version batch ≡ changed_to uri version other = cc in
+    written_one batch other (ap (λ (d : ChangeData). d.changes) params)
 
 units_few : (encoding : Encoding) (c : ℕ) → units_in encoding c ≤ len_utf8 c
 units_few Utf8 c = (utf8_bounds c).1
@@ -87,9 +77,7 @@ units_few Utf32 c = (utf32_bounds c).1
 
 pub first_told : (first later : Option Refusal) (fault : StoreFault) → IsRefusal first fault
     → IsRefusal (else_refused first later) fault
-first_told (Some refusal) later fault error = error
-first_told None later fault error = ⊎_elim (λ (e : fault ≡ NoMemory). inl e) (λ (e : None ≡ Some fault). absurd (cc))
-    error
+first_told first later fault error = grind (arith, common_steps)
 
 -- What an accepted batch means on a document.
 pub record Accepts (limits : LimitsData) (units : ℕ → ℕ) (entry : DocumentItem) (version : ℤ)
@@ -118,14 +106,8 @@ accepted_parts limits units entry version batch e =
 pub accepted_left : (limits : LimitsData) (units : ℕ → ℕ) (entry : DocumentItem) (version : ℤ)
     (batch : List ContentChange)
     → entry_refusal limits units entry version batch ≡ None → IsLeftToMeaning limits entry version batch
-accepted_left limits units entry version batch is = grind (
-  arith,
-  common_steps,
-  accepted_parts,
-  refused_meaning,
-  or_from,
-  le-ltb,
-)
+accepted_left limits units entry version batch is =
+    grind (arith, common_steps, accepted_parts, refused_meaning, or_from, le-ltb)
 
 pub accepted_from : (limits : LimitsData) (units : ℕ → ℕ) (entry : DocumentItem) (version : ℤ)
     (batch : List ContentChange)
@@ -166,14 +148,7 @@ pub leaves_same : (units : ℕ → ℕ) (table : List DocumentItem) (uri : List 
     → after_change units table uri version batch ≡ after_change units table uri version other
 leaves_same units [] uri version batch other entry found same = refl
 leaves_same units (first ∷ table) uri version batch other entry found same =
-    ⊎_elim
-    (λ (is : bytes_eq uri first.uri ≡ true).
-    let at : first ≡ entry = (let f : Some first ≡ Some entry = rw is at found in cc) in
-    rw (is, at, same) refl)
-    (λ (not : bytes_eq uri first.uri ≡ false). rw not
-    (ap (λ (t : List DocumentItem). first ∷ t) (leaves_same units table uri version batch other entry (rw not at found)
-    same)))
-    (cases_Bool (bytes_eq uri first.uri))
+    grind (arith, common_steps, bytes_eq, cases_Bool, (leaves_same units table uri version batch other entry))
 
 -- ---- the canonical message
 
@@ -182,77 +157,60 @@ module _ (limits : LimitsData) (encoding : Encoding) (table : List DocumentItem)
     (laws : (batch : List ContentChange) (items : List Item) → meaning (units_in encoding)
     (chars entry.text) batch ≡ Ok items
     → IsCanonical (units_in encoding) (chars entry.text) batch items) where
-  pub batch_at : (batch : List ContentChange) (items : List Item) → meaning (units_in encoding) (chars entry.text) batch
-      ≡ Ok items → canonical_batch (units_in encoding) table uri batch ≡ canonical (units_in encoding)
-      (chars entry.text) items
+  abbrev units : ℕ → ℕ
+  units = units_in encoding
+
+  abbrev text : List ℕ
+  text = chars entry.text
+
+  pub batch_at : (batch : List ContentChange) (items : List Item) → meaning units text batch ≡ Ok items
+      → canonical_batch units table uri batch ≡ canonical units text items
   batch_at batch items means = rw (is_open, means) refl
 
-  refusal_at : (batch : List ContentChange) → change_refusal limits (units_in encoding) table uri version batch
-      ≡ entry_refusal limits (units_in encoding) entry version batch
-  refusal_at batch = rw is_open refl
+  module _ (batch : List ContentChange) (may : entry_refusal limits units entry version batch ≡ None) where
+    pub accepts : Accepts limits units entry version batch
+    accepts = accepted_parts limits units entry version batch may
 
-  module _ (batch : List ContentChange) (may : entry_refusal limits (units_in encoding) entry version batch
-      ≡ None) where
-    pub accepts : Accepts limits (units_in encoding) entry version batch
-    accepts = accepted_parts limits (units_in encoding) entry version batch may
-
-    law : IsCanonical (units_in encoding) (chars entry.text) batch accepts.items
+    law : IsCanonical units text batch accepts.items
     law = laws batch accepts.items accepts.means
 
-    pub canonical_on : IsCanonicalOn (units_in encoding) table uri batch
-    canonical_on = record {
-      entry = entry;
-      is_open = is_open;
-      items = accepts.items;
-      means = accepts.means;
-      is = batch_at batch accepts.items accepts.means;
-    }
+    abbrev settled : List ContentChange
+    settled = canonical units text accepts.items
 
-    settled_may : length (bytes_left entry.text accepts.items) ≤ 1073741824 → entry_refusal limits (units_in encoding)
-        entry version (canonical (units_in encoding) (chars entry.text) accepts.items) ≡ None
-    settled_may small = canonical_accepted limits (units_in encoding) entry version batch accepts.items law
-        accepts.newer (omega (arith, law.few, accepts.few)) accepts.short small
+    settled_may : length (bytes_left entry.text accepts.items) ≤ 1073741824
+        → entry_refusal limits units entry version settled ≡ None
+    settled_may small = canonical_accepted limits units entry version batch accepts.items law accepts.newer
+        (omega (arith, law.few, accepts.few)) accepts.short small
 
-    pub settled_accepted : limits.max_text ≤ 1073741824 → entry_refusal limits (units_in encoding) entry version
-        (canonical (units_in encoding) (chars entry.text) accepts.items) ≡ None
+    pub settled_accepted : limits.max_text ≤ 1073741824 → entry_refusal limits units entry version settled ≡ None
     settled_accepted small = settled_may (omega (arith, accepts.short, small))
 
-    settled_batch : canonical_batch (units_in encoding) table uri (canonical (units_in encoding) (chars entry.text)
-        accepts.items) ≡ canonical_batch (units_in encoding) table uri batch
-    settled_batch = batch_at (canonical (units_in encoding) (chars entry.text) accepts.items) accepts.items law.means
-        ∙ sym (batch_at batch accepts.items accepts.means)
+    settled_batch : canonical_batch units table uri settled ≡ canonical_batch units table uri batch
+    settled_batch = batch_at settled accepts.items law.means ∙ sym (batch_at batch accepts.items accepts.means)
 
-    pub settled_leaves : after_change (units_in encoding) table uri version
-        (canonical (units_in encoding) (chars entry.text) accepts.items) ≡ after_change (units_in encoding) table uri
-        version batch
-    settled_leaves =
-        leaves_same (units_in encoding) table uri version (canonical (units_in encoding) (chars entry.text)
-        accepts.items) batch entry is_open (rw (law.means, accepts.means) refl)
+    pub settled_leaves : after_change units table uri version settled ≡ after_change units table uri version batch
+    settled_leaves = leaves_same units table uri version settled batch entry is_open
+        (rw (law.means, accepts.means) refl)
 
-    settled_of : length (bytes_left entry.text accepts.items) ≤ 1073741824
-        → body_refusal limits (canonical_body (units_in encoding) table uri version batch) ≡ None
-        → IsCanonicalOf limits (units_in encoding) table uri version batch
-        (canonical (units_in encoding) (chars entry.text) accepts.items)
-    settled_of small within = record {
-      accepted =
-          rw (refusal_at (canonical (units_in encoding) (chars entry.text) accepts.items), settled_may small)
-          (ap (λ (b : List ContentChange). body_refusal limits (change_body uri version b)) settled_batch ∙ within);
-      leaves = settled_leaves;
-      same_frame = ap (λ (b : List ContentChange). frame (change_body uri version b)) settled_batch;
-    }
+    refusal_at : change_refusal limits units table uri version settled
+        ≡ entry_refusal limits units entry version settled
+    refusal_at = rw is_open refl
 
     pub settles : length (bytes_left entry.text accepts.items) ≤ 1073741824
-        → body_refusal limits (canonical_body (units_in encoding) table uri version batch) ≡ None
-        → IsCanonicalOf limits (units_in encoding) table uri version batch
-        (canonical_batch (units_in encoding) table uri batch)
+        → body_refusal limits (canonical_body units table uri version batch) ≡ None
+        → IsCanonicalOf limits units table uri version batch (canonical_batch units table uri batch)
     settles small within =
-        subst (λ (b : List ContentChange). IsCanonicalOf limits (units_in encoding) table uri version batch b)
-        (sym (batch_at batch accepts.items accepts.means)) (settled_of small within)
+        subst (λ (b : List ContentChange). IsCanonicalOf limits units table uri version batch b)
+        (sym (batch_at batch accepts.items accepts.means)) (record {
+          accepted = rw (refusal_at, settled_may small)
+              (ap (λ (b : List ContentChange). body_refusal limits (change_body uri version b)) settled_batch ∙ within);
+          leaves = settled_leaves;
+          same_frame = ap (λ (b : List ContentChange). frame (change_body uri version b)) settled_batch;
+        })
 
     pub is_settled : limits.max_text ≤ 1073741824
-        → body_refusal limits (canonical_body (units_in encoding) table uri version batch) ≡ None
-        → IsCanonicalOf limits (units_in encoding) table uri version batch
-        (canonical_batch (units_in encoding) table uri batch)
+        → body_refusal limits (canonical_body units table uri version batch) ≡ None
+        → IsCanonicalOf limits units table uri version batch (canonical_batch units table uri batch)
     is_settled small within = settles (omega (arith, accepts.short, small)) within
 
   -- ---- of messages that the types hold
@@ -260,20 +218,17 @@ module _ (limits : LimitsData) (encoding : Encoding) (table : List DocumentItem)
   module _ (uri_utf8 : IsUtf8 uri) (version_fits : FitsSigned w32 version) (text_utf8 : IsUtf8 entry.text)
       (text_short : length entry.text ≤ 1073741824)
       (unique : (m n : OutgoingData) → IsProper m → IsProper n → body_of m ≡ body_of n → m ≡ n) where
-    old_small : sum_by len_utf8 (chars entry.text) < 2 ^ 32
-    old_small = omega (arith, bytes_sum (chars entry.text), ap length (encodes-chars entry.text text_utf8), text_short)
-
-    pub proper : (batch : List ContentChange) (items : List Item) → AreTexts batch
-        → meaning (units_in encoding) (chars entry.text) batch ≡ Ok items
-        → IsProper (change_message uri version (canonical (units_in encoding) (chars entry.text) items))
+    pub proper : (batch : List ContentChange) (items : List Item) → AreTexts batch → meaning units text batch ≡ Ok items
+        → IsProper (change_message uri version (canonical units text items))
     proper batch items texts means = record {
       uri = uri_utf8;
       version = version_fits;
       changes =
-          canonical_proper (units_in encoding) (units_few encoding) (chars entry.text) old_small items
+          canonical_proper units (units_few encoding) text
+          (omega (arith, bytes_sum text, ap length (encodes-chars entry.text text_utf8), text_short)) items
           (laws batch items means).ends
-          (canonical_texts (units_in encoding) (chars entry.text) batch items (laws batch items means)
-          (scalars-chars entry.text text_utf8) texts means);
+          (canonical_texts units text batch items (laws batch items means) (scalars-chars entry.text text_utf8) texts
+          means);
     }
 
     one_batch : (batch other : List ContentChange) → IsProper (change_message uri version batch)
@@ -281,30 +236,29 @@ module _ (limits : LimitsData) (encoding : Encoding) (table : List DocumentItem)
         → batch ≡ other
     unfolding change_body
     one_batch batch other p q e =
-        written_one batch other
-        (ap changes_in (unique (change_message uri version batch) (change_message uri version other) p q e))
+        message_one uri version batch other
+        (unique (change_message uri version batch) (change_message uri version other) p q e)
 
     pub exactly_alike : (batch other : List ContentChange) → AreTexts batch → AreTexts other
-        → entry_refusal limits (units_in encoding) entry version batch ≡ None → entry_refusal limits (units_in encoding)
-        entry version other ≡ None → length (canonical_frame (units_in encoding) table uri version batch) < 2 ^ 64
-        → (canonical_frame (units_in encoding) table uri version batch ≡ canonical_frame (units_in encoding) table uri
-        version other) ↔ DoAlike (units_in encoding) table uri batch other
+        → entry_refusal limits units entry version batch ≡ None → entry_refusal limits units entry version other ≡ None
+        → length (canonical_frame units table uri version batch) < 2 ^ 64
+        → (canonical_frame units table uri version batch ≡ canonical_frame units table uri version other)
+        ↔ DoAlike units table uri batch other
     exactly_alike batch other texts others may also small = (forth, back)
       where
-        a : Accepts limits (units_in encoding) entry version batch
-        a = accepted_parts limits (units_in encoding) entry version batch may
+        a : Accepts limits units entry version batch
+        a = accepted_parts limits units entry version batch may
 
-        b : Accepts limits (units_in encoding) entry version other
-        b = accepted_parts limits (units_in encoding) entry version other also
+        b : Accepts limits units entry version other
+        b = accepted_parts limits units entry version other also
 
-        forth : canonical_frame (units_in encoding) table uri version batch ≡ canonical_frame (units_in encoding) table
-            uri version other → DoAlike (units_in encoding) table uri batch other
+        forth : canonical_frame units table uri version batch ≡ canonical_frame units table uri version other
+            → DoAlike units table uri batch other
         forth e =
-            let bodies : canonical_body (units_in encoding) table uri version batch ≡ canonical_body (units_in encoding)
-            table uri version other = frame_one _ _ small e in
-            let same : canonical (units_in encoding) (chars entry.text) a.items ≡ canonical (units_in encoding)
-            (chars entry.text) b.items
-            = one_batch _ _ (proper batch a.items texts a.means) (proper other b.items others b.means)
+            let bodies : canonical_body units table uri version batch ≡ canonical_body units table uri version other =
+            frame_one _ _ small e in
+            let same : canonical units text a.items ≡ canonical units text b.items =
+            one_batch _ _ (proper batch a.items texts a.means) (proper other b.items others b.means)
             (rw (batch_at batch a.items a.means, batch_at other b.items b.means) at bodies) in
             record {
               entry = entry;
@@ -316,43 +270,28 @@ module _ (limits : LimitsData) (encoding : Encoding) (table : List DocumentItem)
               same = ((laws batch a.items a.means).exactly other b.items b.means).0 same;
             }
 
-        ok_one : (x y : List Item) → ◌≡◌ {A = Result (List Item) (ℕ × Fault)} (Ok x) (Ok y) → x ≡ y
-        ok_one x y e = cc
-
-        back : DoAlike (units_in encoding) table uri batch other → canonical_frame (units_in encoding) table uri version
-            batch ≡ canonical_frame (units_in encoding) table uri version other
+        back : DoAlike units table uri batch other
+            → canonical_frame units table uri version batch ≡ canonical_frame units table uri version other
         back alike =
             let at : alike.entry ≡ entry = (let f : Some alike.entry ≡ Some entry = sym alike.is_open ∙ is_open in
             cc) in
-            let means : meaning (units_in encoding) (chars entry.text) batch ≡ Ok alike.items = rw at at alike.means in
-            let other_means : meaning (units_in encoding) (chars entry.text) other ≡ Ok alike.others =
-            rw at at alike.other_means in
-            let same : canonical (units_in encoding) (chars entry.text) alike.items ≡ canonical (units_in encoding)
-            (chars entry.text) alike.others
-            = ((laws batch alike.items means).exactly other alike.others other_means).1 alike.same in
+            let means : meaning units text batch ≡ Ok alike.items = rw at at alike.means in
+            let other_means : meaning units text other ≡ Ok alike.others = rw at at alike.other_means in
+            let same = ((laws batch alike.items means).exactly other alike.others other_means).1 alike.same in
             ap (λ (x : List ContentChange). frame (change_body uri version x)) (batch_at batch alike.items means
             ∙ (same ∙ sym (batch_at other alike.others other_means)))
 
-    pub is_read : (batch : List ContentChange) → AreTexts batch → entry_refusal limits
-        (units_in encoding) entry version batch ≡ None
+    pub is_read : (batch : List ContentChange) → AreTexts batch → entry_refusal limits units entry version batch ≡ None
         → ((m : OutgoingData) → IsProper m → IsReadAsSent m) → ((m : OutgoingData) → IsProper m → IsReadBack m)
-        → IsReadAgain uri version (canonical_batch (units_in encoding) table uri batch)
+        → IsReadAgain uri version (canonical_batch units table uri batch)
     unfolding change_body
     is_read batch texts may read_as read_back =
-        let a : Accepts limits (units_in encoding) entry version batch =
-        accepted_parts limits (units_in encoding) entry version batch may in
-        let p : IsProper (change_message uri version (canonical (units_in encoding) (chars entry.text) a.items)) =
-        proper batch a.items texts a.means in
-        let m : OutgoingData = change_message uri version (canonical (units_in encoding) (chars entry.text) a.items) in
-        let read : IsReadAgain uri version (canonical (units_in encoding) (chars entry.text) a.items) =
-        record {
-          params =
-              change_params (record {
-                uri = uri;
-                version = version;
-                changes = map written_content_change (canonical (units_in encoding) (chars entry.text) a.items);
-              });
+        let a = accepted_parts limits units entry version batch may in
+        let p = proper batch a.items texts a.means in
+        let m : OutgoingData = change_message uri version (canonical units text a.items) in
+        let changes = map written_content_change (canonical units text a.items) in
+        subst (λ (b : List ContentChange). IsReadAgain uri version b) (sym (batch_at batch a.items a.means)) (record {
+          params = change_params (record { uri = uri; version = version; changes = changes });
           as_sent = read_as m p;
           back = read_back m p;
-        } in
-        subst (λ (b : List ContentChange). IsReadAgain uri version b) (sym (batch_at batch a.items a.means)) read
+        })

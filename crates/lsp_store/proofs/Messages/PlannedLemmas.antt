@@ -1,9 +1,10 @@
 -- The canonical message of a batch that was planned: what holds of it.
-use Rattle.lsp_store.proofs.Prelude.{ℕ, ℤ, ◌≡◌, ◌<◌, ◌≤◌, ◌^◌, ◌↔◌, List, length, FitsSigned, IsUtf8, None, Result, Ok, sym, ap, ◌∙◌, arith, chars, Encoding, units_in, Item, ContentChange, Fault, meaning, bytes_left, IsCanonical, canonical_law, units_some, within_told, Plan, AreTexts, DoAlike, IsCanonicalOf, IsReadAgain, canonical_batch, canonical_frame, message_refusal, StoreData, IsPlanOf, change_refusal, entry_refusal}
+use Rattle.lsp_store.proofs.Prelude.{ℕ, ℤ, ◌≡◌, ◌<◌, ◌≤◌, ◌^◌, ◌↔◌, List, length, FitsSigned, IsUtf8, None, Ok, sym, ap, ◌∙◌, arith, chars, Encoding, units_in, Item, ContentChange, meaning, bytes_left, IsCanonical, canonical_law, units_some, Plan, AreTexts, DoAlike, IsCanonicalOf, IsReadAgain, canonical_batch, canonical_frame, message_refusal, StoreData, IsPlanOf, change_refusal, entry_refusal, meant_text}
 use Rattle.std.specs.Int.{w32}
 use Rattle.lsp_message.proofs.ReadBack.{body_of-unique, is_read_back, reading-body_of}
 use Rattle.lsp_store.proofs.Messages.MessageLemmas.{accepts, exactly_alike, is_read, settles}
 use Rattle.lsp_store.proofs.Tables.PlanLemmas.{on_short, on_utf8}
+use Rattle.lsp_store.proofs.Tables.RefusalLemmas.{meaning_accepted}
 
 module _ (kept : StoreData) (uri : List ℕ) (version : ℤ) (encoding : Encoding) (batch : List ContentChange)
     (plan : Plan)
@@ -20,12 +21,13 @@ module _ (kept : StoreData) (uri : List ℕ) (version : ℤ) (encoding : Encodin
 
   left_short : length (bytes_left q.on.entry.text meant) ≤ 1073741824
   left_short =
-      let left = within_told kept.limits.max_text q.on.entry.text _ _ q.delta.is in
-      let same : ◌≡◌ {A = Result (List Item) (ℕ × Fault)} (Ok left.items) (Ok meant)
-      = sym left.means
-      ∙ (accepts kept.limits encoding kept.table uri version q.on.entry q.is_open laws batch may).means in
-      let items : left.items ≡ meant = cc in
-      omega (arith, q.on.short, ap length (left.is ∙ ap (bytes_left q.on.entry.text) items))
+      let a = accepts kept.limits encoding kept.table uri version q.on.entry q.is_open laws batch may in
+      omega (
+        arith,
+        q.on.short,
+        ap length (sym (ap (meant_text q.on.entry.text) a.means)
+            ∙ (meaning_accepted kept.limits q.on.entry.text _ _ q.delta.is).1),
+      )
 
   pub plan_settled : message_refusal kept.limits (units_in encoding) kept.table uri version batch ≡ None
       → IsCanonicalOf kept.limits (units_in encoding) kept.table uri version batch

@@ -16,10 +16,9 @@ scalar-append (Old index ∷ xs) ys p q = scalar-append xs ys p q
 scalar-append (New character ∷ xs) ys p q = (p.0, scalar-append xs ys p.1 q)
 
 scalar-take : (n : ℕ) (items : List Item) → NewAreScalar items → NewAreScalar (take n items)
-scalar-take zero items p = tt
-scalar-take (suc n) [] p = tt
 scalar-take (suc n) (Old index ∷ items) p = scalar-take n items p
 scalar-take (suc n) (New character ∷ items) p = (p.0, scalar-take n items p.1)
+scalar-take _ _ p = tt
 
 scalar-drop : (n : ℕ) (items : List Item) → NewAreScalar items → NewAreScalar (drop n items)
 scalar-drop zero items p = p

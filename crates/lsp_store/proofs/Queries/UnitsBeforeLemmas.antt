@@ -1,10 +1,10 @@
 -- The units of a whole text before a byte offset.
-use Rattle.lsp_store.proofs.Prelude.{ℕ, suc, ◌≡◌, ◌+◌, ◌-◌, ◌<◌, ◌≤◌, ◌↔◌, ◌==◌, List, [], ◌∷◌, ◌++◌, length, take, get_or, sum_by, Some, None, IsUtf8, encode_utf8, encode_utf8_all, refl, sym, ap, ◌∙◌, subst, arith, ⊎_elim, eq-eqb, length-append, append-nil, len_utf8, chars, IsCharBoundary, cases_eq, cases_lt, ne_eqb, append_assoc, take_all, take_at, sum_by-cons, sum_by_push, IsUtf8-take, chars-nil, chars_from_encodes, chars_past_char, encodes-append, encodes-chars, length-encode, Encoding, units_in, units_between, HasUnitsBefore, HasPassed, IsPassed, IsTooFew, common_steps}
+use Rattle.lsp_store.proofs.Prelude.{ℕ, suc, ◌≡◌, ◌+◌, ◌-◌, ◌≤◌, ◌↔◌, ◌==◌, List, [], ◌∷◌, ◌++◌, length, take, sum_by, Some, None, IsUtf8, encode_utf8, encode_utf8_all, refl, sym, ap, ◌∙◌, subst, arith, ⊎_elim, eq-eqb, length-append, append-nil, len_utf8, chars, IsCharBoundary, cases_eq, ne_eqb, append_assoc, take_all, take_at, sum_by-cons, sum_by_push, IsUtf8-take, chars-nil, chars_from_encodes, chars_past_char, encodes-append, encodes-chars, length-encode, Encoding, units_in, units_between, HasUnitsBefore, HasPassed, IsPassed, IsTooFew, common_steps, zero}
 use Rattle.std.specs.Bool.{then_some}
 use Rattle.lsp_text.specs.Text.{place_of}
 use Rattle.lsp_text.proofs.PlainLemmas.{units_total}
 use Rattle.lsp_text.proofs.Positions.PlaceLemmas.{index_at, place_boundary, place_one, take_place}
-use Rattle.lsp_text.proofs.Counting.UnitLemmas.{units_more, units_rise, units_same}
+use Rattle.lsp_text.proofs.Counting.UnitLemmas.{units_same}
 
 pub units_from_start : (units : ℕ → ℕ) (text : List ℕ) (k : ℕ) → units_between units text 0 k
     ≡ sum_by units (take k text)
@@ -133,14 +133,6 @@ front_is : (units : ℕ → ℕ) (text rest : List ℕ) (offset left count : ℕ
 front_is units text rest offset left count h =
     ap (take (length h.passed)) h.text_is ∙ take_at h.passed rest (length h.passed) refl
 
-passed_units : (units : ℕ → ℕ) (text rest : List ℕ) (offset left count : ℕ)
-    (h : HasPassed units text rest offset left count) → units_between units text 0 (length h.passed) + left ≡ count
-passed_units units text rest offset left count h = grind (arith, common_steps, units_from_start, sum_by)
-
-passed_within : (units : ℕ → ℕ) (text rest : List ℕ) (offset left count : ℕ)
-    (h : HasPassed units text rest offset left count) → length h.passed + length rest ≡ length text
-passed_within units text rest offset left count h = sym (ap length h.text_is ∙ length-append h.passed rest)
-
 -- The offset is within the text.
 pub passed_few : (units : ℕ → ℕ) (bytes rest : List ℕ) (offset left count : ℕ) → IsUtf8 bytes
     → HasPassed units (chars bytes) rest offset left count → offset ≤ length bytes
@@ -157,67 +149,39 @@ pub passed_all : (units : ℕ → ℕ) (text rest : List ℕ) (offset count : �
     → HasUnitsBefore units text offset count
 passed_all units text rest offset count h = record {
   index = length h.passed;
-  within = omega (arith, passed_within units text rest offset 0 count h);
+  within = omega (arith, ap length h.text_is, length-append h.passed rest);
   offset_is = ap (λ cs. length (encode_utf8_all cs)) (front_is units text rest offset 0 count h) ∙ h.offset_is;
-  count_is = omega (arith, passed_units units text rest offset 0 count h);
+  count_is = units_from_start units text (length h.passed)
+      ∙ (ap (sum_by units) (front_is units text rest offset 0 count h) ∙ omega (arith, h.count_is));
 }
 
-module _ (units : ℕ → ℕ) (some : (c : ℕ) → 1 ≤ units c) (text : List ℕ) where
-  rises : (j k : ℕ) → j ≤ k → k ≤ length text → units_between units text 0 j ≤ units_between units text 0 k
-  rises j k order within =
-      ⊎_elim
-      (λ (e : j ≡ k). omega (arith, ap (units_between units text 0) e))
-      (λ (e : j ≡ k → ⊥). let less : j < k = omega arith in
-      omega (arith, units_rise units some text 0 j k (omega arith) less within))
-      (cases_eq j k)
+-- Else there is none: up to the characters that were passed there are fewer units, and behind the next one more.
+none_there : (units : ℕ → ℕ) (passed rest : List ℕ) (left index : ℕ) → IsTooFew units rest left → 1 ≤ left
+    → sum_by units (take index (passed ++ rest)) ≡ sum_by units passed + left → ⊥
+none_there units [] rest left zero few more e = omega (arith, e)
+none_there units [] [] left (suc index) few more e = omega (arith, e)
+none_there units [] (c ∷ rest) left (suc index) few more e = omega (arith, e, sum_by-cons units c (take index rest))
+none_there units (x ∷ passed) rest left zero few more e = omega (arith, e, sum_by-cons units x passed)
+none_there units (x ∷ passed) rest left (suc index) few more e =
+    none_there units passed rest left index few more (omega (
+      arith,
+      e,
+      sum_by-cons units x (take index (passed ++ rest)),
+      sum_by-cons units x passed,
+    ))
 
-  -- At the end of the text there are fewer units.
-  pub none_fewer : (offset left count : ℕ) → 1 ≤ left → HasPassed units text [] offset left count → (other : ℕ)
-      → HasUnitsBefore units text other count → ⊥
-  none_fewer offset left count more h other has = grind (arith, common_steps, passed_within, passed_units)
-
-  -- Within a character there is no offset.
-  pub none_inside : (rest : List ℕ) (c offset left count : ℕ) → 1 ≤ left → left < units c
-      → HasPassed units text (c ∷ rest) offset left count → (other : ℕ) → HasUnitsBefore units text other count → ⊥
-  none_inside rest c offset left count more less h other has =
-      let before = passed_units units text (c ∷ rest) offset left count h in
-      let size = passed_within units text (c ∷ rest) offset left count h in
-      let one : get_or text (length h.passed) 0 ≡ c =
-      ap (λ cs. get_or cs (length h.passed) 0) h.text_is ∙ get_at h.passed in
-      let next = units_more units text 0 (length h.passed) (omega arith) (omega (arith, size)) in
-      ⊎_elim
-      (λ (low : has.index < suc (length h.passed)). let most = rises has.index (length h.passed) (omega arith)
-      (omega (arith, size)) in absurd (omega (arith, most, has.count_is, before, more)))
-      (λ (high : suc (length h.passed) ≤ has.index). let least = rises (suc (length h.passed)) has.index high
-      has.within in absurd (omega (arith, least, has.count_is, before, next, ap units one, less)))
-      (cases_lt has.index (suc (length h.passed)))
-    where
-      get_at : (xs : List ℕ) → get_or (xs ++ c ∷ rest) (length xs) 0 ≡ c
-      get_at [] = refl
-      get_at (x ∷ xs) = get_at xs
-
-  -- Where the loop stops, the offset is found if no units are left, and else there is none.
-  pub stopped : (rest : List ℕ) (offset left count : ℕ) → HasPassed units text rest offset left count
-      → (1 ≤ left → (other : ℕ) → HasUnitsBefore units text other count → ⊥)
-      → (found : ℕ) → (then_some (left == 0) offset ≡ Some found) ↔ HasUnitsBefore units text found count
-  stopped rest offset left count h none found =
-      ⊎_elim
-      (λ (e : left ≡ 0).
-      let all = passed_all units text rest offset count (subst (λ (n : ℕ). HasPassed units text rest offset n count) e
-      h) in
-      rw (eq-eqb left 0 e) (only_offset units some text offset count all found))
-      (λ (e : left ≡ 0 → ⊥). rw (ne_eqb left 0 e) (none_is (λ (o : ℕ). HasUnitsBefore units text o count)
-      (none (omega (arith, e))) found))
-      (cases_eq left 0)
-
-  too_few_none : (rest : List ℕ) (offset left count : ℕ) → HasPassed units text rest offset left count
-      → IsTooFew units rest left → 1 ≤ left → (other : ℕ) → HasUnitsBefore units text other count → ⊥
-  too_few_none [] offset left count h few more other has = none_fewer offset left count more h other has
-  too_few_none (c ∷ rest) offset left count h few more other has =
-      none_inside rest c offset left count more few h other has
-
-  -- Where as many characters are passed as can be, the offset is found if no units are left.
-  pub passed_found : (offset left count : ℕ) → IsPassed units text count offset left → (found : ℕ)
-      → (then_some (left == 0) offset ≡ Some found) ↔ HasUnitsBefore units text found count
-  passed_found offset left count is =
-      stopped is.rest offset left count is.passed (too_few_none is.rest offset left count is.passed is.few)
+-- Where as many characters are passed as can be, the offset is found if no units are left.
+pub passed_found : (units : ℕ → ℕ) → ((c : ℕ) → 1 ≤ units c) → (text : List ℕ) (offset left count : ℕ)
+    → IsPassed units text count offset left → (found : ℕ)
+    → (then_some (left == 0) offset ≡ Some found) ↔ HasUnitsBefore units text found count
+passed_found units some text offset left count is found =
+    ⊎_elim
+    (λ (e : left ≡ 0).
+    let all = passed_all units text is.rest offset count
+    (subst (λ (n : ℕ). HasPassed units text is.rest offset n count) e is.passed) in
+    rw (eq-eqb left 0 e) (only_offset units some text offset count all found))
+    (λ (e : left ≡ 0 → ⊥). rw (ne_eqb left 0 e) (none_is (λ (o : ℕ). HasUnitsBefore units text o count)
+    (λ o has. none_there units is.passed.passed is.rest left has.index is.few (omega (arith, e))
+    (ap (λ cs. sum_by units (take has.index cs)) (sym is.passed.text_is)
+    ∙ (sym (units_from_start units text has.index) ∙ (has.count_is ∙ sym is.passed.count_is)))) found))
+    (cases_eq left 0)

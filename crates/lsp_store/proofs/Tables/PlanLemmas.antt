@@ -1,5 +1,5 @@
 -- What a plan is of, and what it makes of a store.
-use Rattle.lsp_store.proofs.Prelude.{◌≡◌, ◌+◌, ◌≤◌, ℕ, ℤ, zero, suc, Bool, true, false, List, [], ◌∷◌, length, map, nat_lt, Option, Some, None, Result, Ok, Err, IfOk, IfErr, OnOk, option_map, slice_get, position, String, string_bytes, bytes_eq, refl, sym, ap, ◌∙◌, subst, arith, ⊎_elim, cases_Bool, slice_get-map, bytes_eq-Decides, lookup, lookup_key, Global, set_value_at, LimitsData, Encoding, units_in, Item, ContentChange, meaning, canonical, IsDeltaOf, IsOn, bytes_after, delta_encoding, meant_by, DocumentItem, Plan, Stored, StoreData, Takes, entry_of, entry_under, IsPlanOf, IsPlanOn, after_plan, planned, planned_table, StoreFault, IsRefusal, body_refusal, canonical_batch, canonical_body, change_body, message_refusal, Refusal, after_change, changed, changes, entry_at, entry_refusal, common_steps}
+use Rattle.lsp_store.proofs.Prelude.{◌≡◌, ◌≤◌, ℕ, ℤ, zero, suc, Bool, List, [], ◌∷◌, length, map, nat_lt, Option, Some, None, Result, Ok, Err, IfOk, OnOk, option_map, slice_get, position, String, string_bytes, bytes_eq, refl, sym, ap, ◌∙◌, subst, arith, cases_Bool, slice_get-map, bytes_eq-Decides, lookup, lookup_key, Global, set_value_at, LimitsData, Encoding, units_in, Item, ContentChange, meaning, canonical, IsDeltaOf, IsOn, bytes_after, delta_encoding, meant_by, DocumentItem, Plan, Stored, StoreData, Takes, entry_of, entry_under, IsPlanOf, IsPlanOn, after_plan, planned, planned_table, StoreFault, IsRefusal, body_refusal, canonical_batch, canonical_body, change_body, message_refusal, Refusal, after_change, changed, changes, entry_at, entry_refusal, common_steps}
 use Rattle.std.specs.List.{position_or_len}
 use Rattle.std.specs.Str.{IsUtf8, chars}
 use Rattle.lsp_edit.specs.declared.delta.Delta.{Delta}
@@ -15,18 +15,10 @@ pub on_ok_on : {A E P O Q : Type 0} (r : Result A E) → (P → O → Q) → OnO
 on_ok_on (Ok a) then p o = then p o
 on_ok_on (Err e) then p o = tt
 
-pub if_ok : {A E : Type 0} {P Q : A → Type 0} (r : Result A E) → ((a : A) → P a → Q a) → IfOk r P → IfOk r Q
-if_ok (Ok a) then p = then a p
-if_ok (Err e) then p = tt
-
 pub if_ok_on : {A E O : Type 0} {P Q : A → Type 0} (r : Result A E) → ((a : A) → P a → O → Q a) → IfOk r P → OnOk r O
     → IfOk r Q
 if_ok_on (Ok a) then p o = then a p o
 if_ok_on (Err e) then p o = tt
-
-pub if_err : {A E : Type 0} {P Q : E → Type 0} (r : Result A E) → ((e : E) → P e → Q e) → IfErr r P → IfErr r Q
-if_err (Ok a) then p = tt
-if_err (Err e) then p = then e p
 
 pub ok_from : {A E Q : Type 0} {P : A → Type 0} (r : Result A E) → ((a : A) → P a → Q) → IfOk r P → OnOk r Q
 ok_from (Ok a) then p = then a p
@@ -61,10 +53,7 @@ pub put_planned : (es : List (String Global × Stored)) (index : ℕ) (key : Str
     → map entry_of (set_value_at es index new) ≡ planned_table (map entry_of es) index version delta
 put_planned [] index key stored new version delta at is = absurd (cc)
 put_planned (e ∷ es) zero key stored new version delta at is =
-    let same : e.1 ≡ stored =
-    ap (λ (o : Option (String Global × Stored)). elim o [ None ↦ stored | Some p ↦ p.1 ]) at in
-    ap (λ (entry : DocumentItem). entry ∷ map entry_of es) (is (string_bytes e.0)
-    ∙ ap (λ (s : Stored). planned (entry_under (string_bytes e.0) s) version delta) (sym same))
+    grind (arith, common_steps, (is (string_bytes e.0)))
 put_planned (e ∷ es) (suc index) key stored new version delta at is =
     ap (λ (table : List DocumentItem). entry_of e ∷ table) (put_planned es index key stored new version delta at is)
 
@@ -72,19 +61,14 @@ pub put_unchanged : (es : List (String Global × Stored)) (index : ℕ) (key : S
     → slice_get es index ≡ Some (key, stored) → ((uri : List ℕ) → entry_under uri new ≡ entry_under uri stored)
     → map entry_of (set_value_at es index new) ≡ map entry_of es
 put_unchanged [] index key stored new at is = absurd (cc)
-put_unchanged (e ∷ es) zero key stored new at is =
-    let same : e.1 ≡ stored =
-    ap (λ (o : Option (String Global × Stored)). elim o [ None ↦ stored | Some p ↦ p.1 ]) at in
-    ap (λ (entry : DocumentItem). entry ∷ map entry_of es) (is (string_bytes e.0)
-    ∙ ap (λ (s : Stored). entry_under (string_bytes e.0) s) (sym same))
+put_unchanged (e ∷ es) zero key stored new at is = grind (arith, common_steps, (is (string_bytes e.0)))
 put_unchanged (e ∷ es) (suc index) key stored new at is =
     ap (λ (table : List DocumentItem). entry_of e ∷ table) (put_unchanged es index key stored new at is)
 
 pub put_length : (es : List (String Global × Stored)) (index : ℕ) (stored : Stored)
     → length (set_value_at es index stored) ≡ length es
-put_length [] index stored = refl
-put_length (e ∷ es) zero stored = refl
 put_length (e ∷ es) (suc index) stored = ap suc (put_length es index stored)
+put_length _ _ stored = refl
 
 -- ---- the index of a URI
 
@@ -102,23 +86,9 @@ module _ (units : ℕ → ℕ) (uri : List ℕ) (version : ℤ) (batch : List Co
       ≡ planned_table (map entry_of es) index version delta
   after_planned is [] index first at = refl
   after_planned is (e ∷ es) zero first at =
-      ⊎_elim
-      (λ (here : bytes_eq uri (string_bytes e.0) ≡ true).
-      let same : e.1 ≡ stored =
-      ap (λ (o : Option (String Global × Stored)). elim o [ None ↦ stored | Some p ↦ p.1 ]) at in
-      rw (here, same) (ap (λ (entry : DocumentItem). entry ∷ map entry_of es) (is (string_bytes e.0))))
-      (λ (later : bytes_eq uri (string_bytes e.0) ≡ false). let bad : 1 + position_or_len (at_uri uri)
-      (map (λ e. e.0) es) ≡ 0 = rw later at first in absurd (omega (arith, bad)))
-      (cases_Bool (bytes_eq uri (string_bytes e.0)))
+      grind (arith, common_steps, bytes_eq, cases_Bool, (is (string_bytes e.0)))
   after_planned is (e ∷ es) (suc index) first at =
-      ⊎_elim
-      (λ (here : bytes_eq uri (string_bytes e.0) ≡ true). let bad : 0 ≡ suc index = rw here at first in
-      absurd (omega (arith, bad)))
-      (λ (later : bytes_eq uri (string_bytes e.0) ≡ false).
-      let next : 1 + position_or_len (at_uri uri) (map (λ e. e.0) es) ≡ suc index = rw later at first in
-      rw later (ap (λ (table : List DocumentItem). entry_of e ∷ table)
-      (after_planned is es index (omega (arith, next)) at)))
-      (cases_Bool (bytes_eq uri (string_bytes e.0)))
+      grind (arith, common_steps, bytes_eq, cases_Bool, (after_planned is es index))
 
 -- ---- a plan
 
@@ -201,13 +171,7 @@ entry_uri : (table : List DocumentItem) (uri : List ℕ) (entry : DocumentItem) 
     → entry.uri ≡ uri
 entry_uri [] uri entry found = absurd (cc)
 entry_uri (first ∷ table) uri entry found =
-    ⊎_elim
-    (λ (is : bytes_eq uri first.uri ≡ true).
-    let same : Some first ≡ Some entry = rw is at found in
-    let first_is : first ≡ entry = cc in
-    ap (λ (e : DocumentItem). e.uri) (sym first_is) ∙ sym ((bytes_eq-Decides uri first.uri).0 is))
-    (λ (not : bytes_eq uri first.uri ≡ false). entry_uri table uri entry (rw not at found))
-    (cases_Bool (bytes_eq uri first.uri))
+    grind (arith, common_steps, bytes_eq, bytes_eq-Decides, cases_Bool, (entry_uri table uri entry))
 
 module _ (kept : StoreData) (uri : List ℕ) (version : ℤ) (encoding : Encoding) (batch : List ContentChange)
     (plan : Plan)

@@ -7,11 +7,15 @@ pub batch_bytes-changes : (changes : List Change) → batch_bytes (map content_c
     ≡ sum_by (λ change. string_len change.text) changes
 batch_bytes-changes [] = refl
 batch_bytes-changes (c ∷ cs) =
-    sum_by-cons (λ (e : ContentChange). length (encode_utf8_all e.text)) (content_change c) (map content_change cs)
-    ∙ (ap (λ n. n + batch_bytes (map content_change cs))
-    (ap length (encodes-chars (string_bytes c.text) (IsUtf8-string_bytes c.text)) ∙ sym c.text.bytes.ok.0)
-    ∙ (ap (λ n. string_len c.text + n) (batch_bytes-changes cs)
-    ∙ sym (sum_by-cons (λ (c : Change). string_len c.text) c cs)))
+    grind (
+      arith,
+      common_steps,
+      sum_by-cons,
+      encodes-chars,
+      IsUtf8-string_bytes,
+      c.text.bytes.ok.0,
+      (batch_bytes-changes cs),
+    )
 
 module _ (limits : LimitsData) (units : ℕ → ℕ) (entry : DocumentItem) (version : ℤ) (batch : List ContentChange)
     (newer : is_stale limits version entry.version ≡ false) where
@@ -97,6 +101,5 @@ meaning_within limits bytes (Ok items) is = grind (arith, common_steps, nat_lt, 
 
 -- Only out of memory becomes out of memory.
 pub memory_told : (fault : BatchFault) → store_fault_of fault ≡ NoMemory → fault ≡ text.NoMemory
-memory_told (text.Edit why) e = cc
-memory_told text.TooLong e = cc
 memory_told text.NoMemory e = refl
+memory_told _ e = cc

@@ -1,5 +1,5 @@
 -- What the calls of a store make of it.
-use Rattle.lsp_store.proofs.Prelude.{◌≡◌, ◌≤◌, ◌<◌, ◌+◌, ◌++◌, ℕ, ℤ, Bool, true, false, not, ◌&&◌, List, [], ◌∷◌, length, map, Option, Some, None, option_map, is_some, slice_get, String, string_bytes, refl, sym, ap, ◌∙◌, subst, arith, inr, lt-ltb, le-ltb, le-leb, lt-leb, length-append, length-map, slice_get-map, lookup, lookup_key, remove_entry, Global, LimitsData, Encoding, units_in, ContentChange, StoreFault, TooManyDocuments, TextTooLong, NotOpen, Stored, refusal_fault, IsRefusal, DocumentItem, IsLeftToMeaning, entry_at, is_taken, open_refusal, entry_refusal, change_refusal, after_close, after_open, opens, changes, closes, ChangeMayAllocate, StoreData, Takes, IsRefused, entry_under, entry_of, common_steps}
+use Rattle.lsp_store.proofs.Prelude.{◌≡◌, ◌≤◌, ◌<◌, ◌+◌, ◌++◌, ℕ, ℤ, Bool, true, false, not, ◌&&◌, List, [], ◌∷◌, length, map, Option, Some, None, option_map, is_some, slice_get, String, string_bytes, refl, sym, ap, ◌∙◌, subst, arith, inr, lt-ltb, le-ltb, le-leb, lt-leb, length-append, length-map, slice_get-map, lookup, lookup_key, remove_entry, Global, LimitsData, Encoding, units_in, ContentChange, StoreFault, TooManyDocuments, TextTooLong, NotOpen, Stored, refusal_fault, IsRefusal, DocumentItem, IsLeftToMeaning, entry_at, is_taken, open_refusal, entry_refusal, change_refusal, after_close, after_open, opens, changes, closes, ChangeMayAllocate, StoreData, Takes, IsRefused, entry_under, entry_of, common_steps, nat_le, nat_lt}
 use Rattle.lsp_store.proofs.Tables.TableLemmas.{at_uri, entry_at-lookup, is_some-entry_at, entry_found, table-opened, others_all, others_but_one, table-remove_entry}
 
 -- what callers see of the fields
@@ -12,23 +12,15 @@ module _ (limits : LimitsData) (table : List DocumentItem) (entry : DocumentItem
   module _ (free : is_taken limits table entry.uri ≡ false) where
     pub many_refused : limits.max_docs ≤ length (after_close table entry.uri)
         → option_map refusal_fault (open_refusal limits table entry) ≡ Some TooManyDocuments
-    many_refused many = rw (free, le-leb limits.max_docs (length (after_close table entry.uri)) many) refl
+    many_refused many = grind (arith, common_steps, nat_le, le-leb)
 
     module _ (few : length (after_close table entry.uri) < limits.max_docs) where
       pub long_refused : limits.max_text < length entry.text
           → option_map refusal_fault (open_refusal limits table entry) ≡ Some TextTooLong
-      long_refused long = rw (
-        free,
-        lt-leb limits.max_docs (length (after_close table entry.uri)) few,
-        lt-ltb limits.max_text (length entry.text) long,
-      ) refl
+      long_refused long = grind (arith, common_steps, nat_le, nat_lt, lt-leb, lt-ltb)
 
       pub open_accepted : length entry.text ≤ limits.max_text → open_refusal limits table entry ≡ None
-      open_accepted short = rw (
-        free,
-        lt-leb limits.max_docs (length (after_close table entry.uri)) few,
-        le-ltb limits.max_text (length entry.text) short,
-      ) refl
+      open_accepted short = grind (arith, common_steps, nat_le, nat_lt, lt-leb, le-ltb)
 
 module _ (limits : LimitsData) (es : List (String Global × Stored)) (kept : StoreData)
     (view : seen limits es ≡ kept) where

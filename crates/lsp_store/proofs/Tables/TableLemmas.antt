@@ -1,5 +1,5 @@
 -- The table of documents as an ordered map keeps it.
-use Rattle.lsp_store.proofs.Prelude.{◌≡◌, ◌≤◌, ◌+◌, ℕ, Bool, true, false, List, [], ◌∷◌, ◌++◌, length, map, Option, Some, None, option_map, is_some, String, string_bytes, bytes_eq, refl, ap, ◌∙◌, arith, ⊎_elim, cases_Bool, bytes_eq-Decides, map-append, lookup, lookup_key, remove_entry, Global, Stored, DocumentItem, entry_at, after_close, after_open, entry_under, entry_of, common_steps}
+use Rattle.lsp_store.proofs.Prelude.{◌≡◌, ◌≤◌, ◌+◌, ℕ, Bool, true, false, List, [], ◌∷◌, ◌++◌, length, map, Option, Some, None, option_map, is_some, String, string_bytes, bytes_eq, refl, ap, ◌∙◌, arith, cases_Bool, bytes_eq-Decides, map-append, lookup, lookup_key, remove_entry, Global, Stored, DocumentItem, entry_at, after_close, after_open, entry_under, entry_of, common_steps}
 
 -- whether a key is this URI
 abbrev pub at_uri : List ℕ → String Global → Bool
@@ -26,11 +26,7 @@ pub entry_found : (uri : List ℕ) (es : List (String Global × Stored)) (key : 
     → Some (entry_under (string_bytes key) stored) ≡ entry_at (map entry_of es) uri
 entry_found uri [] key stored at found = absurd (cc)
 entry_found uri (e ∷ es) key stored at found =
-    ⊎_elim
-    (λ (is : bytes_eq uri (string_bytes e.0) ≡ true).
-    grind (arith, common_steps))
-    (λ (not : bytes_eq uri (string_bytes e.0) ≡ false). rw not
-    (entry_found uri es key stored (rw not at at) (rw not at found))) (cases_Bool (bytes_eq uri (string_bytes e.0)))
+    grind (arith, common_steps, bytes_eq, string_bytes, cases_Bool, (entry_found uri es key stored))
 
 -- a URI that is taken out is closed
 pub table-remove_entry : (uri : List ℕ) (es : List (String Global × Stored))
@@ -59,15 +55,10 @@ table-opened es key stored =
 pub others_all : (table : List DocumentItem) (uri : List ℕ) → is_some (entry_at table uri) ≡ false
     → after_close table uri ≡ table
 others_all [] uri absent = refl
-others_all (first ∷ table) uri absent =
-    ⊎_elim (λ (is : bytes_eq uri first.uri ≡ true). let bad : true ≡ false = rw is at absent in absurd (cc))
-    (λ (not : bytes_eq uri first.uri ≡ false). rw not (ap (λ (more : List DocumentItem). first ∷ more)
-    (others_all table uri (rw not at absent)))) (cases_Bool (bytes_eq uri first.uri))
+others_all (first ∷ table) uri absent = grind (arith, common_steps, bytes_eq, cases_Bool, (others_all table uri))
 
 pub others_but_one : (table : List DocumentItem) (uri : List ℕ) → is_some (entry_at table uri) ≡ true
     → length (after_close table uri) + 1 ≡ length table
 others_but_one [] uri found = absurd (let bad : false ≡ true = found in cc)
 others_but_one (first ∷ table) uri found =
-    ⊎_elim (λ (is : bytes_eq uri first.uri ≡ true). rw is (omega arith))
-    (λ (not : bytes_eq uri first.uri ≡ false). rw not (omega (arith, others_but_one table uri (rw not at found))))
-    (cases_Bool (bytes_eq uri first.uri))
+    grind (arith, common_steps, bytes_eq, cases_Bool, (others_but_one table uri))

@@ -11,10 +11,8 @@ returns-in_err-plan-clause-error c =
     let limits = ap (λ (x : ClientData). x.limits) c.self.view_is in
     let table = ap (λ (x : ClientData). x.table) c.self.view_is in
     let p = err_from_is_err_and c.from_residual.result c.from_residual.ensures.1 in
-    rw (
-      p.1,
-      p.2,
-    ) (first_told _ _ _ (rw (version, c.agreement-agreed.ensures, limits, table) at c.in_err-plan.ensures.error))
+    rw (p.1, p.2)
+    (first_told _ _ _ (rw (version, c.agreement-agreed.ensures, limits, table) at c.in_err-plan.ensures.error))
 
 pub returns-in_err-frame-in-Full-clause-error : goal.returns-in_err-frame-in-Full-clause-error
 returns-in_err-frame-in-Full-clause-error c =
@@ -33,10 +31,8 @@ returns-in_err-frame-in-Full-clause-error c =
     (left ∙ sym (ap (map content_change) c.in_ok-changes-in-Full.ensures.items)) in
     let p = err_from_is_err_and c.from_residual-in_err-frame-in-Full.result
     c.from_residual-in_err-frame-in-Full.ensures.1 in
-    rw (
-      p.1,
-      p.2,
-    ) (long_refused c.limits.result s (agreement s).kind (change_of s c.args.uri.now c.args.version batch) _
+    rw (p.1, p.2)
+    (long_refused c.limits.result s (agreement s).kind (change_of s c.args.uri.now c.args.version batch) _
     c.in_err-frame-in-Full.field-0.0 (c.limits.ensures ∙ limits) may body
     (rw version at c.in_err-frame-in-Full.ensures.error))
 

@@ -1,20 +1,15 @@
-use Rattle.lsp_client.proofs.Prelude.{◌≡◌, ◌∙◌, ap, sym, None, string_bytes, rules, w32, to_z, of_z, inr, refl, to_z-of_z, err_from_is_err_and, DocumentItem, Takes, Command, command_refusal, ClientData, agreement}
+use Rattle.lsp_client.proofs.Prelude.{◌≡◌, ◌∙◌, ap, sym, None, string_bytes, rules, w32, to_z, of_z, inr, refl, to_z-of_z, err_from_is_err_and, Takes, Command, command_refusal, ClientData, agreement}
 use Rattle.lsp_message.specs.declared.params.OpenParams.{OpenParams}
 use Rattle.lsp_client.proofs.OrderLemmas.{some_same}
 use Rattle.lsp_store.proofs.Messages.MessageLemmas.{first_told}
-use Rattle.lsp_client.proofs.SentLemmas.{order_sent, open_sent, long_refused, body_framed}
+use Rattle.lsp_client.proofs.SentLemmas.{order_sent, open_sent, long_refused, body_framed, document_of}
 use Rattle.lsp_store.specs.Table as documents
 use Rattle.lsp_client.proofs.client.Client.send_open.Goals as goal
 
 pub returns-in_err-check_open-clause-error : goal.returns-in_err-check_open-clause-error
 returns-in_err-check_open-clause-error c =
     let s : ClientData = c.args.self.now in
-    let entry : DocumentItem = record {
-      uri = string_bytes c.args.uri;
-      language = string_bytes c.args.language;
-      version = c.args.version;
-      text = string_bytes c.args.text;
-    } in
+    let entry = document_of c.args.uri c.args.language c.args.version c.args.text in
     let p = err_from_is_err_and c.from_residual.result c.from_residual.ensures.1 in
     rw (p.1, p.2)
     (first_told (command_refusal s.limits s.table (documents.opens entry)) _ _
@@ -29,12 +24,7 @@ pub returns-in_err-frame-clause-error : goal.returns-in_err-frame-clause-error
 returns-in_err-frame-clause-error c =
     let s : ClientData = c.args.self.now in
     let version : to_z w32 (of_z w32 c.args.version) ≡ c.args.version = to_z-of_z w32 c.args.version (search rules) in
-    let params : DocumentItem = record {
-      uri = string_bytes c.args.uri;
-      language = string_bytes c.args.language;
-      version = c.args.version;
-      text = string_bytes c.args.text;
-    } in
+    let params = document_of c.args.uri c.args.language c.args.version c.args.text in
     let command : Command = documents.opens params in
     let limits : c.limits.result ≡ s.limits = c.limits.ensures ∙ ap (λ (x : ClientData). x.limits) c.self.view_is in
     let may : command_refusal s.limits s.table command ≡ None =
@@ -53,12 +43,7 @@ pub returns-clause-ok : goal.returns-clause-ok
 returns-clause-ok c =
     let s : ClientData = c.args.self.now in
     let version : to_z w32 (of_z w32 c.args.version) ≡ c.args.version = to_z-of_z w32 c.args.version (search rules) in
-    let params : DocumentItem = record {
-      uri = string_bytes c.args.uri;
-      language = string_bytes c.args.language;
-      version = c.args.version;
-      text = string_bytes c.args.text;
-    } in
+    let params = document_of c.args.uri c.args.language c.args.version c.args.text in
     let command : Command = documents.opens params in
     let limits : c.limits.result ≡ s.limits = c.limits.ensures ∙ ap (λ (x : ClientData). x.limits) c.self.view_is in
     let body = open_sent (agreement s).kind s.table params in

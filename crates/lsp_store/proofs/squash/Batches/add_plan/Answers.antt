@@ -1,5 +1,5 @@
-use Rattle.lsp_store.proofs.Prelude.{◌≡◌, ◌∙◌, List, ℕ, refl, ap, sym, subst, string_bytes, rules, w32, to_z, of_z, to_z-of_z, IsOn, DocumentItem, SquashData, squash_under}
-use Rattle.lsp_store.proofs.SquashLemmas.{plan_after, plan_at, plan_reached, reached_under}
+use Rattle.lsp_store.proofs.Prelude.{◌∙◌, List, ℕ, refl, ap, sym, subst, string_bytes, rules, w32, to_z-of_z, IsOn, DocumentItem, SquashData, squash_under}
+use Rattle.lsp_store.proofs.SquashLemmas.{plan_added, plan_at, reached_under}
 use Rattle.lsp_store.proofs.squash.Batches.add_plan.Goals as goal
 
 pub add_delta-requires-clause-reached : goal.add_delta-requires-clause-reached
@@ -18,25 +18,16 @@ add_delta-requires-clause-on c =
 
 pub returns-clause-added : goal.returns-clause-added
 returns-clause-added c = λ uri version encoding batch q.
-    let given : to_z w32 (of_z w32 c.args.plan.now.version) ≡ c.args.plan.now.version =
-    to_z-of_z w32 c.args.plan.now.version (search rules) in
     let limits = c.args.store.now.limits in
-    let view = ap (squash_under limits encoding) c.self.view_is in
-    let reached = plan_reached (string_bytes c.self.inside.uri) limits encoding c.self.inside.joined
-    c.add_delta.new.self c.self.inside.version _ (squash_under limits encoding c.args.self.now) view c.args.store.now
-    c.args.plan.now given c.document.inside.stored.now.text
+    let added = plan_added (string_bytes c.self.inside.uri) limits encoding c.self.inside.joined
+    c.add_delta.new.self c.self.inside.version _ (squash_under limits encoding c.args.self.now)
+    (ap (squash_under limits encoding) c.self.view_is) c.args.store.now c.args.plan.now
+    (to_z-of_z w32 c.args.plan.now.version (search rules)) c.document.inside.stored.now.text
     (λ on. ap (λ (e : DocumentItem). e.text) (c.document.view_is ∙ c.planned_document-document.ensures on))
     (λ on. reached_under limits encoding (c.requires.reached on))
     c.in_ok-add_delta.ensures.ok c.in_ok-add_delta.ensures.reached uri version encoding batch q refl refl in (
-      plan_after (string_bytes c.self.inside.uri) limits encoding c.self.inside.joined
-          c.add_delta.new.self c.self.inside.version _ (squash_under limits encoding c.args.self.now) view
-          c.args.store.now c.args.plan.now
-          given
-          c.document.inside.stored.now.text
-          (λ on. ap (λ (e : DocumentItem). e.text) (c.document.view_is ∙ c.planned_document-document.ensures on))
-          (λ on. reached_under limits encoding (c.requires.reached on))
-          c.in_ok-add_delta.ensures.ok c.in_ok-add_delta.ensures.reached uri version encoding batch q refl refl,
+      added.0,
       ap (λ (k : SquashData). k.limits) c.self.view_is,
       ap (λ (k : SquashData). k.encoding) c.self.view_is,
-      record { text = reached.text; version = reached.version },
+      record { text = added.1.text; version = added.1.version },
     )

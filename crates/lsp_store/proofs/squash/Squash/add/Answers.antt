@@ -1,18 +1,15 @@
-use Rattle.lsp_store.proofs.Prelude.{◌≡◌, Err, map, rules, w32, to_z, of_z, to_z-of_z, err_from_is_err_and, content_change, NoMemory}
-use Rattle.lsp_store.proofs.SquashLemmas.{add_accepted, add_refused, reached_still}
+use Rattle.lsp_store.proofs.Prelude.{◌≡◌, Err, rules, w32, to_z, of_z, to_z-of_z, err_from_is_err_and, NoMemory}
 use Rattle.lsp_store.proofs.squash.Squash.add.Goals as goal
 
 pub invariant_of-self : goal.invariant_of-self
 invariant_of-self c =
-    reached_still _ _ _ _ c.in_err-change.ensures.unchanged c.in_err-change.ensures.reached_unchanged c.self.invariant
+    rw (c.in_err-change.ensures.unchanged, c.in_err-change.ensures.reached_unchanged) c.self.invariant
 
 pub returns-in_err-change-clause-error : goal.returns-in_err-change-clause-error
 returns-in_err-change-clause-error c =
     let version : to_z w32 (of_z w32 c.args.version) ≡ c.args.version = to_z-of_z w32 c.args.version (search rules) in
     let p = err_from_is_err_and c.from_residual.result c.from_residual.ensures.1 in
-    rw (p.1, p.2)
-    (add_refused _ _ c.self.view_is c.args.version (map content_change c.args.changes.now) _
-    (rw version at c.in_err-change.ensures.error))
+    rw (p.1, p.2) (rw (version, c.self.view_is) at c.in_err-change.ensures.error)
 
 pub returns-in_err-change-clause-one : goal.returns-in_err-change-clause-one
 returns-in_err-change-clause-one c = λ e range text is.
@@ -22,5 +19,4 @@ returns-in_err-change-clause-one c = λ e range text is.
     let same = p.2 in
     let was = c.in_err-change.was in
     let no_memory : c.change.result ≡ Err NoMemory = cc in
-    add_accepted _ _ c.self.view_is c.args.version (map content_change c.args.changes.now)
-    (rw version at (c.change.ensures.one no_memory range text is))
+    rw (version, c.self.view_is) at (c.change.ensures.one no_memory range text is)

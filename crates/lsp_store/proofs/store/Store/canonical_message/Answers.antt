@@ -1,4 +1,4 @@
-use Rattle.lsp_store.proofs.Prelude.{◌≡◌, Err, List, ap, length, map, arith, rules, w32, to_z, of_z, to_z-of_z, ContentChange, content_change, StoreFault, NoMemory, IsPlanOf}
+use Rattle.lsp_store.proofs.Prelude.{◌≡◌, Err, ap, length, arith, rules, w32, to_z, of_z, to_z-of_z, StoreFault, NoMemory}
 use Rattle.lsp_store.proofs.Messages.MessageLemmas.{first_told, texts_held}
 use Rattle.lsp_store.proofs.Messages.PlannedLemmas.{plan_alike, plan_read, plan_settled}
 use Rattle.lsp_store.proofs.Tables.PlanLemmas.{ok_from}
@@ -18,37 +18,25 @@ returns-in-Err-clause-one c = λ e.
 pub returns-in-Ok-clause-exactly : goal.returns-in-Ok-clause-exactly
 returns-in-Ok-clause-exactly c =
     let version : to_z w32 (of_z w32 c.args.version) ≡ c.args.version = to_z-of_z w32 c.args.version (search rules) in
-    let batch : List ContentChange = map content_change c.args.changes.now in
-    let q : IsPlanOf c.args.self.now c.args.uri.now c.args.version c.args.encoding batch c.in-Ok.plan =
-    rw version at c.in-Ok.ensures.planned in
+    let q = rw version at c.in-Ok.ensures.planned in
     ok_from c.planned_message.result
     (λ bytes is other texts also.
-    let framed = (is c.args.uri.now c.args.version c.args.encoding batch q).0 in
-    plan_alike c.args.self.now c.args.uri.now c.args.version c.args.encoding batch c.in-Ok.plan q c.utf8.uri
-    c.ranges.version (texts_held c.args.changes.now) (omega (arith, ap length framed, bytes.ok, bytes.small)) other
-    texts also)
+    let framed = (is _ _ _ _ q).0 in
+    plan_alike _ _ _ _ _ _ q c.utf8.uri c.ranges.version (texts_held c.args.changes.now)
+    (omega (arith, ap length framed, bytes.ok, bytes.small)) other texts also)
     c.planned_message.ensures.framed
 
 pub returns-in-Ok-clause-again : goal.returns-in-Ok-clause-again
 returns-in-Ok-clause-again c =
     let version : to_z w32 (of_z w32 c.args.version) ≡ c.args.version = to_z-of_z w32 c.args.version (search rules) in
-    let batch : List ContentChange = map content_change c.args.changes.now in
-    let q : IsPlanOf c.args.self.now c.args.uri.now c.args.version c.args.encoding batch c.in-Ok.plan =
-    rw version at c.in-Ok.ensures.planned in
-    ok_from c.planned_message.result
-    (λ bytes is. plan_settled c.args.self.now c.args.uri.now c.args.version c.args.encoding batch
-    c.in-Ok.plan q
-    (is c.args.uri.now c.args.version c.args.encoding batch q).1)
+    let q = rw version at c.in-Ok.ensures.planned in
+    ok_from c.planned_message.result (λ bytes is. plan_settled _ _ _ _ _ _ q (is _ _ _ _ q).1)
     c.planned_message.ensures.framed
 
 pub returns-in-Ok-clause-read : goal.returns-in-Ok-clause-read
 returns-in-Ok-clause-read c =
     let version : to_z w32 (of_z w32 c.args.version) ≡ c.args.version = to_z-of_z w32 c.args.version (search rules) in
-    let batch : List ContentChange = map content_change c.args.changes.now in
-    let q : IsPlanOf c.args.self.now c.args.uri.now c.args.version c.args.encoding batch c.in-Ok.plan =
-    rw version at c.in-Ok.ensures.planned in
+    let q = rw version at c.in-Ok.ensures.planned in
     ok_from c.planned_message.result
-    (λ bytes is. plan_read c.args.self.now c.args.uri.now c.args.version c.args.encoding batch
-    c.in-Ok.plan q
-    c.utf8.uri c.ranges.version (texts_held c.args.changes.now))
+    (λ bytes is. plan_read _ _ _ _ _ _ q c.utf8.uri c.ranges.version (texts_held c.args.changes.now))
     c.planned_message.ensures.framed

@@ -5,10 +5,8 @@ use Rattle.lsp_store.proofs.store.Store.open.Goals as goal
 pub returns-in_err-check_open-clause-error : goal.returns-in_err-check_open-clause-error
 returns-in_err-check_open-clause-error c =
     let p = err_from_is_err_and c.from_residual.result c.from_residual.ensures.1 in
-    rw (p.1, p.2) (inr (rw (
-      c.deref.ensures,
-      c.deref-2.ensures,
-    ) at (c.in_err-check_open.ensures.error (string_bytes c.args.language) c.args.version)))
+    rw (p.1, p.2) (inr (rw (c.deref.ensures, c.deref-2.ensures) at
+    (c.in_err-check_open.ensures.error (string_bytes c.args.language) c.args.version)))
 
 pub invariant_of-self-2 : goal.invariant_of-self-2
 invariant_of-self-2 c =
@@ -24,21 +22,15 @@ returns-clause-taken c =
     opened c.self.inside.limits c.self.inside.documents.entries c.args.self.now c.self.view_is c.args.uri
     c.in_ok-stored.stored _ (rw version at (c.in_ok-stored.ensures (string_bytes c.args.uri))) _
     c.in_ok-insert_last.ensures.inserted
-    (rw (
-      c.deref.ensures,
-      c.deref-2.ensures,
-    ) at (c.in_ok-check_open.ensures.may (string_bytes c.args.language) c.args.version))
+    (rw (c.deref.ensures, c.deref-2.ensures) at
+    (c.in_ok-check_open.ensures.may (string_bytes c.args.language) c.args.version))
 
 pub returns-in_err-stored-clause-memory : goal.returns-in_err-stored-clause-memory
 returns-in_err-stored-clause-memory c = λ e.
-    rw (
-      c.deref.ensures,
-      c.deref-2.ensures,
-    ) at (c.in_ok-check_open.ensures.may (string_bytes c.args.language) c.args.version)
+    rw (c.deref.ensures, c.deref-2.ensures) at
+    (c.in_ok-check_open.ensures.may (string_bytes c.args.language) c.args.version)
 
 pub returns-in_err-insert_last-clause-memory : goal.returns-in_err-insert_last-clause-memory
 returns-in_err-insert_last-clause-memory c = λ e.
-    rw (
-      c.deref.ensures,
-      c.deref-2.ensures,
-    ) at (c.in_ok-check_open.ensures.may (string_bytes c.args.language) c.args.version)
+    rw (c.deref.ensures, c.deref-2.ensures) at
+    (c.in_ok-check_open.ensures.may (string_bytes c.args.language) c.args.version)

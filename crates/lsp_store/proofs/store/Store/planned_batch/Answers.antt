@@ -8,9 +8,8 @@ returns c = λ uri version encoding batch q.
     to_z-of_z w32 c.args.plan.now.version (search rules) in
     let h : HasEntry c.self.inside.documents.entries c.args.plan.now.index c.in-Some.stored.now =
     record { key = c.in-Some.uri.now; at = sym c.in-Some.ensures.entry } in
-    planned_body c.args.self.now uri version encoding batch c.args.plan.now q
-    _ (plan_text c.self.inside.limits c.self.inside.documents.entries c.args.self.now c.self.view_is c.args.plan.now
-    q.on c.in-Some.stored.now h)
+    planned_body _ _ _ _ _ _ q _ (plan_text c.self.inside.limits c.self.inside.documents.entries c.args.self.now
+    c.self.view_is c.args.plan.now q.on c.in-Some.stored.now h)
     _ c.in_ok-batch.ensures
     _ (plan_key c.self.inside.limits c.self.inside.documents.entries c.args.self.now c.self.view_is c.args.plan.now q.on
     c.in-Some.stored.now h ∙ sym c.deref.ensures)

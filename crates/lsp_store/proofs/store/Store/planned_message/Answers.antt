@@ -1,5 +1,5 @@
-use Rattle.lsp_store.proofs.Prelude.{◌≡◌, ap, ◌∙◌, rules, w32, to_z, of_z, to_z-of_z, frame}
-use Rattle.lsp_store.proofs.Tables.PlanLemmas.{if_err, if_ok_on, planned_accepted, planned_refused}
+use Rattle.lsp_store.proofs.Prelude.{◌≡◌, ap, ◌∙◌, rules, w32, to_z, of_z, to_z-of_z, frame, IfErr-weaker}
+use Rattle.lsp_store.proofs.Tables.PlanLemmas.{if_ok_on, planned_accepted, planned_refused}
 use Rattle.lsp_store.proofs.Tables.StoreLemmas.{limits_are}
 use Rattle.lsp_store.proofs.store.Store.planned_message.Goals as goal
 
@@ -12,8 +12,7 @@ returns-clause-framed c =
     (λ bytes is within uri version encoding batch q.
     let body = c.in_ok-uri.ensures uri version encoding batch q in (
       is ∙ ap frame body,
-      planned_accepted c.args.self.now uri version encoding batch c.args.plan.now q c.self.inside.limits limits _ body
-          within,
+      planned_accepted _ _ _ _ _ _ q c.self.inside.limits limits _ body within,
     ))
     (rw version at c.change_frame.ensures.framed)
     (rw version at c.change_frame.ensures.within)
@@ -23,7 +22,7 @@ returns-clause-error c =
     let version : to_z w32 (of_z w32 c.in_ok-uri.version) ≡ c.in_ok-uri.version =
     to_z-of_z w32 c.in_ok-uri.version (search rules) in
     let limits = limits_are c.self.inside.limits c.self.inside.documents.entries c.args.self.now c.self.view_is in
-    if_err c.change_frame.result
-    (λ fault why uri version encoding batch q. planned_refused c.args.self.now uri version encoding batch
-    c.args.plan.now q c.self.inside.limits limits _ (c.in_ok-uri.ensures uri version encoding batch q) fault why)
+    IfErr-weaker c.change_frame.result _ _
+    (λ fault why uri version encoding batch q. planned_refused _ _ _ _ _ _ q c.self.inside.limits limits _
+    (c.in_ok-uri.ensures uri version encoding batch q) fault why)
     (rw version at c.change_frame.ensures.error)

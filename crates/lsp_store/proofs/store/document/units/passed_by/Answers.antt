@@ -7,7 +7,7 @@ overflow_add-offset c =
     let units = units_in c.args.encoding in
     let text = chars c.args.text.now in
     let l = c.loop-c in
-    let next = passed_next units text _ _ c.in-Some.c l.offset l.left c.args.count l.invariant.utf8
+    let next = passed_next units text _ _ c.in-Some.c _ _ _ l.invariant.utf8
     c.in-Some.ensures.steps.0 l.invariant.passed in
     let more = passed_more units text _ c.in-Some.c _ _ l.offset l.left c.args.count c.len_utf8-offset.ensures.value
     c.units-here.ensures c.if-left-here.false next in
@@ -19,7 +19,7 @@ loop-c-preserved c =
     let text = chars c.args.text.now in
     let l = c.loop-c in
     let parts = c.in-Some.ensures.steps.0 in
-    let next = passed_next units text _ _ c.in-Some.c l.offset l.left c.args.count l.invariant.utf8 parts
+    let next = passed_next units text _ _ c.in-Some.c _ _ _ l.invariant.utf8 parts
     l.invariant.passed in
     record {
       utf8 = IsUtf8-past_char _ _ c.in-Some.c l.invariant.utf8 parts;

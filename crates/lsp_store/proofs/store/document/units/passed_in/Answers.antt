@@ -13,8 +13,7 @@ pub overflow_add-offset : goal.overflow_add-offset
 overflow_add-offset c =
     omega (
       arith,
-      chunk_few (units_in c.args.encoding) c.args.text.now c.chunk_from-chunk.result.now c.loop-offset.offset
-          c.loop-offset.left c.passed_by-passed.result.0 c.passed_by-passed.result.1 c.args.count c.len-len.ensures.utf8
+      chunk_few _ c.args.text.now c.chunk_from-chunk.result.now c.loop-offset.offset _ _ _ _ c.len-len.ensures.utf8
           c.loop-offset.invariant.at c.chunk_from-chunk.ensures.next c.chunk_from-chunk.ensures.part
           c.loop-offset.invariant.passed c.passed_by-passed.ensures,
       c.chunk_from-chunk.ensures.next.0,
@@ -23,20 +22,17 @@ overflow_add-offset c =
 
 pub returns-then-passed-size : goal.returns-then-passed-size
 returns-then-passed-size c =
-    chunk_stops (units_in c.args.encoding) c.args.text.now c.chunk_from-chunk.result.now c.loop-offset.offset
-    c.loop-offset.left c.passed_by-passed.result.0 c.passed_by-passed.result.1 c.args.count c.len-len.ensures.utf8
+    chunk_stops _ c.args.text.now c.chunk_from-chunk.result.now c.loop-offset.offset _ _ _ _ c.len-len.ensures.utf8
     c.loop-offset.invariant.at c.chunk_from-chunk.ensures.next c.chunk_from-chunk.ensures.part
     c.loop-offset.invariant.passed c.passed_by-passed.ensures c.if-passed-size.true
 
 pub loop-offset-preserved : goal.loop-offset-preserved
 loop-offset-preserved c = record {
-  at = chunk_next (units_in c.args.encoding) c.args.text.now c.chunk_from-chunk.result.now c.loop-offset.offset
-      c.loop-offset.left c.passed_by-passed.result.0 c.passed_by-passed.result.1 c.args.count c.len-len.ensures.utf8
+  at = chunk_next _ c.args.text.now c.chunk_from-chunk.result.now c.loop-offset.offset _ _ _ _ c.len-len.ensures.utf8
       c.loop-offset.invariant.at c.chunk_from-chunk.ensures.next c.chunk_from-chunk.ensures.part
       c.loop-offset.invariant.passed c.passed_by-passed.ensures c.if-passed-size.false;
-  passed = chunk_passed (units_in c.args.encoding) c.args.text.now c.chunk_from-chunk.result.now c.loop-offset.offset
-      c.loop-offset.left c.passed_by-passed.result.0 c.passed_by-passed.result.1 c.args.count c.len-len.ensures.utf8
-      c.loop-offset.invariant.at c.chunk_from-chunk.ensures.next c.chunk_from-chunk.ensures.part
+  passed = chunk_passed _ c.args.text.now c.chunk_from-chunk.result.now c.loop-offset.offset _ _ _ _
+      c.len-len.ensures.utf8 c.loop-offset.invariant.at c.chunk_from-chunk.ensures.next c.chunk_from-chunk.ensures.part
       c.loop-offset.invariant.passed c.passed_by-passed.ensures c.if-passed-size.false;
 }
 
