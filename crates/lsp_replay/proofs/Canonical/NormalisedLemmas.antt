@@ -1,5 +1,5 @@
 -- What `normalise` writes of a log: a log of which the same is told, and of which the same is written.
-use Rattle.lsp_replay.proofs.Prelude.{◌≡◌, ℕ, ◌+◌, ◌≤◌, Bool, true, false, List, [], ◌∷◌, ◌++◌, length, Option, Some, None, refl, sym, ap, ◌∙◌, subst, arith, append_assoc, append-nil, nat_lt, if◌then◌else◌, Result, Err, ltb-false, place_after, frame, IsFrameOf, LimitsData, AreInRange, written_is_frame, Outcome, EngineFault, BadLog, Version, One, Two, Head, Record, Log, IsRecord, AreRecords, IsVersion, together, record_bytes, mark_of, line_of, version_line, is_line_due, RunOutput, written_first, Session, Verdict, answered, recorded, bad, Judged, judge, opened, View, RecordOutput, writes, followed_by, unless_bad, normalising, replaying, canonical_output, canonical_of_record, written, front_of, line_if, log_config, canonical_log, run_output_in, all_of, CanonicalLogLaw, common_steps}
+use Rattle.lsp_replay.proofs.Prelude.{◌≡◌, ℕ, ◌+◌, ◌≤◌, Bool, true, false, List, [], ◌∷◌, ◌++◌, length, Option, Some, None, refl, sym, ap, ◌∙◌, subst, arith, append_assoc, append-nil, nat_lt, Result, Err, ltb-false, place_after, frame, IsFrameOf, LimitsData, AreInRange, written_is_frame, Outcome, EngineFault, BadLog, Version, One, Two, Head, Record, Log, IsRecord, AreRecords, IsVersion, together, record_bytes, mark_of, line_of, version_line, is_line_due, RunOutput, written_first, Session, Verdict, bad, Judged, judge, opened, View, RecordOutput, writes, followed_by, unless_bad, normalising, replaying, canonical_output, canonical_of_record, written, front_of, line_if, log_config, canonical_log, run_output_in, all_of, CanonicalLogLaw, common_steps}
 use Rattle.lsp_replay.proofs.Records.StateLemmas.{IsHeldState}
 use Rattle.lsp_replay.proofs.Converted.LineLemmas.{is_version_one}
 use Rattle.lsp_replay.proofs.Records.JudgeLemmas.{judged_held, judged_again}
@@ -24,6 +24,15 @@ Passes verdict = (r : Record) (g : RecordOutput) → unless_bad r verdict g ≡ 
 pub passes : (verdict : Verdict) (r : Record) (g : RecordOutput) → (unless_bad r verdict g).end ≡ None → Passes verdict
 passes bad r g e = absurd (let bad_one : Some (Err (BadLog r.head.place)) ≡ None = e in cc)
 passes _ r g e = λ q h. refl
+
+-- what stands in front of the first record, if there is one
+abbrev pub first_line : Bool → List Record → List ℕ
+first_line due [] = []
+first_line due (r ∷ rs) = line_if due
+
+pub no_line : (rs : List Record) → first_line false rs ≡ []
+no_line [] = refl
+no_line (r ∷ rs) = refl
 
 -- ---- one record
 
@@ -111,15 +120,6 @@ module _ (limits : LimitsData) (ranges : AreInRange limits) where
 
   -- ---- all records
 
-  -- what stands in front of the first record
-  abbrev front_if : Bool → List Record → List ℕ
-  front_if due [] = []
-  front_if due (r ∷ rs) = line_if due
-
-  front_none : (rs : List Record) → front_if false rs ≡ []
-  front_none [] = refl
-  front_none (r ∷ rs) = refl
-
   four : (a b c d : List ℕ) → ((a ++ b) ++ c) ++ d ≡ a ++ ((b ++ c) ++ d)
   four a b c d = ap (λ z. z ++ d) (append_assoc a b c) ∙ append_assoc a (b ++ c) d
 
@@ -127,7 +127,7 @@ module _ (limits : LimitsData) (ranges : AreInRange limits) where
   -- same is written.
   record AreWritten (at : ℕ) (version : Version) (due : Bool) (s : Session) (rs qs : List Record) : Type 0 where
     are : AreRecords limits.max_body version at due qs
-    out : (run_output_in normalising s rs).out ≡ front_if due rs ++ together version qs []
+    out : (run_output_in normalising s rs).out ≡ first_line due rs ++ together version qs []
     last : (line_due : Bool) → (run_output_in normalising s rs).last line_due ≡ line_if line_due
     again : run_output_in normalising s qs ≡ run_output_in normalising s rs
     same : run_output_in replaying s qs ≡ run_output_in replaying s rs
@@ -151,7 +151,7 @@ module _ (limits : LimitsData) (ranges : AreInRange limits) where
     one_more : AreWritten at version due s (r ∷ rs) (q ∷ qs)
     one_more = record {
       are = grind (arith, common_steps);
-      out = grind (arith, common_steps, front_none, four);
+      out = grind (arith, common_steps, no_line, four);
       last = λ line_due. ap (λ (c : RunOutput). c.last line_due) first ∙ more.last line_due;
       again =
           command_output normalising s q qs (judge s r) (front_of r.head ++ q.raw) one.same one.again
@@ -201,7 +201,7 @@ due_same limits ranges at _ s _ = refl
 
 all_is : (limits : LimitsData) (ranges : AreInRange limits) (version : Version) (rs : List Record) (bytes : List ℕ)
     → ((rs ≡ []) → bytes ≡ [])
-    → (front_if limits ranges (is_line_due version []) rs ++ bytes) ++ line_if (is_line_due version rs)
+    → (first_line (is_line_due version []) rs ++ bytes) ++ line_if (is_line_due version rs)
     ≡ line_of version ++ bytes
 all_is limits ranges One [] bytes none = append-nil bytes
 all_is limits ranges One (r ∷ rs) bytes none = append-nil bytes
@@ -265,7 +265,7 @@ canonical_log_law settings ranges input log reads whole goes = record {
     is : bytes ≡ line_of log.version ++ together log.version qs []
     is =
         ap (λ z. z ++ (canonical_log settings log.records).last (is_line_due log.version log.records)) w.out
-        ∙ ap (λ z. (front_if settings.limits ranges (is_line_due log.version []) log.records ++ together log.version qs
+        ∙ ap (λ z. (first_line (is_line_due log.version []) log.records ++ together log.version qs
         []) ++ z) (w.last (is_line_due log.version log.records))
         ∙ all_is settings.limits ranges log.version log.records (together log.version qs [])
         (none_together settings.limits ranges start log.version s log.records)

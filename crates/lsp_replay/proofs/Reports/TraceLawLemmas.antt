@@ -1,5 +1,5 @@
 -- `trace` beside `check` and `replay`.
-use Rattle.lsp_replay.proofs.Prelude.{◌≡◌, ℕ, Bool, true, false, List, [], ◌∷◌, ◌++◌, Option, Some, None, refl, sym, ap, ◌∙◌, Err, ◌&&◌, codes, decimal, flat_map, if◌then◌else◌, option_map, bytes_eq-Decides, reading, DocumentItem, ErrorCode, ParseError, InvalidRequest, MethodNotFound, InvalidParams, ServerNotInitialized, entry_at, reply, changed, dropped, ignored, refused, exits, already_ended, IncomingData, incoming_of, BadLog, Record, Details, RunOutput, written_first, canonical_of_record, check_line, checking, code_word, followed_by, log_config, replaying, report_from, unless_bad, verdict_word, writes, run_output_in, Session, Verdict, answered, has_changed, recorded, bad, opened, Judged, judge, Known, known_after, nothing_known, uri_of, is_renamed, last_in, notes_of, body_json, document_after, first_members, id_json, id_of, is_json, json_string, last_members, member, method_of, notes_json, reason_json, side_word, text_json, trace_line, tracing, version_json, within, Line, TraceLaw, checked_line, is_document, traced_line, written_text, output_in, lines}
+use Rattle.lsp_replay.proofs.Prelude.{◌≡◌, ℕ, Bool, true, false, List, [], ◌∷◌, ◌++◌, Option, Some, None, refl, sym, ap, ◌∙◌, Err, ◌&&◌, codes, decimal, flat_map, if◌then◌else◌, option_map, bytes_eq-Decides, reading, DocumentItem, ErrorCode, ParseError, InvalidRequest, MethodNotFound, InvalidParams, ServerNotInitialized, entry_at, reply, IncomingData, incoming_of, BadLog, Record, Details, RunOutput, written_first, canonical_of_record, check_line, checking, code_word, followed_by, log_config, replaying, report_from, unless_bad, verdict_word, writes, run_output_in, Session, Verdict, answered, has_changed, bad, opened, Judged, judge, Known, known_after, nothing_known, uri_of, is_renamed, last_in, notes_of, body_json, document_after, first_members, id_json, id_of, is_json, json_string, last_members, member, method_of, notes_json, reason_json, side_word, text_json, trace_line, tracing, version_json, within, Line, TraceLaw, checked_line, is_document, traced_line, written_text, output_in, lines}
 use Rattle.std.specs.Str.{bytes_eq}
 use Rattle.lsp_replay.proofs.Reports.MemberLemmas.{line_parts}
 use Rattle.lsp_replay.proofs.Records.TableLemmas.{record_keeps}
@@ -189,8 +189,7 @@ module _ (details : Details) (known : Known) (s : Session) (r : Record) where
     checked = refl;
     texts = λ asked none. absurd (let wrong : Some (Err (BadLog r.head.place)) ≡ None = none in cc);
   }
-  by_verdict recorded is c d e beside = goes c d e beside
-  by_verdict (answered answer) is c d e beside = goes c d e beside
+  by_verdict _ is c d e beside = goes c d e beside
 
 trace_beside : (details : Details) (known : Known) (s : Session) (rs : List Record)
     → Beside details s (output_in (lines (tracing details)) known s rs) (run_output_in checking s rs)

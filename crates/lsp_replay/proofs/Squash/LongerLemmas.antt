@@ -4,7 +4,8 @@ use Rattle.lsp_replay.proofs.Squash.SingleLemmas.{IsSingle, is_single, single_re
 use Rattle.lsp_replay.proofs.Records.ChangeLemmas.{IsAccepted, IsDone, is_done, proper_change, session_after}
 use Rattle.lsp_replay.proofs.Records.NumberedLemmas.{IsAlike, alike_both, numbered}
 use Rattle.lsp_replay.proofs.Squash.OpenSeriesLemmas.{IsOpenFrom, goes_on_from, same_encoding, same_text}
-use Rattle.lsp_replay.proofs.Squash.SquashLawLemmas.{NonEmpty, first_line, report_on, step_on, together_split}
+use Rattle.lsp_replay.proofs.Canonical.NormalisedLemmas.{first_line}
+use Rattle.lsp_replay.proofs.Squash.SquashLawLemmas.{NonEmpty, report_on, step_on, together_split}
 use Rattle.lsp_replay.proofs.Records.StateLemmas.{IsHeldState}
 use Rattle.lsp_replay.proofs.Squash.PendingLemmas.{IsPending, behind_some, front_is, longer_step, not_bad}
 use Rattle.lsp_replay.proofs.Squash.BegunLemmas.{after_out, as_accepted, same_server}

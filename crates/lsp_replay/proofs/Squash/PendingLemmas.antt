@@ -4,7 +4,8 @@ use Rattle.lsp_replay.proofs.Canonical.CanonicalChangeLemmas.{IsCanonicalChange,
 use Rattle.lsp_replay.proofs.Records.ChangeLemmas.{IsAccepted, IsDone, is_done}
 use Rattle.lsp_replay.proofs.Records.NumberedLemmas.{IsAlike, alike_both}
 use Rattle.lsp_replay.proofs.Squash.OpenSeriesLemmas.{IsOpenFrom, one_batch, one_message, one_joins}
-use Rattle.lsp_replay.proofs.Squash.SquashLawLemmas.{IsEnded, IsApart, NonEmpty, first_line, report_on, step_on}
+use Rattle.lsp_replay.proofs.Canonical.NormalisedLemmas.{first_line}
+use Rattle.lsp_replay.proofs.Squash.SquashLawLemmas.{IsEnded, IsApart, NonEmpty, report_on, step_on}
 use Rattle.lsp_replay.proofs.Squash.SquashingLemmas.{step_changed}
 
 -- The records that are written of an open series, if it isn't written as one message: they lead to the same series.

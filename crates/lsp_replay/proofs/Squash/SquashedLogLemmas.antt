@@ -4,13 +4,13 @@ use Rattle.lsp_replay.proofs.Prelude.{◌≡◌, ◌≢◌, ℕ, ◌+◌, Bool, 
 use Rattle.lsp_replay.proofs.Squash.SeriesLemmas.{squashed_is}
 use Rattle.lsp_replay.proofs.Records.ChangeLemmas.{IsAccepted, IsOtherKind, IsChangeKind, kind_of, not_bad_of, was_accepted}
 use Rattle.lsp_replay.proofs.Records.JudgeLemmas.{judged_held}
-use Rattle.lsp_replay.proofs.Canonical.NormalisedLemmas.{canonical_record, went_on, version_is}
+use Rattle.lsp_replay.proofs.Canonical.NormalisedLemmas.{canonical_record, first_line, went_on, version_is}
 use Rattle.lsp_replay.proofs.Records.NumberedLemmas.{IsAlike, alike_self, judged_alike}
 use Rattle.lsp_replay.proofs.Squash.PendingLemmas.{IsPending, behind_some, none_after, none_ended, some_ended}
 use Rattle.lsp_replay.proofs.Squash.LongerLemmas.{IsLongerSeries, longer_series}
 use Rattle.lsp_replay.proofs.Squash.BegunLemmas.{IsBegunSeries, begun_series, same_server}
 use Rattle.lsp_replay.proofs.Squash.SquashingLemmas.{step_other}
-use Rattle.lsp_replay.proofs.Squash.SquashLawLemmas.{IsApart, IsAny, IsEnded, IsSquashedAs, NonEmpty, at_end, begins_next, first_line, goes_on_next, others_next, report_on, total}
+use Rattle.lsp_replay.proofs.Squash.SquashLawLemmas.{IsApart, IsAny, IsEnded, IsSquashedAs, NonEmpty, at_end, begins_next, goes_on_next, others_next, report_on, total}
 use Rattle.lsp_replay.proofs.Records.StateLemmas.{IsHeldState}
 
 -- How far a log and what was written of it have come, between two records.
@@ -302,9 +302,9 @@ module _ (settings : Settings) (ranges : AreInRange settings.limits) (log : Log)
     };
     whole = refl;
     to_end = w.to_end;
-    documents = w.documents;
-    status = w.status;
-    refused = w.refused;
+    documents = w.reported.documents;
+    status = w.reported.status;
+    refused = w.reported.refused;
   }
 
   some_law : IsSquashedBy squashed_steps settings (r ∷ rs) bytes

@@ -1,10 +1,11 @@
 -- What `normalise` writes of the records that stay: a log of which `replay` reports the same.
 use Rattle.lsp_replay.proofs.Prelude.{◌≡◌, ℕ, Bool, true, false, ◌||◌, List, [], ◌∷◌, ◌++◌, length, Option, None, refl, sym, ap, ◌∙◌, subst, Result, IfOk, Consumes, AreInRange, EngineFault, Version, One, Two, Record, Log, IsReadAs, AreRecords, is_line_due, line_of, together, Settings, Outcome, Kept, KeepsDocuments, WroteDocuments, documents, kept_records, nothing_selected, PortState, all_of, AtEnd, Ran, as_log, canonical_log, log_config, report, IsCanonicalLog, IsSquashed, LeavesAlike, RunOutput, Session, opened, normalised_if, squashed, squashed_steps}
 use Rattle.lsp_replay.specs.laws.Documents.{DocumentsLaw, DocumentsStopAlike}
-use Rattle.lsp_replay.proofs.Stay.KeptLogLemmas.{IsReportedAs, are_kept, each_located, kept_due, kept_stop, located_all, located_due, reported, squash_located}
+use Rattle.lsp_replay.proofs.Stay.KeptLogLemmas.{are_kept, each_located, kept_due, kept_stop, located_all, located_due, reported, squash_located}
 use Rattle.lsp_replay.proofs.Canonical.NormalisedLemmas.{canonical_log_law, version_is}
 use Rattle.lsp_replay.proofs.Records.NumberedLemmas.{alike_self}
 use Rattle.lsp_replay.proofs.Squash.SquashedLemmas.{stops_alike}
+use Rattle.lsp_replay.proofs.Squash.SquashLawLemmas.{IsReportedAs}
 use Rattle.lsp_replay.proofs.Squash.SeriesLemmas.{squashed_is}
 use Rattle.lsp_replay.proofs.Squash.SquashedLogLemmas.{squashed_law}
 use Rattle.lsp_replay.proofs.Runs.WroteLemmas.{IsNotOk, at_the_end, normal_not_ok}
@@ -101,7 +102,7 @@ module _ (settings : Settings) (ranges : AreInRange settings.limits) (input : Li
       ∙ ap (λ b. (g k.records).out ++ (g k.records).last b) (sym same_due)
 
   module _ (goes : (canonical_log settings log.records).stop ≡ None) where
-    told : IsReportedAs s log.records s ks
+    told : IsReportedAs (report settings ks) (report settings log.records)
     told = reported log.version log.records s s nothing_selected start (alike_self s) goes
 
     -- what an output of the records that stay is, by a law of that output
