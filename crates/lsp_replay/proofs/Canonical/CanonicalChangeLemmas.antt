@@ -71,9 +71,6 @@ pub record IsCanonicalChange (t : ServerData) (uri : List ℕ) (version : ℤ) (
 module _ (t : ServerData) (uri : List ℕ) (version : ℤ) (entry : DocumentItem) (batch : List ContentChange)
     (items : List Item)
     (ranges : AreInRange t.config.limits) (at : IsProperAt t uri version entry batch items) where
-  units : ℕ → ℕ
-  units = units_in (session_encoding t)
-
   laws : (some : List ContentChange) (others : List Item) → meaning (units_in (session_encoding t))
       (chars entry.text) some ≡ Ok others → IsCanonical (units_in (session_encoding t)) (chars entry.text) some others
   laws some others means = canonical_law (units_in (session_encoding t)) (units_some (session_encoding t))
@@ -106,39 +103,20 @@ module _ (t : ServerData) (uri : List ℕ) (version : ℤ) (entry : DocumentItem
       ≡ canonical_at t entry items
   back = edits_back (canonical_at t entry items) all_texts
 
-  may_on : refusal_of t (canonical_change t uri version entry items) ≡ None
-  may_on = rw (at.found, back) accepted
-
-  leaves_on : server_after t (canonical_change t uri version entry items) ≡ record t {
-    table = put t.table uri version (bytes_left entry.text items);
-  }
-  leaves_on =
-      ap (λ (table : List DocumentItem). record t { table = table })
-      (change_puts (units_in (session_encoding t)) t.table uri version
-      (map content_change_from_data (map written_content_change (canonical_at t entry items))) entry at.found
-      ∙ ap (λ (b : List ContentChange). put t.table uri version
-      (meant_text entry.text (meaning (units_in (session_encoding t)) (chars entry.text) b))) back
-      ∙ ap (λ m. put t.table uri version (meant_text entry.text m)) law.means)
-
-  own_on : canonical_change_body t (canonical_change t uri version entry items)
-      ≡ change_body uri version (canonical_at t entry items)
-  own_on = ap (canonical_body (units_in (session_encoding t)) t.table uri version) back ∙ ap (change_body uri version)
-      same_batch
-
-  joins_on : (squash : SquashData) → squash.encoding ≡ session_encoding t → text_of (chars squash.text) squash.items
-      ≡ chars entry.text → joined_by (canonical_change t uri version entry items) squash ≡ record squash {
-        items = then_items squash.items items;
-        version = version;
-      }
-  joins_on squash encoding text =
-      joins_as (canonical_change t uri version entry items) squash (session_encoding t) (chars entry.text) items encoding
-      text (ap (meaning (units_in (session_encoding t)) (chars entry.text)) back ∙ law.means)
-
   pub is_canonical_change : IsCanonicalChange t uri version entry items
   is_canonical_change = record {
     asks = asks_back uri version (canonical_at t entry items) read;
-    may = may_on;
-    leaves = leaves_on;
-    own = own_on;
-    joins = joins_on;
+    may = rw (at.found, back) accepted;
+    leaves =
+        ap (λ (table : List DocumentItem). record t { table = table })
+        (change_puts (units_in (session_encoding t)) t.table uri version
+        (map content_change_from_data (map written_content_change (canonical_at t entry items))) entry at.found
+        ∙ ap (λ (b : List ContentChange). put t.table uri version
+        (meant_text entry.text (meaning (units_in (session_encoding t)) (chars entry.text) b))) back
+        ∙ ap (λ m. put t.table uri version (meant_text entry.text m)) law.means);
+    own = ap (canonical_body (units_in (session_encoding t)) t.table uri version) back
+        ∙ ap (change_body uri version) same_batch;
+    joins = λ squash encoding text.
+        joins_as (canonical_change t uri version entry items) squash (session_encoding t) (chars entry.text) items
+        encoding text (ap (meaning (units_in (session_encoding t)) (chars entry.text)) back ∙ law.means);
   }

@@ -1,5 +1,5 @@
 -- What `convert` writes of a log: a log of which the same is told.
-use Rattle.lsp_replay.proofs.Prelude.{◌≡◌, ℕ, ◌+◌, ◌<◌, ◌≤◌, Bool, true, false, List, [], ◌∷◌, ◌++◌, length, Option, Some, None, refl, sym, ap, ◌∙◌, subst, arith, append_assoc, append-nil, codes, ◌==◌, if◌then◌else◌, Err, ne_eqb, place_after, frame, LimitsData, AreInRange, written_is_frame, IdData, reading, OutgoingData, body_of, AnswerData, Sent, reply, changed, dropped, ignored, already_ended, refused, exits, as_sent, sent_reply, incoming_of, ServerData, step_on, BadLog, Version, One, Two, Client, Server, one_more, Record, IsRecord, AreRecords, together, record_bytes, line_of, version_line, is_line_due, RunOutput, written_first, Session, Verdict, answered, recorded, bad, Judged, judged, judge, judge_from, judge_client, counted, opened, RecordOutput, writes, unless_bad, replaying, converting, line_if, line_before, reply_record, log_config, converted, run_output_in, all_of, IsReplyWithin, AreRepliesWithin, ConvertedLaw}
+use Rattle.lsp_replay.proofs.Prelude.{◌≡◌, ℕ, ◌+◌, ◌<◌, ◌≤◌, Bool, true, false, List, [], ◌∷◌, ◌++◌, length, Option, Some, None, refl, sym, ap, ◌∙◌, subst, arith, append_assoc, append-nil, codes, ◌==◌, if◌then◌else◌, Err, ne_eqb, place_after, frame, LimitsData, AreInRange, written_is_frame, IdData, reading, OutgoingData, body_of, AnswerData, Sent, reply, as_sent, sent_reply, incoming_of, ServerData, step_on, BadLog, Version, One, Two, Client, Server, one_more, Record, IsRecord, AreRecords, together, record_bytes, line_of, version_line, is_line_due, RunOutput, written_first, Session, Verdict, answered, recorded, bad, Judged, judged, judge, judge_from, judge_client, counted, opened, RecordOutput, writes, unless_bad, replaying, converting, line_if, line_before, reply_record, log_config, converted, run_output_in, all_of, IsReplyWithin, AreRepliesWithin, ConvertedLaw}
 use Rattle.lsp_replay.proofs.Records.AskedLemmas.{asked_proper}
 use Rattle.lsp_replay.proofs.Canonical.NormalisedLemmas.{command_output, first_line, no_line, went_on, Passes, passes}
 use Rattle.lsp_replay.proofs.Converted.ConvertedLemmas.{twin, IsGood, Follows, next_of, rest_after, waits, follows_step, judged_one, judged_two}
@@ -168,12 +168,7 @@ module _ (limits : LimitsData) (ranges : AreInRange limits) where
         (twin (next_of s server (as_sent answer)) m) rs) → AreConverted at due s t (r ∷ rs)
     extend server (reply o) e short one two follows more =
         replied server o e (short (body_of o) refl) one two follows more
-    extend server changed e short one two follows more = plain server changed e refl one two follows more
-    extend server dropped e short one two follows more = plain server dropped e refl one two follows more
-    extend server ignored e short one two follows more = plain server ignored e refl one two follows more
-    extend server already_ended e short one two follows more = plain server already_ended e refl one two follows more
-    extend server (refused why) e short one two follows more = plain server (refused why) e refl one two follows more
-    extend server (exits status) e short one two follows more = plain server (exits status) e refl one two follows more
+    extend server answer e short one two follows more = plain server (as_sent answer) e refl one two follows more
 
   converted_log : (at before : ℕ) (due : Bool) (s : Session) (n : ℕ) (rs : List Record) → s.expected ≡ None
       → Counts due s.records → AreRecords limits.max_body One before false rs

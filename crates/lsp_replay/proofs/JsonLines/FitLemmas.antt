@@ -1,5 +1,5 @@
 -- The numbers of a session fit their types: counts 64 bits, versions 32 bits. A canonical message is JSON.
-use Rattle.lsp_replay.proofs.Prelude.{◌≡◌, ℕ, ℤ, suc, ◌^◌, ◌<◌, ◌≤◌, Bool, true, false, List, [], ◌∷◌, ◌++◌, length, map, Option, Some, None, refl, sym, ap, ◌∙◌, subst, arith, take, bytes_eq, FitsSigned, IsUtf8, ⊤, codes, if◌then◌else◌, option_and_then, option_map, option_map_or, is_utf8, cases_Bool, ltb-false, IsUtf8-from_is_utf8, Json, IsUtf8-are_ascii, are_ascii, Data, null, boolean, number, string, array, object, Members, get, get_member, read, LimitsData, AreInRange, units_in, ContentChange, IdData, MessageData, OutcomeData, Reading, id_in, json_of, message_of, reading, ChangeData, CloseData, close_by, close_of, DocumentItem, change_of, document_in, open_by, open_of, version_in, text_in, value_of, IsProperId, AllWithin, Refusal, after_change, after_close, after_open, change_refusal, close_refusal, entry_at, open_refusal, unless_refused, changed, refused, Phase, New, Running, Down, IncomingData, not_json, not_a_message, response, initialize, shutdown, other_request, exit, did_open, did_change, did_close, other_notification, incoming_of, ServerData, content_change_from_data, result_step, session_encoding, step_in, one_more, Sender, Client, Server, Version, Record, canonical_change_body, canonical_if, canonical_of_record, change_in, Known, known_after, last_in, uri_of, Mention, is_mention, last_for, last_record, mentioned, most_mentions, without, Session, Verdict, answered, encoding_for, has_changed, is_change, judge, judge_from, id_of, is_json, method_of, within, common_steps}
+use Rattle.lsp_replay.proofs.Prelude.{◌≡◌, ℕ, ℤ, suc, ◌^◌, ◌<◌, ◌≤◌, Bool, true, false, List, [], ◌∷◌, ◌++◌, length, map, Option, Some, None, refl, sym, ap, ◌∙◌, subst, arith, take, bytes_eq, FitsSigned, IsUtf8, ⊤, codes, if◌then◌else◌, option_and_then, option_map, option_map_or, is_utf8, cases_Bool, ltb-false, IsUtf8-from_is_utf8, Json, IsUtf8-are_ascii, are_ascii, Data, null, number, string, Members, get, get_member, read, LimitsData, AreInRange, units_in, ContentChange, IdData, MessageData, OutcomeData, Reading, id_in, json_of, message_of, reading, ChangeData, CloseData, close_by, close_of, DocumentItem, change_of, document_in, open_by, open_of, version_in, text_in, value_of, IsProperId, AllWithin, Refusal, after_change, after_close, after_open, change_refusal, close_refusal, entry_at, open_refusal, unless_refused, changed, refused, Phase, New, Running, Down, IncomingData, not_json, not_a_message, response, initialize, shutdown, other_request, exit, did_open, did_change, did_close, other_notification, incoming_of, ServerData, content_change_from_data, result_step, session_encoding, step_in, one_more, Sender, Client, Server, Version, Record, canonical_change_body, canonical_if, canonical_of_record, change_in, Known, known_after, last_in, uri_of, Mention, is_mention, last_for, last_record, mentioned, most_mentions, without, Session, Verdict, answered, encoding_for, has_changed, is_change, judge, judge_from, id_of, is_json, method_of, within, common_steps}
 use Rattle.std.specs.Int.{w32}
 use Rattle.lsp_message.specs.Agreement.{offers_of}
 use Rattle.lsp_message.proofs.BodyLemmas.{body_is}
@@ -11,6 +11,7 @@ use Rattle.lsp_replay.proofs.Records.AskedLemmas.{IsProperAsked, changed_held, d
 use Rattle.lsp_replay.proofs.Records.JudgeLemmas.{asks_change, judged_again, judged_held, of_incoming, of_server}
 use Rattle.lsp_replay.proofs.Records.ReadLemmas.{IsHeld, MembersAreHeld, OnSome, on_map, on_then}
 use Rattle.lsp_replay.proofs.Records.StateLemmas.{IsHeldState}
+use Rattle.lsp_replay.proofs.Reports.TraceLemmas.{one_more_record}
 use Rattle.lsp_message.specs.Message as msg
 
 any : {A : Type 0} (o : Option A) → OnSome (λ (a : A). ⊤) o
@@ -151,11 +152,8 @@ row_id (Some (string s)) None value text is params = (text, params)
 row_id (Some (string s)) (Some id) value text is params =
     on_then IsProperId MessageId _ (λ i p. (p, text)) (id_in id) (id_held id is)
 row_id None (Some null) value text is params = response_id None (msg.outcome_in value) tt
-row_id None (Some (boolean b)) value text is params = named_id (boolean b) (msg.outcome_in value) is
 row_id None (Some (number n)) value text is params = named_id (number n) (msg.outcome_in value) is
 row_id None (Some (string s)) value text is params = named_id (string s) (msg.outcome_in value) is
-row_id None (Some (array ds)) value text is params = named_id (array ds) (msg.outcome_in value) is
-row_id None (Some (object ms)) value text is params = named_id (object ms) (msg.outcome_in value) is
 row_id _ _ value text is params = tt
 
 version_id : (two : Bool) (found : Option MessageData) → OnSome MessageId found
@@ -302,13 +300,6 @@ from_versions s version Server body kept =
     of_server (λ j. AreVersions j.session.server.table) s kept kept (λ encoding. kept)
     (encoding_for s.expected (reading body))
 
-from_records : (s : Session) (version : Version) (side : Sender) (body : List ℕ) → IsCount s.records
-    → IsCount (judge_from s version side body).session.records
-from_records s version Client body is =
-    of_incoming (λ j. IsCount j.session.records) s version (incoming_of (reading body)) is is
-from_records s version Server body is =
-    of_server (λ j. IsCount j.session.records) s is is (λ encoding. is) (encoding_for s.expected (reading body))
-
 one_more_fits : (n : ℕ) → IsCount n → IsCount (one_more n)
 one_more_fits n is = omega arith
 
@@ -316,8 +307,7 @@ pub judged_fits : (limits : LimitsData) (known : Known) (s : Session) (r : Recor
     → IsFit limits (known_after known s r.head r.body (judge s r)) (judge s r).session
 judged_fits limits known s r fit =
     let records : IsCount (judge s r).session.records =
-    one_more_fits (judge_from s r.head.version r.head.side r.body).session.records
-    (from_records s r.head.version r.head.side r.body fit.records) in
+    subst IsCount (sym (one_more_record s r)) (one_more_fits s.records fit.records) in
     record {
       held = judged_held limits s r fit.held;
       versions = from_versions s r.head.version r.head.side r.body fit.versions;
@@ -374,16 +364,13 @@ body_json body h = by (json_of body) refl
         let found = read_is body d both.1 in
         record { value = found.0; json = found.1; utf8 = IsUtf8-from_is_utf8 body both.0 }
 
+-- a canonical message is that of a change
 change_there : (server : ServerData) (change : Option ChangeData) (verdict : Verdict) (body : List ℕ)
-    → canonical_if server change verdict ≡ Some body → (p : ChangeData) × (change ≡ Some p)
-change_there server None verdict body e = absurd (let no : None ≡ Some body = e in cc)
-change_there server (Some p) verdict body e = (p, refl)
-
-is_change_body : (server : ServerData) (p : ChangeData) (verdict : Verdict) (body : List ℕ)
-    → canonical_if server (Some p) verdict ≡ Some body → canonical_change_body server p ≡ body
-is_change_body server p (answered changed) body e =
-    let some : Some (canonical_change_body server p) ≡ Some body = e in cc
-is_change_body server p _ body e = absurd (let no : None ≡ Some body = e in cc)
+    → canonical_if server change verdict ≡ Some body
+    → (p : ChangeData) × (change ≡ Some p) × (canonical_change_body server p ≡ body)
+change_there server (Some p) (answered changed) body e =
+    (p, refl, let some : Some (canonical_change_body server p) ≡ Some body = e in cc)
+change_there server _ _ body e = absurd (let no : None ≡ Some body = e in cc)
 
 visible_change : (uri : List ℕ) (version : ℤ) (batch : List ContentChange)
     → are_visible (change_body uri version batch) ≡ true
@@ -408,10 +395,7 @@ canonical_json limits ranges s r body held e =
     let again = judged_again limits ranges s r.head r.body body held both.0 short in
     let asked = change_there s.server (change_in (incoming_of (reading body))) (judge s r).verdict body again.1 in
     let change = asks_change (incoming_of (reading body)) asked.0 asked.1 in
-    let first = change_there s.server (change_in (incoming_of (reading r.body))) (judge s r).verdict body both.0 in
-    let is : canonical_change_body s.server first.0 ≡ body =
-    is_change_body s.server first.0 (judge s r).verdict body
-    (ap (λ c. canonical_if s.server c (judge s r).verdict) (sym first.1) ∙ both.0) in (
+    let first = change_there s.server (change_in (incoming_of (reading r.body))) (judge s r).verdict body both.0 in (
       body_json body (ap is_json change),
-      subst (λ b. are_visible b ≡ true) is (visible_change first.0.uri first.0.version _),
+      subst (λ b. are_visible b ≡ true) first.2 (visible_change first.0.uri first.0.version _),
     )

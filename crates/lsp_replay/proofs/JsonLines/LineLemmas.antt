@@ -1,5 +1,5 @@
 -- The line of `trace` for a record, and that of `replay` for a document.
-use Rattle.lsp_replay.proofs.Prelude.{◌≡◌, ℕ, ℤ, ◌^◌, ◌<◌, Bool, true, false, List, [], ◌∷◌, ◌++◌, map, Option, Some, None, refl, sym, ap, ◌∙◌, subst, arith, append_assoc, decimal, FitsSigned, IsUtf8, ◌&&◌, codes, flat_map, if◌then◌else◌, option_and_then, option_map, signed_decimal, one_line, and_parts, IsUtf8-append, IsUtf8-nil, IsUtf8-are_ascii, Json, document, ItemsHaveNumbers, items_depth, Data, compact_text, items_outline, items_text, outline, LimitsData, AreInRange, IdData, whole, text, reading, DocumentItem, IsProperDocument, IsProperId, AnswerData, Sent, IncomingData, incoming_of, Record, Details, Note, Known, is_renamed, known_after, last_in, uri_of, note_words, notes_of, notes_words, reason_words, renamed_words, Session, Judged, Verdict, answered, has_changed, is_refused, judge, IsJsonLine, body_value, document_value, id_value, integer, natural, notes_value, reason_value, text_value, trace_value, common_steps}
+use Rattle.lsp_replay.proofs.Prelude.{◌∙◌, ◌≡◌, ℕ, ℤ, ◌^◌, ◌<◌, Bool, true, false, List, [], ◌∷◌, ◌++◌, map, Option, Some, None, refl, sym, ap, ap₂, subst, arith, append_assoc, decimal, FitsSigned, IsUtf8, ◌&&◌, codes, flat_map, if◌then◌else◌, option_and_then, option_map, signed_decimal, one_line, and_parts, IsUtf8-append, IsUtf8-are_ascii, are_ascii, IsUtf8-quoted, Json, document, ItemsHaveNumbers, items_depth, compact_text, items_outline, items_text, outline, LimitsData, AreInRange, IdData, whole, text, reading, DocumentItem, IsProperDocument, IsProperId, AnswerData, Sent, IncomingData, incoming_of, Record, Details, Note, Known, is_renamed, known_after, last_in, uri_of, note_words, notes_of, notes_words, reason_words, renamed_words, Session, Judged, Verdict, answered, has_changed, is_refused, judge, IsJsonLine, body_value, document_value, id_value, integer, natural, notes_value, reason_value, text_value, trace_value, common_steps}
 use Rattle.std.specs.Int.{w32}
 use Rattle.json.specs.Print.{escape_byte, quoted}
 use Rattle.lsp_replay.specs.Commands.{canonical_of_record, change_in, document_line, verdict_word}
@@ -58,63 +58,57 @@ reason_if limits m renamed _ = tt
 
 -- ---- notes
 
-abbrev note_data : Note → Data
-note_data note = tree.string (note_words note)
+abbrev note_items : List Note → tree.Items
+note_items notes = view.items_of (map (λ note. tree.string (note_words note)) notes)
 
 notes_from : (notes : List Note) → flat_map (λ note. codes "\",\"" ++ note_words note) notes ++ codes "\"]"
-    ≡ 34 ∷ items_text true (view.items_of (map note_data notes))
+    ≡ 34 ∷ items_text true (note_items notes)
 notes_from [] = refl
 notes_from (note ∷ notes) = grind (arith, common_steps, append_assoc, escape_plain, plain_note, (notes_from notes))
 
 notes_text : (note : Note) (notes : List Note)
     → codes "[\"" ++ notes_words (codes "\",\"") (note ∷ notes) ++ codes "\"]"
-    ≡ compact_text (tree.array (view.items_of (map note_data (note ∷ notes))))
+    ≡ compact_text (tree.array (note_items (note ∷ notes)))
 notes_text note notes =
     ap (λ l. 91 ∷ 34 ∷ l)
     (append_assoc (note_words note) (flat_map (λ note. codes "\",\"" ++ note_words note) notes) (codes "\"]")
-    ∙ ap (λ l. note_words note ++ l) (notes_from notes)
-    ∙ ap (λ l. l ++ 34 ∷ items_text true (view.items_of (map note_data notes)))
-    (sym (escape_plain (note_words note) (plain_note note)))
-    ∙ sym (append_assoc _ (34 ∷ []) (items_text true (view.items_of (map note_data notes)))))
+    ∙ ap₂ (λ w l. w ++ l) (sym (escape_plain (note_words note) (plain_note note))) (notes_from notes)
+    ∙ sym (append_assoc _ (34 ∷ []) (items_text true (note_items notes))))
 
-notes_outline : (notes : List Note) → items_outline (view.items_of (map note_data notes))
-    ≡ values.items_of (map (λ note. json.string (note_words note)) notes)
-notes_outline [] = refl
-notes_outline (note ∷ notes) = ap (json.item (json.string (note_words note))) (notes_outline notes)
+record AreStrings (notes : List Note) : Type 0 where
+  outline : items_outline (note_items notes) ≡ values.items_of (map (λ note. json.string (note_words note)) notes)
+  numbers : ItemsHaveNumbers (items_outline (note_items notes))
+  flat : items_depth (items_outline (note_items notes)) ≡ 0
+  utf8 : IsUtf8 (items_text true (note_items notes))
 
-notes_numbers : (notes : List Note) → ItemsHaveNumbers (items_outline (view.items_of (map note_data notes)))
-notes_numbers [] = tt
-notes_numbers (note ∷ notes) = (tt, notes_numbers notes)
+note_utf8 : (c : ℕ) (note : Note) (rest : List ℕ) → are_ascii (c ∷ []) ≡ true → IsUtf8 rest
+    → IsUtf8 (c ∷ (quoted (note_words note) ++ rest))
+note_utf8 c note rest ascii u =
+    IsUtf8-append (c ∷ []) (quoted (note_words note) ++ rest) (IsUtf8-are_ascii (c ∷ []) ascii)
+    (IsUtf8-append (quoted (note_words note)) rest
+    (IsUtf8-quoted (note_words note) (utf8_plain (note_words note) (plain_note note))) u)
 
-notes_flat : (notes : List Note) → items_depth (items_outline (view.items_of (map note_data notes))) ≡ 0
-notes_flat [] = refl
-notes_flat (note ∷ notes) = omega (arith, notes_flat notes)
-
-notes_utf8 : (notes : List Note) → IsUtf8 (flat_map (λ note. codes "\",\"" ++ note_words note) notes)
-notes_utf8 [] = IsUtf8-nil
-notes_utf8 (note ∷ notes) =
-    IsUtf8-append (codes "\",\"" ++ note_words note) (flat_map (λ note. codes "\",\"" ++ note_words note) notes)
-    (IsUtf8-append (codes "\",\"") (note_words note) (IsUtf8-are_ascii (codes "\",\"") refl)
-    (utf8_plain (note_words note) (plain_note note))) (notes_utf8 notes)
-
-array_utf8 : (note : Note) (notes : List Note)
-    → IsUtf8 (codes "[\"" ++ notes_words (codes "\",\"") (note ∷ notes) ++ codes "\"]")
-array_utf8 note notes =
-    IsUtf8-append (codes "[\"" ++ notes_words (codes "\",\"") (note ∷ notes)) (codes "\"]")
-    (IsUtf8-append (codes "[\"") (notes_words (codes "\",\"") (note ∷ notes)) (IsUtf8-are_ascii (codes "[\"") refl)
-    (IsUtf8-append (note_words note) (flat_map (λ note. codes "\",\"" ++ note_words note) notes)
-    (utf8_plain (note_words note) (plain_note note)) (notes_utf8 notes)))
-    (IsUtf8-are_ascii (codes "\"]") refl)
+are_strings : (notes : List Note) → AreStrings notes
+are_strings [] = record { outline = refl; numbers = tt; flat = refl; utf8 = IsUtf8-are_ascii (93 ∷ []) refl }
+are_strings (note ∷ notes) =
+    let more = are_strings notes in
+    record {
+      outline = ap (json.item (json.string (note_words note))) more.outline;
+      numbers = (tt, more.numbers);
+      flat = omega (arith, more.flat);
+      utf8 = note_utf8 44 note (items_text true (note_items notes)) refl more.utf8;
+    }
 
 notes_if : (notes : List Note) → IsValueIf (notes_json notes) (notes_value notes)
 notes_if [] = tt
 notes_if (note ∷ notes) =
+    let all = are_strings (note ∷ notes) in
+    let more = are_strings notes in
     subst (λ j. IsValue (codes "[\"" ++ notes_words (codes "\",\"") (note ∷ notes) ++ codes "\"]") (json.array j))
-    (notes_outline (note ∷ notes))
-    (subst (λ bytes. IsValue bytes (outline (tree.array (view.items_of (map note_data (note ∷ notes))))))
-    (sym (notes_text note notes))
-    (a_compact (tree.array (view.items_of (map note_data (note ∷ notes)))) (notes_numbers (note ∷ notes))
-    (omega (arith, notes_flat (note ∷ notes))) (subst IsUtf8 (notes_text note notes) (array_utf8 note notes))))
+    all.outline
+    (subst (λ bytes. IsValue bytes (outline (tree.array (note_items (note ∷ notes))))) (sym (notes_text note notes))
+    (a_compact (tree.array (note_items (note ∷ notes))) all.numbers (omega (arith, all.flat))
+    (note_utf8 91 note (items_text true (note_items notes)) refl more.utf8)))
 
 -- ---- bodies
 

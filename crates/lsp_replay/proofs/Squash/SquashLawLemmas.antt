@@ -152,12 +152,8 @@ module _ (max_body at : ℕ) (version : Version) (due : Bool) (s : Session) (ser
       }) (not_bad : (judge s r).verdict ≢ bad)
       (any : IsAny next rs) (more : IsSquashedAs max_body (at + length (together version e.us [])) version
       (due_after due e.us) (judge s r).session next rs e.last e.last_series) where
-    first : squashed_in s series (r ∷ rs) ≡ written_first (end_bytes series) (squashed_in (judge s r).session next rs)
-    first = step_on s series r rs (end_bytes series) next goes
-
     pub begins_next : IsSquashedAs max_body at version due s series (r ∷ rs) t before
     begins_next =
-        let inner = squashed_in (judge s r).session next rs in
         record {
           qs = e.us ++ more.qs;
           some = λ _. some_behind e.us more.qs (more.some any);
@@ -191,10 +187,6 @@ module _ (max_body at : ℕ) (version : Version) (due : Bool) (s : Session) (ser
       }) (again_not_bad : (judge e.last q).verdict ≢ bad)
       (more : IsSquashedAs max_body (at + length (together version e.us []) + length (record_bytes version q)) version
       false (judge s r).session None rs (judge e.last q).session None) where
-    one : squashed_in s series (r ∷ rs) ≡ written_first (end_bytes series ++ (front ++ q.raw))
-        (squashed_in (judge s r).session None rs)
-    one = step_on s series r rs (end_bytes series ++ (front ++ q.raw)) None goes
-
     again_one : squashed_in t before (e.us ++ q ∷ more.qs) ≡ written_first (end_bytes before)
         (written_first (end_bytes e.last_series ++ (front ++ q.raw)) (squashed_in (judge e.last q).session None
         more.qs))
@@ -204,12 +196,6 @@ module _ (max_body at : ℕ) (version : Version) (due : Bool) (s : Session) (ser
     replay_one : run_output_in replaying t (e.us ++ q ∷ more.qs) ≡ run_output_in replaying (judge e.last q).session
         more.qs
     replay_one = e.replay (q ∷ more.qs) ∙ report_on e.last q more.qs again_not_bad
-
-    abbrev written : List ℕ
-    written = end_bytes series ++ (front ++ q.raw)
-
-    abbrev inner : RunOutput
-    inner = squashed_in (judge s r).session None rs
 
     -- its bytes, behind those of the series
     placed_bytes : (us : List Record) (line : List ℕ) → line ≡ line_if (due_after due us)

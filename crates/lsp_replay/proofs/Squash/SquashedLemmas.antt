@@ -1,5 +1,5 @@
 -- With squash a log ends as without: at the same record, for the same cause, with the same status and counts.
-use Rattle.lsp_replay.proofs.Prelude.{ℕ, ◌≡◌, true, false, nat_lt, List, [], ◌∷◌, length, Option, Some, None, Result, refl, subst, ⊎_elim, bytes_eq, cases_Bool, reading, ChangeData, reply, changed, incoming_of, ServerData, Settings, Outcome, EngineFault, Record, RunOutput, RecordOutput, change_in, front_of, followed_by, log_config, canonical_log, canonical_change_body, canonical_if, normalising, unless_bad, written, run_output_in, Session, Verdict, answered, judge, opened, StopsAlike, OpenSeries, change_output, squash_step, squashed_in, step_if, squashed_steps}
+use Rattle.lsp_replay.proofs.Prelude.{arith, common_steps, ℕ, ◌≡◌, List, [], ◌∷◌, Option, Some, None, Result, refl, subst, cases_Bool, reading, ChangeData, reply, changed, incoming_of, ServerData, Settings, Outcome, EngineFault, Record, RunOutput, RecordOutput, change_in, front_of, followed_by, log_config, canonical_log, canonical_if, normalising, unless_bad, written, run_output_in, Session, Verdict, answered, judge, opened, StopsAlike, OpenSeries, change_output, squash_step, squashed_in, step_if, squashed_steps}
 use Rattle.lsp_replay.proofs.Squash.SeriesLemmas.{squashed_is}
 
 abbrev single : ServerData → Record → List ℕ → Option ChangeData → Verdict → RecordOutput
@@ -9,20 +9,12 @@ single server r front change v =
 change_end : (server : ServerData) (p : ChangeData) (front bytes : List ℕ) (series : Option OpenSeries)
     → (change_output server p front bytes series).end ≡ None
 change_end server p front bytes None = refl
-change_end server p front bytes (Some series) =
-    ⊎_elim (λ (is : bytes_eq p.uri series.squash.uri ≡ true). rw is refl) (λ (not : bytes_eq p.uri series.squash.uri ≡
-    false).
-    rw not refl) (cases_Bool (bytes_eq p.uri series.squash.uri))
+change_end server p front bytes (Some series) = grind (arith, common_steps, cases_Bool)
 
 step_end : (server : ServerData) (r : Record) (front : List ℕ) (series : Option OpenSeries) (change : Option ChangeData)
     (v : Verdict) → (step_if server r front series change v).end ≡ (single server r front change v).end
 step_end server r front series None (answered (reply m)) = refl
-step_end server r front series (Some p) (answered changed) =
-    ⊎_elim (λ (long : nat_lt server.config.limits.max_body (length (canonical_change_body server p)) ≡ true). rw long
-    refl)
-    (λ (within : nat_lt server.config.limits.max_body (length (canonical_change_body server p)) ≡ false). rw within
-    (change_end server p front _ series))
-    (cases_Bool (nat_lt server.config.limits.max_body (length (canonical_change_body server p))))
+step_end server r front series (Some p) (answered changed) = grind (arith, common_steps, cases_Bool, change_end)
 step_end server r front series _ _ = refl
 
 -- One output ends as another: with the same result, and with the same outcome.

@@ -1,5 +1,5 @@
 -- The records that stay, as a log of their own.
-use Rattle.lsp_replay.proofs.Prelude.{◌≡◌, ◌≢◌, ℕ, ◌+◌, Bool, true, false, ◌||◌, List, [], ◌∷◌, ◌++◌, length, Option, Some, None, refl, sym, ap, ◌∙◌, subst, nat_lt, ⊎_elim, if◌then◌else◌, cond_both, Result, Err, place_after, frame, reading, ChangeData, incoming_of, ServerData, EngineFault, BadLog, BodyTooLong, Version, One, Two, Record, AreRecords, is_line_due, record_bytes, Outcome, Kept, Selection, after_kept, after_left_out, is_due, kept_first, kept_in, record_stays, with_line, RecordOutput, canonical_change_body, canonical_if, change_in, followed_by, ends, front_of, normalising, replaying, unless_bad, writes, written, run_output_in, IsChange, RunOutput, Session, Verdict, answered, bad, judge, recorded, OpenSeries, Step, squash_step, squashed_in}
+use Rattle.lsp_replay.proofs.Prelude.{common_steps, cases_Bool, arith, ◌≡◌, ◌≢◌, ℕ, ◌+◌, Bool, true, false, ◌||◌, List, [], ◌∷◌, length, Option, Some, None, refl, sym, ap, ◌∙◌, subst, ⊎_elim, cond_both, Result, Err, place_after, frame, reading, ChangeData, incoming_of, ServerData, EngineFault, BadLog, Version, One, Record, AreRecords, is_line_due, record_bytes, Outcome, Kept, Selection, after_kept, after_left_out, is_due, kept_first, kept_in, record_stays, with_line, RecordOutput, canonical_change_body, canonical_if, change_in, followed_by, front_of, normalising, replaying, unless_bad, written, run_output_in, IsChange, RunOutput, Session, Verdict, answered, bad, judge, recorded, OpenSeries, Step, squash_step, squashed_in}
 use Rattle.lsp_replay.proofs.Records.ChangeLemmas.{IsChangeKind, IsOtherKind, kind_of}
 use Rattle.lsp_replay.proofs.Stay.LeftOutLemmas.{harmless, stays_alike}
 use Rattle.lsp_replay.proofs.Canonical.NormalisedLemmas.{went_on}
@@ -39,12 +39,7 @@ single server r v =
 written_end : (max_body : ℕ) (r : Record) (front other : List ℕ) (c : Option (List ℕ))
     → (written max_body r front c).end ≡ (written max_body r other c).end
 written_end max_body r front other None = refl
-written_end max_body r front other (Some body) = by (nat_lt max_body (length body))
-  where
-    by : (over : Bool) → (if over then ends [] (Err (BodyTooLong r.head.place)) else writes (front ++ frame body)).end
-        ≡ (if over then ends [] (Err (BodyTooLong r.head.place)) else writes (other ++ frame body)).end
-    by true = refl
-    by false = refl
+written_end max_body r front other (Some body) = grind (arith, common_steps, cases_Bool)
 
 line_end : (server : ServerData) (c : Selection) (r : Record) (v : Verdict) → (single server (with_line c r) v).end
     ≡ (single server r v).end
@@ -137,37 +132,40 @@ none_due [] = refl
 none_due (r ∷ rs) = refl
 
 pub kept_due : (max_body : ℕ) (version : Version) (rs : List Record) (s : Session) (c : Selection) (before : ℕ)
-    (due : Bool) → AreRecords max_body version before due rs → ((rs ≡ []) → due ≡ false)
-    → (kept_in s c rs).due ≡ left_due (c.due || due) (kept_in s c rs).records
-kept_due max_body version [] s c before due each none = sym (or_false c.due) ∙ ap (λ b. c.due || b) (sym (none refl))
-kept_due max_body version (r ∷ rs) s c before due each none =
-    kept_cases s c r rs (λ (k : Kept). k.due ≡ left_due (c.due || due) k.records)
-    (λ e. kept_due max_body version rs (judge s r).session (after_kept c r.head r.body)
-    (before + length (record_bytes version r)) false each.1 (λ _. refl)
-    ∙ none_due (kept_in (judge s r).session (after_kept c r.head r.body) rs).records)
-    (λ e. kept_due max_body version rs s (after_left_out c r.head) (before + length (record_bytes version r)) false
-    each.1 (λ _. refl)
-    ∙ ap (λ b. left_due b (kept_in s (after_left_out c r.head) rs).records) (or_false (is_due c r.head)
-    ∙ ap (λ b. c.due || b) each.0.due))
+    (due : Bool) → AreRecords max_body version before due rs
+    → ((kept_in s c rs).due || left_due due rs) ≡ left_due (c.due || due) (kept_in s c rs).records
+kept_due max_body version [] s c before due each = refl
+kept_due max_body version (r ∷ rs) s c before due each =
+    let later = before + length (record_bytes version r) in
+    kept_cases s c r rs (λ (k : Kept). (k.due || false) ≡ left_due (c.due || due) k.records)
+    (λ e.
+    let k = kept_in (judge s r).session (after_kept c r.head r.body) rs in
+    ap (λ b. k.due || b) (sym (none_due rs))
+    ∙ kept_due max_body version rs (judge s r).session (after_kept c r.head r.body) later false each.1
+    ∙ none_due k.records)
+    (λ e.
+    let k = kept_in s (after_left_out c r.head) rs in
+    ap (λ b. k.due || b) (sym (none_due rs))
+    ∙ kept_due max_body version rs s (after_left_out c r.head) later false each.1
+    ∙ ap (λ b. left_due b k.records) (or_false (is_due c r.head) ∙ ap (λ b. c.due || b) each.0.due))
 
-pub located_due : (version : Version) (at : ℕ) (rs : List Record) → is_line_due version (located_all at version rs)
-    ≡ left_due (is_line_due version []) rs
-located_due One at [] = refl
-located_due Two at (r ∷ rs) = refl
-located_due _ at _ = refl
+pub line_left : (version : Version) (rs : List Record) → is_line_due version rs ≡ left_due (is_line_due version []) rs
+line_left One [] = refl
+line_left One (r ∷ rs) = refl
+line_left _ [] = refl
+line_left _ (r ∷ rs) = refl
+
+pub located_left : (version : Version) (at : ℕ) (due : Bool) (rs : List Record)
+    → left_due due (located_all at version rs) ≡ left_due due rs
+located_left version at due [] = refl
+located_left version at due (r ∷ rs) = refl
 
 -- ---- the same is written at other places
 
 located_written : (max_body at : ℕ) (r : Record) (front : List ℕ) (c : Option (List ℕ))
     → (written max_body r front c).end ≡ None → written max_body (located at r) front c ≡ written max_body r front c
 located_written max_body at r front None e = refl
-located_written max_body at r front (Some body) e = by (nat_lt max_body (length body)) e
-  where
-    by : (over : Bool) → (if over then ends [] (Err (BodyTooLong r.head.place)) else writes (front ++ frame body)).end
-        ≡ None → (if over then ends [] (Err (BodyTooLong (place_after 0 at))) else writes (front ++ frame body))
-        ≡ (if over then ends [] (Err (BodyTooLong r.head.place)) else writes (front ++ frame body))
-    by true f = absurd (let wrong : Some (Err (BodyTooLong r.head.place)) ≡ None = f in cc)
-    by false f = refl
+located_written max_body at r front (Some body) e = grind (arith, common_steps, cases_Bool)
 
 located_single : (server : ServerData) (at : ℕ) (r : Record) (v : Verdict) → (single server r v).end ≡ None
     → single server (located at r) v ≡ single server r v

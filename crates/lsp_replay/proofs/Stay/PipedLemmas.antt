@@ -1,5 +1,5 @@
 -- What a command writes of the records that stay, a record at a time, and over all records.
-use Rattle.lsp_replay.proofs.Prelude.{◌≡◌, ◌⊎◌, inl, inr, ℕ, Bool, true, false, List, [], ◌∷◌, ◌++◌, Option, Some, None, refl, sym, ap, ◌∙◌, cond, kept_first, Result, Ok, Err, IfErr, IfOk, OnOk, Outcome, EngineFault, NoMemory, Ports, Head, LogRules, Record, FirstLaw, VersionLaw, Kept, Selection, after_kept, after_left_out, kept_in, output_of_kept, record_stays, with_due, with_line, View, followed_by, output_in, IsEngineRun, RunOutput, stopped, written_first, Session, judge, body_read, IsLoopRun, IsAdmitted, piped, IsRecordFault, after}
+use Rattle.lsp_replay.proofs.Prelude.{◌≡◌, ◌⊎◌, inl, inr, ℕ, Bool, true, false, List, [], ◌∷◌, ◌++◌, Option, Some, None, refl, sym, ap, ◌∙◌, cond, kept_first, Result, Ok, Err, IfErr, IfOk, OnOk, Outcome, EngineFault, NoMemory, Ports, Head, LogRules, Record, FirstLaw, VersionLaw, Kept, Selection, after_kept, after_left_out, kept_in, output_of_kept, record_stays, with_due, with_line, View, followed_by, output_in, IsEngineRun, RunOutput, stopped, written_first, Session, judge, IsLoopRun, IsAdmitted, piped, IsRecordFault, after}
 use Rattle.lsp_replay.specs.inside.Reads.{IsKept, IsLeftOut}
 use Rattle.lsp_replay.proofs.Stay.KeptLogLemmas.{kept_false, kept_true}
 use Rattle.lsp_replay.proofs.Runs.RunReportLemmas.{Grows, GrowsAll, NoneCut, Settles, grows, run_of, run_of_course, settled}
@@ -36,9 +36,6 @@ module _ (s : Session) (c d : Selection) (head : Head) (raw body : List ℕ) (wr
 
   its_is : its ≡ with_line c r
   its_is = ap (λ (h : Head). record { head = h; raw = raw; body = body }) stays.head_is
-
-  pub version_same : body_read written.version written.side body ≡ body_read head.version head.side body
-  version_same = ap (λ (h : Head). body_read h.version h.side body) stays.head_is
 
   abbrev later : List Record → Kept
   later more = kept_in (judge s r).session (after_kept c head body) more
