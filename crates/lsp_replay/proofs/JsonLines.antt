@@ -1,7 +1,6 @@
--- The lines of `trace` and `replay` are JSON. Each value of a line is read within the line as it is read alone: one
--- that is printed (`PrintedLemmas`), and a body that came from outside (`WithinLemmas`, by `StringLemmas` and
--- `WordLemmas`). `ValueLemmas` puts values into members and members into an object.
-pub mod PrintedLemmas
+-- The lines of `trace` and `replay` are JSON. Each value of a line is read within the line as it is read alone, on one
+-- line (`WithinLemmas`, by `StringLemmas` and `WordLemmas`). `ValueLemmas` puts values into members and members into an
+-- object.
 pub mod StringLemmas
 pub mod WordLemmas
 pub mod WithinLemmas

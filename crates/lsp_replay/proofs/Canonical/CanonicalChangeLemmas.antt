@@ -1,9 +1,17 @@
 -- The canonical message of what some batch means on an open document: it is read as a change, which is accepted there,
 -- leaves what the batch
 -- leaves, and is its own canonical message.
-use Rattle.lsp_replay.proofs.Prelude.{◌≡◌, ℕ, ℤ, ◌≤◌, false, nat_lt, List, map, length, IsUtf8, Some, None, Ok, refl, ap, ◌∙◌, subst, arith, w32, FitsSigned, chars, scalars-chars, AreInRange, units_in, Encoding, Item, text_of, ContentChange, meaning, canonical, then_items, IsCanonical, canonical_law, units_some, bytes_left, reading, DocumentItem, ChangeData, reading-body_of, is_read_back, body_of-unique, entry_at, entry_refusal, is_stale, meant_text, AreTexts, IsReadAgain, written_content_change, change_body, canonical_batch, canonical_body, SquashData, items_meant, is_read, canonical_texts, squash_accepted, incoming_of, did_change, ServerData, content_change_from_data, session_encoding, edits_back, canonical_change_body, refusal_of, server_after, joined_by}
+use Rattle.lsp_replay.proofs.Prelude.{◌≡◌, ℕ, ℤ, ◌≤◌, false, nat_lt, List, map, length, IsUtf8, Some, None, Ok, Result, refl, ap, ◌∙◌, subst, arith, w32, FitsSigned, chars, scalars-chars, AreInRange, units_in, Encoding, Item, text_of, ContentChange, Fault, meaning, canonical, then_items, IsCanonical, canonical_law, units_some, bytes_left, reading, DocumentItem, ChangeData, reading-body_of, is_read_back, body_of-unique, entry_at, entry_refusal, is_stale, meant_text, AreTexts, IsReadAgain, written_content_change, canonical_batch, canonical_body, SquashData, items_meant, is_read, canonical_texts, squash_accepted, incoming_of, did_change, ServerData, content_change_from_data, session_encoding, edits_back, canonical_change_body, refusal_of, server_after, joined_by}
+use Rattle.lsp_store.specs.Message.{change_body}
 use Rattle.lsp_replay.proofs.Records.PutLemmas.{put, change_puts}
-use Rattle.lsp_replay.proofs.Canonical.SettledLemmas.{asks_back}
+
+-- ---- a batch is read back as it was written
+
+pub asks_back : (uri : List ℕ) (version : ℤ) (batch : List ContentChange) → IsReadAgain uri version batch
+    → incoming_of (reading (change_body uri version batch))
+    ≡ did_change (Some (record { uri = uri; version = version; changes = map written_content_change batch }))
+unfolding change_body
+asks_back uri version batch read = ap incoming_of read.as_sent ∙ ap did_change read.back
 
 -- what a document's URI, version and text must be
 pub record IsProperAt (t : ServerData) (uri : List ℕ) (version : ℤ) (entry : DocumentItem) (batch : List ContentChange)
@@ -31,6 +39,19 @@ canonical_change t uri version entry items = record {
   changes = map written_content_change (canonical_at t entry items);
 }
 
+-- what a change adds to batches that lead to the document that it means something on
+pub joins_as : (p : ChangeData) (squash : SquashData) (encoding : Encoding) (text : List ℕ) (items : List Item)
+    → squash.encoding ≡ encoding → text_of (chars squash.text) squash.items ≡ text
+    → meaning (units_in encoding) text (map content_change_from_data p.changes) ≡ Ok items
+    → joined_by p squash ≡ record squash { items = then_items squash.items items; version = p.version }
+joins_as p squash encoding text items same_encoding same_text means =
+    ap (λ (m : Result (List Item) (ℕ × Fault)). record squash {
+      items = then_items squash.items (items_meant m);
+      version = p.version;
+    }) (ap (λ (e : Encoding). meaning (units_in e) (text_of (chars squash.text) squash.items)
+    (map content_change_from_data p.changes)) same_encoding
+    ∙ ap (λ (x : List ℕ). meaning (units_in encoding) x (map content_change_from_data p.changes)) same_text ∙ means)
+
 pub record IsCanonicalChange (t : ServerData) (uri : List ℕ) (version : ℤ) (entry : DocumentItem)
     (items : List Item) : Type 0 where
   pub asks : incoming_of (reading (change_body uri version (canonical_at t entry items)))
@@ -50,9 +71,6 @@ pub record IsCanonicalChange (t : ServerData) (uri : List ℕ) (version : ℤ) (
 module _ (t : ServerData) (uri : List ℕ) (version : ℤ) (entry : DocumentItem) (batch : List ContentChange)
     (items : List Item)
     (ranges : AreInRange t.config.limits) (at : IsProperAt t uri version entry batch items) where
-  units : ℕ → ℕ
-  units = units_in (session_encoding t)
-
   laws : (some : List ContentChange) (others : List Item) → meaning (units_in (session_encoding t))
       (chars entry.text) some ≡ Ok others → IsCanonical (units_in (session_encoding t)) (chars entry.text) some others
   laws some others means = canonical_law (units_in (session_encoding t)) (units_some (session_encoding t))
@@ -85,54 +103,20 @@ module _ (t : ServerData) (uri : List ℕ) (version : ℤ) (entry : DocumentItem
       ≡ canonical_at t entry items
   back = edits_back (canonical_at t entry items) all_texts
 
-  may_on : refusal_of t (canonical_change t uri version entry items) ≡ None
-  may_on = rw (at.found, back) accepted
-
-  leaves_on : server_after t (canonical_change t uri version entry items) ≡ record t {
-    table = put t.table uri version (bytes_left entry.text items);
-  }
-  leaves_on =
-      ap (λ (table : List DocumentItem). record t { table = table })
-      (change_puts (units_in (session_encoding t)) t.table uri version
-      (map content_change_from_data (map written_content_change (canonical_at t entry items))) entry at.found
-      ∙ ap (λ (b : List ContentChange). put t.table uri version
-      (meant_text entry.text (meaning (units_in (session_encoding t)) (chars entry.text) b))) back
-      ∙ ap (λ m. put t.table uri version (meant_text entry.text m)) law.means)
-
-  own_on : canonical_change_body t (canonical_change t uri version entry items)
-      ≡ change_body uri version (canonical_at t entry items)
-  own_on = ap (canonical_body (units_in (session_encoding t)) t.table uri version) back ∙ ap (change_body uri version)
-      same_batch
-
-  joins_on : (squash : SquashData) → squash.encoding ≡ session_encoding t → text_of (chars squash.text) squash.items
-      ≡ chars entry.text → joined_by (canonical_change t uri version entry items) squash ≡ record squash {
-        items = then_items squash.items items;
-        version = version;
-      }
-  joins_on squash encoding text =
-      ap (λ (b : List ContentChange). record squash {
-        items = then_items squash.items
-            (items_meant (meaning (units_in squash.encoding) (text_of (chars squash.text) squash.items) b));
-        version = version;
-      }) back
-      ∙ ap (λ (e : Encoding). record squash {
-        items = then_items squash.items
-            (items_meant (meaning (units_in e) (text_of (chars squash.text) squash.items)
-            (canonical_at t entry items)));
-        version = version;
-      }) encoding
-      ∙ ap (λ (x : List ℕ). record squash {
-        items = then_items squash.items
-            (items_meant (meaning (units_in (session_encoding t)) x (canonical_at t entry items)));
-        version = version;
-      }) text
-      ∙ ap (λ m. record squash { items = then_items squash.items (items_meant m); version = version }) law.means
-
   pub is_canonical_change : IsCanonicalChange t uri version entry items
   is_canonical_change = record {
     asks = asks_back uri version (canonical_at t entry items) read;
-    may = may_on;
-    leaves = leaves_on;
-    own = own_on;
-    joins = joins_on;
+    may = rw (at.found, back) accepted;
+    leaves =
+        ap (λ (table : List DocumentItem). record t { table = table })
+        (change_puts (units_in (session_encoding t)) t.table uri version
+        (map content_change_from_data (map written_content_change (canonical_at t entry items))) entry at.found
+        ∙ ap (λ (b : List ContentChange). put t.table uri version
+        (meant_text entry.text (meaning (units_in (session_encoding t)) (chars entry.text) b))) back
+        ∙ ap (λ m. put t.table uri version (meant_text entry.text m)) law.means);
+    own = ap (canonical_body (units_in (session_encoding t)) t.table uri version) back
+        ∙ ap (change_body uri version) same_batch;
+    joins = λ squash encoding text.
+        joins_as (canonical_change t uri version entry items) squash (session_encoding t) (chars entry.text) items
+        encoding text (ap (meaning (units_in (session_encoding t)) (chars entry.text)) back ∙ law.means);
   }

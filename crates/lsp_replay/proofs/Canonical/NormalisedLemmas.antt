@@ -1,5 +1,5 @@
 -- What `normalise` writes of a log: a log of which the same is told, and of which the same is written.
-use Rattle.lsp_replay.proofs.Prelude.{◌≡◌, ℕ, ◌+◌, ◌≤◌, Bool, true, false, List, [], ◌∷◌, ◌++◌, length, Option, Some, None, refl, sym, ap, ◌∙◌, subst, arith, append_assoc, append-nil, nat_lt, if◌then◌else◌, Result, Err, ltb-false, place_after, frame, IsFrameOf, LimitsData, AreInRange, written_is_frame, Outcome, EngineFault, BadLog, Version, One, Two, Head, Record, Log, IsRecord, AreRecords, IsVersion, together, record_bytes, mark_of, line_of, version_line, is_line_due, RunOutput, written_first, Session, Verdict, answered, recorded, bad, Judged, judge, opened, View, RecordOutput, writes, followed_by, unless_bad, normalising, replaying, canonical_output, canonical_of_record, written, front_of, line_if, log_config, canonical_log, run_output_in, all_of, CanonicalLogLaw, common_steps}
+use Rattle.lsp_replay.proofs.Prelude.{◌≡◌, ℕ, ◌+◌, ◌≤◌, Bool, true, false, List, [], ◌∷◌, ◌++◌, length, Option, Some, None, refl, sym, ap, ◌∙◌, subst, arith, append_assoc, append-nil, nat_lt, Result, Err, ltb-false, place_after, frame, IsFrameOf, LimitsData, AreInRange, written_is_frame, Outcome, EngineFault, BadLog, Version, One, Two, Head, Record, Log, IsRecord, AreRecords, IsVersion, together, record_bytes, line_of, version_line, is_line_due, RunOutput, written_first, Session, Verdict, bad, Judged, judge, opened, View, RecordOutput, writes, followed_by, unless_bad, normalising, replaying, canonical_output, canonical_of_record, written, front_of, line_if, log_config, canonical_log, run_output_in, all_of, CanonicalLogLaw, common_steps}
 use Rattle.lsp_replay.proofs.Records.StateLemmas.{IsHeldState}
 use Rattle.lsp_replay.proofs.Converted.LineLemmas.{is_version_one}
 use Rattle.lsp_replay.proofs.Records.JudgeLemmas.{judged_held, judged_again}
@@ -25,6 +25,15 @@ pub passes : (verdict : Verdict) (r : Record) (g : RecordOutput) → (unless_bad
 passes bad r g e = absurd (let bad_one : Some (Err (BadLog r.head.place)) ≡ None = e in cc)
 passes _ r g e = λ q h. refl
 
+-- what stands in front of the first record, if there is one
+abbrev pub first_line : Bool → List Record → List ℕ
+first_line due [] = []
+first_line due (r ∷ rs) = line_if due
+
+pub no_line : (rs : List Record) → first_line false rs ≡ []
+no_line [] = refl
+no_line (r ∷ rs) = refl
+
 -- ---- one record
 
 -- a head at a place
@@ -35,6 +44,15 @@ placed at head = record head { place = place_after 0 at }
 abbrev pub canonical_record : ℕ → Record → Option (List ℕ) → Record
 canonical_record at r None = record { head = placed at r.head; raw = r.raw; body = r.body }
 canonical_record at r (Some body) = record { head = placed at r.head; raw = frame body; body = body }
+
+-- the records that are written of some, the first at a place
+abbrev normal_from : ℕ → Version → Session → List Record → List Record
+normal_from at version s [] = []
+normal_from at version s (r ∷ rs) =
+    canonical_record at r (canonical_of_record s r.body (judge s r).verdict)
+    ∷ normal_from
+    (at + length (record_bytes version (canonical_record at r (canonical_of_record s r.body (judge s r).verdict))))
+    version (judge s r).session rs
 
 -- It is judged as the record, and the same is written of both.
 pub record IsWrittenAs (limits : LimitsData) (at : ℕ) (s : Session) (r q : Record) : Type 0 where
@@ -111,15 +129,6 @@ module _ (limits : LimitsData) (ranges : AreInRange limits) where
 
   -- ---- all records
 
-  -- what stands in front of the first record
-  abbrev front_if : Bool → List Record → List ℕ
-  front_if due [] = []
-  front_if due (r ∷ rs) = line_if due
-
-  front_none : (rs : List Record) → front_if false rs ≡ []
-  front_none [] = refl
-  front_none (r ∷ rs) = refl
-
   four : (a b c d : List ℕ) → ((a ++ b) ++ c) ++ d ≡ a ++ ((b ++ c) ++ d)
   four a b c d = ap (λ z. z ++ d) (append_assoc a b c) ∙ append_assoc a (b ++ c) d
 
@@ -127,7 +136,7 @@ module _ (limits : LimitsData) (ranges : AreInRange limits) where
   -- same is written.
   record AreWritten (at : ℕ) (version : Version) (due : Bool) (s : Session) (rs qs : List Record) : Type 0 where
     are : AreRecords limits.max_body version at due qs
-    out : (run_output_in normalising s rs).out ≡ front_if due rs ++ together version qs []
+    out : (run_output_in normalising s rs).out ≡ first_line due rs ++ together version qs []
     last : (line_due : Bool) → (run_output_in normalising s rs).last line_due ≡ line_if line_due
     again : run_output_in normalising s qs ≡ run_output_in normalising s rs
     same : run_output_in replaying s qs ≡ run_output_in replaying s rs
@@ -138,9 +147,6 @@ module _ (limits : LimitsData) (ranges : AreInRange limits) where
       (is : IsRecord limits.max_body version before due r)
       (one : IsWrittenAs limits at s r q) (more : AreWritten (at + length (record_bytes version q)) version false
       (judge s r).session rs qs) where
-    front_is : front_of r.head ≡ line_if due ++ mark_of version q.head.side
-    front_is = grind (arith, common_steps)
-
     first : run_output_in normalising s (r ∷ rs) ≡ written_first (front_of r.head ++ q.raw)
         (run_output_in normalising (judge s r).session rs)
     first = command_output normalising s r rs (judge s r) (front_of r.head ++ q.raw) refl one.first
@@ -151,7 +157,7 @@ module _ (limits : LimitsData) (ranges : AreInRange limits) where
     one_more : AreWritten at version due s (r ∷ rs) (q ∷ qs)
     one_more = record {
       are = grind (arith, common_steps);
-      out = grind (arith, common_steps, front_none, four);
+      out = grind (arith, common_steps, no_line, four);
       last = λ line_due. ap (λ (c : RunOutput). c.last line_due) first ∙ more.last line_due;
       again =
           command_output normalising s q qs (judge s r) (front_of r.head ++ q.raw) one.same one.again
@@ -162,14 +168,6 @@ module _ (limits : LimitsData) (ranges : AreInRange limits) where
       outcome = ap (λ (c : RunOutput). c.outcome) first ∙ more.outcome
           ∙ sym (ap (λ (c : RunOutput). c.outcome) told_first);
     }
-
-  abbrev normal_from : ℕ → Version → Session → List Record → List Record
-  normal_from at version s [] = []
-  normal_from at version s (r ∷ rs) =
-      canonical_record at r (canonical_of_record s r.body (judge s r).verdict)
-      ∷ normal_from
-      (at + length (record_bytes version (canonical_record at r (canonical_of_record s r.body (judge s r).verdict))))
-      version (judge s r).session rs
 
   written_log : (at before : ℕ) (version : Version) (due : Bool) (s : Session) (rs : List Record)
       → IsHeldState limits s.server
@@ -193,21 +191,19 @@ module _ (limits : LimitsData) (ranges : AreInRange limits) where
 
 -- ---- the bytes
 
-due_same : (limits : LimitsData) (ranges : AreInRange limits) (at : ℕ) (version : Version) (s : Session)
-    (rs : List Record) → is_line_due version (normal_from limits ranges at version s rs) ≡ is_line_due version rs
-due_same limits ranges at One s [] = refl
-due_same limits ranges at Two s (r ∷ rs) = refl
-due_same limits ranges at _ s _ = refl
+due_same : (at : ℕ) (version : Version) (s : Session) (rs : List Record)
+    → is_line_due version (normal_from at version s rs) ≡ is_line_due version rs
+due_same at One s [] = refl
+due_same at Two s (r ∷ rs) = refl
+due_same at _ s _ = refl
 
-all_is : (limits : LimitsData) (ranges : AreInRange limits) (version : Version) (rs : List Record) (bytes : List ℕ)
-    → ((rs ≡ []) → bytes ≡ [])
-    → (front_if limits ranges (is_line_due version []) rs ++ bytes) ++ line_if (is_line_due version rs)
-    ≡ line_of version ++ bytes
-all_is limits ranges One [] bytes none = append-nil bytes
-all_is limits ranges One (r ∷ rs) bytes none = append-nil bytes
-all_is limits ranges Two [] bytes none = ap (λ z. z ++ version_line) (none refl) ∙ sym (append-nil version_line)
-    ∙ ap (λ z. version_line ++ z) (sym (none refl))
-all_is limits ranges Two (r ∷ rs) bytes none = append-nil (version_line ++ bytes)
+all_is : (at : ℕ) (version : Version) (s : Session) (rs : List Record)
+    → (first_line (is_line_due version []) rs ++ together version (normal_from at version s rs) [])
+    ++ line_if (is_line_due version rs) ≡ line_of version ++ together version (normal_from at version s rs) []
+all_is at One s [] = refl
+all_is at Two s [] = sym (append-nil version_line)
+all_is at One s (r ∷ rs) = append-nil _
+all_is at Two s (r ∷ rs) = append-nil _
 
 pub version_is : (max_body : ℕ) (version : Version) (rs : List Record) (bytes : List ℕ)
     → AreRecords max_body version (length (line_of version)) (is_line_due version []) rs
@@ -215,11 +211,6 @@ pub version_is : (max_body : ℕ) (version : Version) (rs : List Record) (bytes 
 version_is max_body One rs bytes are is = λ wanted more e. is_version_one max_body 0 false rs are wanted more
     (sym is ∙ e)
 version_is max_body Two rs bytes are is = (refl, (together Two rs [], is))
-
-none_together : (limits : LimitsData) (ranges : AreInRange limits) (at : ℕ) (version : Version) (s : Session)
-    (rs : List Record) → rs ≡ [] → together version (normal_from limits ranges at version s rs) [] ≡ []
-none_together limits ranges at version s [] e = refl
-none_together limits ranges at version s (r ∷ rs) e = absurd (let lengths = ap length e in cc)
 
 -- What `normalise` writes of a log is a log, of which the same is told and the same is written.
 pub canonical_log_law : CanonicalLogLaw
@@ -240,7 +231,7 @@ canonical_log_law settings ranges input log reads whole goes = record {
   continues = ap (λ (c : RunOutput). c.stop) w.again ∙ goes;
   again = ap (λ (c : RunOutput). c.out ++ c.last (is_line_due log.version qs)) w.again
       ∙ ap (λ due. (canonical_log settings log.records).out ++ (canonical_log settings log.records).last due)
-      (due_same settings.limits ranges start log.version s log.records);
+      (due_same start log.version s log.records);
 }
   where
     start : ℕ
@@ -250,7 +241,7 @@ canonical_log_law settings ranges input log reads whole goes = record {
     s = opened (log_config settings)
 
     qs : List Record
-    qs = normal_from settings.limits ranges start log.version s log.records
+    qs = normal_from start log.version s log.records
 
     w : AreWritten settings.limits ranges start log.version (is_line_due log.version []) s log.records qs
     w = written_log settings.limits ranges start start log.version (is_line_due log.version []) s log.records
@@ -265,7 +256,6 @@ canonical_log_law settings ranges input log reads whole goes = record {
     is : bytes ≡ line_of log.version ++ together log.version qs []
     is =
         ap (λ z. z ++ (canonical_log settings log.records).last (is_line_due log.version log.records)) w.out
-        ∙ ap (λ z. (front_if settings.limits ranges (is_line_due log.version []) log.records ++ together log.version qs
+        ∙ ap (λ z. (first_line (is_line_due log.version []) log.records ++ together log.version qs
         []) ++ z) (w.last (is_line_due log.version log.records))
-        ∙ all_is settings.limits ranges log.version log.records (together log.version qs [])
-        (none_together settings.limits ranges start log.version s log.records)
+        ∙ all_is start log.version s log.records

@@ -1,26 +1,22 @@
 -- The canonical message of a change that is accepted asks for its canonical batch, which does the same.
-use Rattle.lsp_replay.proofs.Prelude.{◌≡◌, ℕ, ℤ, ◌≤◌, List, map, length, Some, None, refl, ap, ◌∙◌, arith, Ok, chars, scalars-chars, LimitsData, AreInRange, units_in, Encoding, Item, ContentChange, meaning, canonical, IsCanonical, canonical_law, units_some, reading, DocumentItem, ChangeData, reading-body_of, is_read_back, body_of-unique, entry_at, entry_refusal, change_refusal, after_change, Accepts, accepted_parts, body_within, is_settled, is_read, canonical_texts, IsWithin, within_at, Phase, New, Running, Down, Ended, did_change, incoming_of, ServerData, step_in, step_on, content_change_from_data, session_encoding, edits_back, canonical_change_body, common_steps}
-use Rattle.lsp_frame.proofs.LawLemmas.{injective_law}
-use Rattle.lsp_store.specs.Message.{AreTexts, IsCanonicalOf, IsReadAgain, written_content_change, change_body, canonical_batch, canonical_body, body_refusal}
-use Rattle.lsp_store.proofs.Tables.FirstLemmas.{first_none}
-use Rattle.lsp_replay.proofs.Canonical.CanonicalLogLemmas.{within}
+use Rattle.lsp_replay.proofs.Prelude.{◌≡◌, ◌≤◌, List, map, length, Some, None, Ok, refl, sym, ap, ◌∙◌, arith, chars, le-ltb, AreInRange, units_in, Item, meaning, IsCanonical, canonical_law, units_some, bytes_left, reading, DocumentItem, ChangeData, change_body, entry_at, change_refusal, after_change, meant_text, MayChange, change_parts, Accepts, accepted_parts, IsWithin, within_at, Phase, Running, did_change, incoming_of, ServerData, step_in, step_on, content_change_from_data, session_encoding, canonical_change_body, refusal_of, server_after, common_steps}
+use Rattle.lsp_replay.proofs.Canonical.CanonicalChangeLemmas.{IsCanonicalChange, canonical_at, canonical_change, is_canonical_change}
 use Rattle.lsp_replay.proofs.Records.AskedLemmas.{IsProperAsked}
+use Rattle.lsp_replay.proofs.Records.PutLemmas.{put, change_puts}
 use Rattle.lsp_replay.proofs.Records.StateLemmas.{IsHeldState}
 
--- ---- refusals
-
-open_one : (limits : LimitsData) (units : ℕ → ℕ) (table : List DocumentItem) (uri : List ℕ) (version : ℤ)
-    (batch : List ContentChange) → change_refusal limits units table uri version batch ≡ None
-    → (entry : DocumentItem) × (entry_at table uri ≡ Some entry)
-open_one limits units table uri version batch e = grind (arith, common_steps)
-
--- ---- a batch is read back as it was written
-
-pub asks_back : (uri : List ℕ) (version : ℤ) (batch : List ContentChange) → IsReadAgain uri version batch
-    → incoming_of (reading (change_body uri version batch))
-    ≡ did_change (Some (record { uri = uri; version = version; changes = map written_content_change batch }))
-unfolding change_body
-asks_back uri version batch read = ap incoming_of read.as_sent ∙ ap did_change read.back
+-- What an accepted change means on its document, and what its canonical message is and does.
+pub record IsSettled (server : ServerData) (p : ChangeData) : Type 0 where
+  pub entry : DocumentItem
+  pub found : entry_at server.table p.uri ≡ Some entry
+  pub items : List Item
+  pub means : meaning (units_in (session_encoding server)) (chars entry.text) (map content_change_from_data p.changes)
+      ≡ Ok items
+  pub message : IsCanonicalChange server p.uri p.version entry items
+  pub body : canonical_change_body server p ≡ change_body p.uri p.version (canonical_at server entry items)
+  pub leaves : server_after server p ≡ record server {
+    table = put server.table p.uri p.version (bytes_left entry.text items);
+  }
 
 -- ---- the change that a canonical message asks for
 
@@ -45,92 +41,53 @@ same_change server p again _ may also same = refl
 
 module _ (server : ServerData) (p : ChangeData) (ranges : AreInRange server.config.limits)
     (received : IsHeldState server.config.limits server) (proper : IsProperAsked p)
-    (may : change_refusal server.config.limits (units_in (session_encoding server)) server.table p.uri p.version
-    (map content_change_from_data p.changes) ≡ None)
-    (fits : length (canonical_change_body server p) ≤ server.config.limits.max_body) where
-  abbrev encoding : Encoding
-  encoding = session_encoding server
+    (may : refusal_of server p ≡ None) where
+  pub settled : IsSettled server p
+  settled =
+      let limits = server.config.limits in
+      let units = units_in (session_encoding server) in
+      let batch = map content_change_from_data p.changes in
+      let parts : MayChange limits units server.table p.uri p.version batch =
+      change_parts limits units server.table p.uri p.version batch may in
+      let entry : DocumentItem = parts.entry in
+      let held : IsWithin limits entry = within_at limits server.table p.uri entry received.table parts.is_open in
+      let accepts : Accepts limits units entry p.version batch =
+      accepted_parts limits units entry p.version batch parts.may in
+      let law : IsCanonical units (chars entry.text) batch accepts.items =
+      canonical_law units (units_some (session_encoding server)) (chars entry.text) batch accepts.items accepts.means in
+      record {
+        entry = entry;
+        found = parts.is_open;
+        items = accepts.items;
+        means = accepts.means;
+        message = is_canonical_change server p.uri p.version entry batch accepts.items ranges (record {
+          found = parts.is_open;
+          utf8 = held.utf8;
+          received = held.short;
+          uri_utf8 = proper.uri;
+          version_fits = proper.version;
+          means = accepts.means;
+          texts = proper.texts;
+          newer = accepts.newer;
+          short = accepts.short;
+          few = le-ltb limits.max_changes (length (canonical_at server entry accepts.items))
+              (omega (arith, law.few, accepts.few));
+        });
+        body = rw (parts.is_open, accepts.means) refl;
+        leaves =
+            ap (λ (table : List DocumentItem). record server { table = table })
+            (change_puts units server.table p.uri p.version batch entry parts.is_open
+            ∙ ap (λ m. put server.table p.uri p.version (meant_text entry.text m)) accepts.means);
+      }
 
-  abbrev batch : List ContentChange
-  batch = map content_change_from_data p.changes
-
-  abbrev entry : DocumentItem
-  entry = (open_one server.config.limits (units_in encoding) server.table p.uri p.version batch may).0
-
-  is_open : entry_at server.table p.uri ≡ Some entry
-  is_open = (open_one server.config.limits (units_in encoding) server.table p.uri p.version batch may).1
-
-  text_held : IsWithin server.config.limits entry
-  text_held = within_at server.config.limits server.table p.uri entry received.table is_open
-
-  laws : (some : List ContentChange) (items : List Item) → meaning (units_in encoding) (chars entry.text) some
-      ≡ Ok items → IsCanonical (units_in encoding) (chars entry.text) some items
-  laws some items means = canonical_law (units_in encoding) (units_some encoding) (chars entry.text) some items means
-
-  may_here : entry_refusal server.config.limits (units_in encoding) entry p.version batch ≡ None
-  may_here = rw is_open at may
-
-  accepts : Accepts server.config.limits (units_in encoding) entry p.version batch
-  accepts = accepted_parts server.config.limits (units_in encoding) entry p.version batch may_here
-
-  abbrev settled : List ContentChange
-  settled = canonical_batch (units_in encoding) server.table p.uri batch
-
-  body_fits : body_refusal server.config.limits (canonical_body (units_in encoding) server.table p.uri p.version batch)
-      ≡ None
-  body_fits = body_within server.config.limits (canonical_body (units_in encoding) server.table p.uri p.version batch)
-      fits
-
-  does_same : IsCanonicalOf server.config.limits (units_in encoding) server.table p.uri p.version batch settled
-  does_same = is_settled server.config.limits encoding server.table p.uri p.version entry is_open laws batch may_here
-      ranges.greatest_text body_fits
-
-  reads_as : IsReadAgain p.uri p.version settled
-  reads_as =
-      is_read server.config.limits encoding server.table p.uri p.version entry is_open laws proper.uri proper.version
-      text_held.utf8 (omega (arith, text_held.short, ranges.greatest_text))
-      body_of-unique batch proper.texts may_here reading-body_of is_read_back
-
-  settled_is : settled ≡ canonical (units_in encoding) (chars entry.text) accepts.items
-  settled_is = rw (is_open, accepts.means) refl
-
-  settled_texts : AreTexts settled
-  settled_texts = grind (arith, common_steps, settled_is, canonical_texts, laws, scalars-chars, text_held.utf8)
-
-  abbrev again_change : ChangeData
-  again_change = record { uri = p.uri; version = p.version; changes = map written_content_change settled }
-
-  back : map content_change_from_data again_change.changes ≡ settled
-  back = edits_back settled settled_texts
-
-  settled_may : change_refusal server.config.limits (units_in encoding) server.table p.uri p.version settled ≡ None
-  settled_may =
-      first_none (change_refusal server.config.limits (units_in encoding) server.table p.uri p.version settled)
-      (body_refusal server.config.limits (canonical_body (units_in encoding) server.table p.uri p.version settled))
-      does_same.accepted
-
-  settled_fits : length (canonical_body (units_in encoding) server.table p.uri p.version settled)
-      ≤ server.config.limits.max_body
-  settled_fits =
-      within server.config.limits (change_refusal server.config.limits (units_in encoding) server.table p.uri p.version
-      settled) (canonical_body (units_in encoding) server.table p.uri p.version settled) settled_may does_same.accepted
-
-  one_body : canonical_body (units_in encoding) server.table p.uri p.version settled
-      ≡ canonical_body (units_in encoding) server.table p.uri p.version batch
-  one_body =
-      injective_law (canonical_body (units_in encoding) server.table p.uri p.version settled)
-      (canonical_body (units_in encoding) server.table p.uri p.version batch)
-      (omega (arith, settled_fits, ranges.greatest_body)) (omega (arith, fits, ranges.greatest_body))
-      does_same.same_frame
-
-  pub settled_change : IsSettledChange server p
-  settled_change = record {
-    again = again_change;
-    asks = asks_back p.uri p.version settled reads_as;
-    same_step =
-        same_change server p again_change server.phase may
-        (ap (λ b. change_refusal server.config.limits (units_in encoding) server.table p.uri p.version b) back
-        ∙ settled_may)
-        (ap (λ b. after_change (units_in encoding) server.table p.uri p.version b) back ∙ does_same.leaves);
-    same_body = ap (λ b. canonical_body (units_in encoding) server.table p.uri p.version b) back ∙ one_body;
-  }
+  pub settled_change : length (canonical_change_body server p) ≤ server.config.limits.max_body
+      → IsSettledChange server p
+  settled_change fits =
+      let again = canonical_change server p.uri p.version settled.entry settled.items in
+      record {
+        again = again;
+        asks = ap (λ b. incoming_of (reading b)) settled.body ∙ settled.message.asks;
+        same_step = same_change server p again server.phase may settled.message.may
+            (ap (λ (s : ServerData). s.table) (settled.message.leaves ∙ sym settled.leaves));
+        same_body = settled.message.own ∙ sym settled.body;
+      }

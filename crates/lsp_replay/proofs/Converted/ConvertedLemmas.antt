@@ -1,5 +1,5 @@
 -- What `convert` writes of a log: a log of which the same is told.
-use Rattle.lsp_replay.proofs.Prelude.{◌≡◌, ℕ, Bool, true, false, Option, Some, None, refl, ap, ◌∙◌, ⊤, if◌then◌else◌, option_and_then, option_map, Data, Decides-int_eq, bytes_eq-Decides, IdData, Reading, whole, text, reading, OutgoingData, initialize_result, body_of, initialize_value, IsProperId, reading-body_of, is_read_back, Encoding, Phase, New, Running, Down, Ended, AnswerData, Sent, reply, changed, dropped, ignored, already_ended, refused, exits, as_sent, IncomingData, not_json, not_a_message, response, initialize, shutdown, other_request, exit, did_open, did_change, did_close, other_notification, ServerData, step_in, step_on, begin_step, with_encoding, Version, One, Two, one_more, Session, Verdict, answered, recorded, bad, Judged, judged, judge_client, handled, judge_server, encoding_for, encoding_in, same_id, is_ended, is_early, is_new, expected_of, count_if, is_refused}
+use Rattle.lsp_replay.proofs.Prelude.{◌≡◌, ℕ, Bool, true, false, Option, Some, None, refl, ap, ◌∙◌, ⊤, if◌then◌else◌, option_and_then, option_map, Data, Decides-int_eq, bytes_eq-Decides, IdData, Reading, whole, text, reading, OutgoingData, initialize_result, body_of, initialize_value, IsProperId, reading-body_of, is_read_back, Encoding, Phase, New, Running, Down, AnswerData, Sent, reply, as_sent, IncomingData, initialize, ServerData, step_in, step_on, begin_step, with_encoding, Version, One, Two, one_more, Session, Verdict, answered, recorded, bad, Judged, judged, judge_client, handled, judge_server, encoding_for, encoding_in, same_id, is_ended, is_early, is_new, expected_of, count_if, is_refused}
 use Rattle.lsp_message.specs.declared.agreement.Announced.{Announced}
 use Rattle.lsp_message.specs.declared.agreement.Offers.{Offers}
 use Rattle.lsp_message.specs.declared.agreement.SyncKind.{SyncKind}
@@ -119,34 +119,27 @@ module _ (s : Session) (n : ℕ) (m : IncomingData) (none : s.expected ≡ None)
   tests = good_tests (is_ended s.server.phase) (is_early s m) s
       (handled s One m (step_on s.server m).state (as_sent (step_on s.server m).answer)) good
 
-  pub judged_one : judge_client s One m ≡ judged (answered (as_sent (step_on s.server m).answer)) (record s {
+  abbrev answer : AnswerData Sent
+  answer = as_sent (step_on s.server m).answer
+
+  -- the session after it, but for what is waited for and how many records there were
+  abbrev stepped : Option IdData → ℕ → Session
+  stepped expected records = record s {
     server = (step_on s.server m).state;
-    expected = None;
+    expected = expected;
+    records = records;
     messages = one_more s.messages;
-    refusals = count_if (is_refused (as_sent (step_on s.server m).answer)) s.refusals;
-  })
+    refusals = count_if (is_refused answer) s.refusals;
+  }
+
+  pub judged_one : judge_client s One m ≡ judged (answered answer) (stepped None s.records)
   judged_one =
       handled_on s One m tests.0 tests.1
-      ∙ ap (λ (e : Option IdData). judged (answered (as_sent (step_on s.server m).answer)) (record s {
-        server = (step_on s.server m).state;
-        expected = e;
-        messages = one_more s.messages;
-        refusals = count_if (is_refused (as_sent (step_on s.server m).answer)) s.refusals;
-      })) (none_expected (is_new s.server.phase) m s.expected none)
+      ∙ ap (λ (e : Option IdData). judged (answered answer) (stepped e s.records))
+      (none_expected (is_new s.server.phase) m s.expected none)
 
-  pub judged_two : judge_client (twin s n) Two m ≡ judged (answered (as_sent (step_on s.server m).answer)) (record s {
-    server = (step_on s.server m).state;
-    expected = waits s.server.phase m;
-    records = n;
-    messages = one_more s.messages;
-    refusals = count_if (is_refused (as_sent (step_on s.server m).answer)) s.refusals;
-  })
+  pub judged_two : judge_client (twin s n) Two m ≡ judged (answered answer) (stepped (waits s.server.phase m) n)
   judged_two =
       handled_on (twin s n) Two m tests.0 tests.1
-      ∙ ap (λ (e : Option IdData). judged (answered (as_sent (step_on s.server m).answer)) (record s {
-        server = (step_on s.server m).state;
-        expected = (if is_new s.server.phase then expected_of Two m e else e);
-        records = n;
-        messages = one_more s.messages;
-        refusals = count_if (is_refused (as_sent (step_on s.server m).answer)) s.refusals;
-      })) none
+      ∙ ap (λ (e : Option IdData). judged (answered answer)
+      (stepped (if is_new s.server.phase then expected_of Two m e else e) n)) none

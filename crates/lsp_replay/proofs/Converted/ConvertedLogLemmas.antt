@@ -1,17 +1,8 @@
 -- What `convert` writes of a log: a log of which the same is told.
-use Rattle.lsp_replay.proofs.Prelude.{◌≡◌, ℕ, ◌+◌, ◌<◌, ◌≤◌, Bool, true, false, List, [], ◌∷◌, ◌++◌, length, Option, Some, None, refl, sym, ap, ◌∙◌, subst, arith, append_assoc, append-nil, codes, ◌==◌, if◌then◌else◌, Err, ne_eqb, place_after, frame, LimitsData, AreInRange, written_is_frame, IdData, reading, OutgoingData, body_of, AnswerData, Sent, reply, changed, dropped, ignored, already_ended, refused, exits, as_sent, sent_reply, incoming_of, ServerData, step_on, BadLog, Version, One, Two, Client, Server, one_more, Record, IsRecord, AreRecords, together, record_bytes, line_of, version_line, is_line_due, RunOutput, written_first, Session, Verdict, answered, recorded, bad, Judged, judged, judge, judge_from, judge_client, counted, opened, RecordOutput, writes, unless_bad, replaying, converting, line_if, line_before, reply_record, log_config, converted, run_output_in, all_of, IsReplyWithin, AreRepliesWithin, ConvertedLaw}
+use Rattle.lsp_replay.proofs.Prelude.{◌≡◌, ℕ, ◌+◌, ◌<◌, ◌≤◌, Bool, true, false, List, [], ◌∷◌, ◌++◌, length, Option, Some, None, refl, sym, ap, ◌∙◌, subst, arith, append_assoc, append-nil, codes, ◌==◌, if◌then◌else◌, Err, ne_eqb, place_after, frame, LimitsData, AreInRange, written_is_frame, IdData, reading, OutgoingData, body_of, AnswerData, Sent, reply, as_sent, sent_reply, incoming_of, ServerData, step_on, BadLog, Version, One, Two, Client, Server, one_more, Record, IsRecord, AreRecords, together, record_bytes, line_of, version_line, is_line_due, RunOutput, written_first, Session, Verdict, answered, recorded, bad, Judged, judged, judge, judge_from, judge_client, counted, opened, RecordOutput, writes, unless_bad, replaying, converting, line_if, line_before, reply_record, log_config, converted, run_output_in, all_of, IsReplyWithin, AreRepliesWithin, ConvertedLaw}
 use Rattle.lsp_replay.proofs.Records.AskedLemmas.{asked_proper}
-use Rattle.lsp_replay.proofs.Canonical.NormalisedLemmas.{command_output, went_on, Passes, passes}
+use Rattle.lsp_replay.proofs.Canonical.NormalisedLemmas.{command_output, first_line, no_line, went_on, Passes, passes}
 use Rattle.lsp_replay.proofs.Converted.ConvertedLemmas.{twin, IsGood, Follows, next_of, rest_after, waits, follows_step, judged_one, judged_two}
-
--- what stands in front of the first record
-abbrev front_if : Bool → List Record → List ℕ
-front_if due [] = []
-front_if due (r ∷ rs) = line_if due
-
-front_none : (rs : List Record) → front_if false rs ≡ []
-front_none [] = refl
-front_none (r ∷ rs) = refl
 
 -- what the end gives
 abbrev last_if : Bool → List Record → List ℕ
@@ -68,7 +59,7 @@ module _ (limits : LimitsData) (ranges : AreInRange limits) where
   record AreConverted (at : ℕ) (due : Bool) (s t : Session) (rs : List Record) : Type 0 where
     qs : List Record
     are : AreRecords limits.max_body Two at due qs
-    out : (run_output_in converting s rs).out ≡ front_if due rs ++ together Two qs []
+    out : (run_output_in converting s rs).out ≡ first_line due rs ++ together Two qs []
     same : run_output_in replaying t qs ≡ run_output_in replaying s rs
 
   module _ (at before : ℕ) (due : Bool) (s t : Session) (n : ℕ) (r : Record) (rs : List Record)
@@ -100,7 +91,7 @@ module _ (limits : LimitsData) (ranges : AreInRange limits) where
           out =
               ap (λ (c : RunOutput). c.out) wrote
               ∙ ap (λ z. (line_before s ++ codes ">" ++ r.raw ++ reply_record (answered answer)) ++ z)
-              (m.out ∙ ap (λ z. z ++ together Two m.qs []) (front_none rs))
+              (m.out ∙ ap (λ z. z ++ together Two m.qs []) (no_line rs))
               ∙ ap (λ z. (line_before s ++ codes ">" ++ r.raw ++ z) ++ together Two m.qs []) no_reply
               ∙ ap (λ z. (z ++ codes ">" ++ r.raw ++ []) ++ together Two m.qs []) (line_is due s.records counts)
               ∙ five (line_if due) (codes ">") r.raw [] (together Two m.qs []);
@@ -153,7 +144,7 @@ module _ (limits : LimitsData) (ranges : AreInRange limits) where
           out =
               ap (λ (c : RunOutput). c.out) wrote
               ∙ ap (λ z. (line_before s ++ codes ">" ++ r.raw ++ (codes "<" ++ frame (body_of o))) ++ z)
-              (m.out ∙ ap (λ z. z ++ together Two m.qs []) (front_none rs))
+              (m.out ∙ ap (λ z. z ++ together Two m.qs []) (no_line rs))
               ∙ ap (λ z. (z ++ codes ">" ++ r.raw ++ (codes "<" ++ frame (body_of o))) ++ together Two m.qs [])
               (line_is due s.records counts)
               ∙ five (line_if due) (codes ">") r.raw (codes "<" ++ frame (body_of o)) (together Two m.qs []);
@@ -177,12 +168,7 @@ module _ (limits : LimitsData) (ranges : AreInRange limits) where
         (twin (next_of s server (as_sent answer)) m) rs) → AreConverted at due s t (r ∷ rs)
     extend server (reply o) e short one two follows more =
         replied server o e (short (body_of o) refl) one two follows more
-    extend server changed e short one two follows more = plain server changed e refl one two follows more
-    extend server dropped e short one two follows more = plain server dropped e refl one two follows more
-    extend server ignored e short one two follows more = plain server ignored e refl one two follows more
-    extend server already_ended e short one two follows more = plain server already_ended e refl one two follows more
-    extend server (refused why) e short one two follows more = plain server (refused why) e refl one two follows more
-    extend server (exits status) e short one two follows more = plain server (exits status) e refl one two follows more
+    extend server answer e short one two follows more = plain server (as_sent answer) e refl one two follows more
 
   converted_log : (at before : ℕ) (due : Bool) (s : Session) (n : ℕ) (rs : List Record) → s.expected ≡ None
       → Counts due s.records → AreRecords limits.max_body One before false rs
@@ -241,7 +227,7 @@ told_log due s (r ∷ rs) counts goes =
       last = λ b. ap (λ (c : RunOutput). c.last b) first ∙ more.last b ∙ last_none rs;
     }
 
-all_two : (rs : List Record) (out last bytes : List ℕ) → out ≡ front_if true rs ++ bytes → last ≡ last_if true rs
+all_two : (rs : List Record) (out last bytes : List ℕ) → out ≡ first_line true rs ++ bytes → last ≡ last_if true rs
     → (rs ≡ [] → bytes ≡ []) → out ++ last ≡ version_line ++ bytes
 all_two [] out last bytes e f none = ap (λ z. z ++ last) (e ∙ none refl) ∙ f ∙ sym (append-nil version_line)
     ∙ ap (λ z. version_line ++ z) (sym (none refl))

@@ -1,5 +1,5 @@
 -- The numbers of a session fit their types: counts 64 bits, versions 32 bits. A canonical message is JSON.
-use Rattle.lsp_replay.proofs.Prelude.{◌≡◌, ℕ, ℤ, zero, suc, ◌^◌, ◌<◌, ◌≤◌, Bool, true, false, List, [], ◌∷◌, ◌++◌, length, map, Option, Some, None, refl, sym, ap, ◌∙◌, subst, arith, take, bytes_eq, FitsSigned, IsUtf8, ⊤, codes, if◌then◌else◌, option_and_then, option_map, option_map_or, is_utf8, cases_Bool, ltb-false, IsUtf8-from_is_utf8, Json, IsUtf8-are_ascii, are_ascii, Data, null, boolean, number, string, array, object, Members, get, get_member, read, LimitsData, AreInRange, units_in, ContentChange, IdData, MessageData, OutcomeData, Reading, id_in, json_of, message_of, reading, ChangeData, CloseData, close_by, close_of, DocumentItem, change_by, change_of, document_and_changes, document_in, open_by, open_of, version_in, content_change_in, each_of, text_in, value_of, IsProperId, AllWithin, Refusal, after_change, after_close, after_open, change_refusal, close_refusal, entry_at, open_refusal, unless_refused, AnswerData, changed, refused, Phase, New, Running, Down, Ended, IncomingData, not_json, not_a_message, response, initialize, shutdown, other_request, exit, did_open, did_change, did_close, other_notification, incoming_by, incoming_of, ServerData, content_change_from_data, result_step, session_encoding, step_in, one_more, Sender, Client, Server, Version, Record, canonical_change_body, canonical_if, canonical_of_record, change_in, Known, known_after, last_in, uri_of, Mention, is_mention, last_for, last_record, mentioned, most_mentions, without, Session, Verdict, answered, recorded, bad, encoding_for, has_changed, is_change, judge, judge_from, id_of, is_json, method_of, within, common_steps}
+use Rattle.lsp_replay.proofs.Prelude.{◌≡◌, ℕ, ℤ, suc, ◌^◌, ◌<◌, ◌≤◌, Bool, true, false, List, [], ◌∷◌, ◌++◌, length, map, Option, Some, None, refl, sym, ap, ◌∙◌, subst, arith, take, bytes_eq, FitsSigned, IsUtf8, ⊤, codes, if◌then◌else◌, option_and_then, option_map, option_map_or, is_utf8, cases_Bool, ltb-false, IsUtf8-from_is_utf8, Json, IsUtf8-are_ascii, are_ascii, Data, null, number, string, Members, get, get_member, read, LimitsData, AreInRange, units_in, ContentChange, IdData, MessageData, OutcomeData, Reading, id_in, json_of, message_of, reading, ChangeData, CloseData, close_by, close_of, DocumentItem, change_of, document_in, open_by, open_of, version_in, text_in, value_of, IsProperId, AllWithin, Refusal, after_change, after_close, after_open, change_refusal, close_refusal, entry_at, open_refusal, unless_refused, changed, refused, Phase, New, Running, Down, IncomingData, not_json, not_a_message, response, initialize, shutdown, other_request, exit, did_open, did_change, did_close, other_notification, incoming_of, ServerData, content_change_from_data, result_step, session_encoding, step_in, one_more, Sender, Client, Server, Version, Record, canonical_change_body, canonical_if, canonical_of_record, change_in, Known, known_after, last_in, uri_of, Mention, is_mention, last_for, last_record, mentioned, most_mentions, without, Session, Verdict, answered, encoding_for, has_changed, is_change, judge, judge_from, id_of, is_json, method_of, within, common_steps}
 use Rattle.std.specs.Int.{w32}
 use Rattle.lsp_message.specs.Agreement.{offers_of}
 use Rattle.lsp_message.proofs.BodyLemmas.{body_is}
@@ -11,6 +11,7 @@ use Rattle.lsp_replay.proofs.Records.AskedLemmas.{IsProperAsked, changed_held, d
 use Rattle.lsp_replay.proofs.Records.JudgeLemmas.{asks_change, judged_again, judged_held, of_incoming, of_server}
 use Rattle.lsp_replay.proofs.Records.ReadLemmas.{IsHeld, MembersAreHeld, OnSome, on_map, on_then}
 use Rattle.lsp_replay.proofs.Records.StateLemmas.{IsHeldState}
+use Rattle.lsp_replay.proofs.Reports.TraceLemmas.{one_more_record}
 use Rattle.lsp_message.specs.Message as msg
 
 any : {A : Type 0} (o : Option A) → OnSome (λ (a : A). ⊤) o
@@ -32,30 +33,155 @@ IsOpenVersion p = VersionFits p.version
 abbrev IsChangeVersion : ChangeData → Type 0
 IsChangeVersion p = VersionFits p.version
 
-open_version : (ms : Members) → OnSome IsOpenVersion (open_by ms)
-open_version ms = grind (arith, common_steps, on_then, version_fits)
-
-opened_version : (params : Option Data) → OnSome IsOpenVersion (open_of params)
-opened_version params =
-    on_then (λ ms. ⊤) IsOpenVersion open_by (λ ms h. open_version ms) (document_in params) (any (document_in params))
-
 abbrev HasVersion : IncomingData → Type 0
 HasVersion (did_open params) = OnSome IsOpenVersion params
 HasVersion (did_change params) = OnSome IsChangeVersion params
 HasVersion _ = ⊤
 
-either_version : (b : Bool) (x y : IncomingData) → HasVersion x → HasVersion y → HasVersion (if b then x else y)
-either_version true x y p q = p
-either_version false x y p q = q
+-- ---- what a body asks
 
-message_version : (m : MessageData) → HasVersion (incoming_by m)
-message_version (msg.request id method params) = grind (arith, common_steps, either_version, bytes_eq)
-message_version (msg.notification method params) = grind (arith, common_steps, either_version, bytes_eq, opened_version)
-message_version (msg.response id outcome) = tt
+-- its numbers fit, and its texts are UTF-8
+record IsAsked (m : IncomingData) : Type 0 where
+  id : OnSome IsProperId (id_of m)
+  method : OnSome IsUtf8 (method_of m)
+  uri : OnSome IsUtf8 (uri_of Client m)
+  version : HasVersion m
 
-reading_version : (r : Reading) → HasVersion (incoming_of r)
-reading_version (msg.message m) = message_version m
-reading_version _ = tt
+abbrev IdRead : Reading → Type 0
+IdRead msg.not_json = ⊤
+IdRead (msg.not_a_message id) = OnSome IsProperId id
+IdRead (msg.message (msg.request id method params)) = IsProperId id × IsUtf8 method
+IdRead (msg.message (msg.notification method params)) = IsUtf8 method × OnSome IsHeld params
+IdRead (msg.message (msg.response id outcome)) = OnSome IsProperId id
+
+either_asked : (b : Bool) (x y : IncomingData) → IsAsked x → IsAsked y → IsAsked (if b then x else y)
+either_asked true x y p q = p
+either_asked false x y p q = q
+
+record IsOpened (p : DocumentItem) : Type 0 where
+  uri : IsUtf8 p.uri
+  version : VersionFits p.version
+
+opened : (ms : Members) → MembersAreHeld ms → OnSome IsOpened (open_by ms)
+opened ms held =
+    on_then IsUtf8 IsOpened _
+    (λ uri u. on_then (λ language. ⊤) IsOpened _
+    (λ language i. on_then (FitsSigned w32) IsOpened _
+    (λ version fits. on_then (λ t. ⊤) IsOpened _ (λ t k. record { uri = u; version = fits })
+    (text_in (get_member (codes "text") ms)) (any (text_in (get_member (codes "text") ms))))
+    (version_in (get_member (codes "version") ms)) (version_fits (get_member (codes "version") ms)))
+    (text_in (get_member (codes "languageId") ms)) (any (text_in (get_member (codes "languageId") ms))))
+    (text_in (get_member (codes "uri") ms))
+    (held_text (get_member (codes "uri") ms) (held_member (codes "uri") ms held))
+
+abbrev HasCloseUri : CloseData → Type 0
+HasCloseUri p = IsUtf8 p.uri
+
+close_uri : (ms : Members) → MembersAreHeld ms → OnSome HasCloseUri (close_by ms)
+close_uri ms held = grind (arith, common_steps, on_map, held_text, held_member)
+
+plain_method : (method : List ℕ) → are_ascii method ≡ true → OnSome IsUtf8 (Some method)
+plain_method method h = IsUtf8-are_ascii method h
+
+asked_open : (params : Option DocumentItem) → OnSome IsOpened params → IsAsked (did_open params)
+asked_open None is =
+    record { id = tt; method = plain_method (codes "textDocument/didOpen") refl; uri = tt; version = tt }
+asked_open (Some p) is = record {
+  id = tt;
+  method = plain_method (codes "textDocument/didOpen") refl;
+  uri = is.uri;
+  version = is.version;
+}
+
+asked_change : (params : Option ChangeData) → OnSome IsProperAsked params → IsAsked (did_change params)
+asked_change None is =
+    record { id = tt; method = plain_method (codes "textDocument/didChange") refl; uri = tt; version = tt }
+asked_change (Some p) is = record {
+  id = tt;
+  method = plain_method (codes "textDocument/didChange") refl;
+  uri = is.uri;
+  version = is.version;
+}
+
+asked_close : (params : Option CloseData) → OnSome HasCloseUri params → IsAsked (did_close params)
+asked_close None is =
+    record { id = tt; method = plain_method (codes "textDocument/didClose") refl; uri = tt; version = tt }
+asked_close (Some p) is =
+    record { id = tt; method = plain_method (codes "textDocument/didClose") refl; uri = is; version = tt }
+
+asked_by : (r : Reading) → IdRead r → IsAsked (incoming_of r)
+asked_by msg.not_json is = record { id = tt; method = tt; uri = tt; version = tt }
+asked_by (msg.not_a_message id) is = record { id = is; method = tt; uri = tt; version = tt }
+asked_by (msg.message (msg.request id method params)) is =
+    either_asked (bytes_eq method (codes "initialize")) (initialize id (offers_of params)) _
+    (record { id = is.0; method = plain_method (codes "initialize") refl; uri = tt; version = tt })
+    (either_asked (bytes_eq method (codes "shutdown")) (shutdown id) (other_request id method)
+    (record { id = is.0; method = plain_method (codes "shutdown") refl; uri = tt; version = tt })
+    (record { id = is.0; method = is.1; uri = tt; version = tt }))
+asked_by (msg.message (msg.notification method params)) is =
+    either_asked (bytes_eq method (codes "exit")) exit _
+    (record { id = tt; method = plain_method (codes "exit") refl; uri = tt; version = tt })
+    (either_asked (bytes_eq method (codes "textDocument/didOpen")) (did_open (open_of params)) _
+    (asked_open (open_of params) (on_then MembersAreHeld IsOpened open_by opened (document_in params)
+    (document_held params is.1)))
+    (either_asked (bytes_eq method (codes "textDocument/didChange")) (did_change (change_of params)) _
+    (asked_change (change_of params) (changed_held params is.1))
+    (either_asked (bytes_eq method (codes "textDocument/didClose")) (did_close (close_of params))
+    (other_notification method)
+    (asked_close (close_of params) (on_then MembersAreHeld HasCloseUri close_by close_uri (document_in params)
+    (document_held params is.1)))
+    (record { id = tt; method = is.0; uri = tt; version = tt }))))
+asked_by (msg.message (msg.response id outcome)) is = record { id = is; method = tt; uri = tt; version = tt }
+
+abbrev MessageId : MessageData → Type 0
+MessageId m = IdRead (msg.message m)
+
+response_id : (id : Option IdData) (outcome : Option OutcomeData) → OnSome IsProperId id
+    → OnSome MessageId (option_map (msg.response id) outcome)
+response_id id None is = tt
+response_id id (Some outcome) is = is
+
+named_id : (id : Data) (outcome : Option OutcomeData) → IsHeld id
+    → OnSome MessageId (option_and_then (λ i. option_map (msg.response (Some i)) outcome) (id_in id))
+named_id id outcome is =
+    on_then IsProperId MessageId _ (λ i h. response_id (Some i) outcome h) (id_in id) (id_held id is)
+
+row_id : (method id : Option Data) (value : Data) → OnSome IsHeld method → OnSome IsHeld id
+    → OnSome IsHeld (get (codes "params") value) → OnSome MessageId (msg.message_by method id value)
+row_id (Some (string s)) None value text is params = (text, params)
+row_id (Some (string s)) (Some id) value text is params =
+    on_then IsProperId MessageId _ (λ i p. (p, text)) (id_in id) (id_held id is)
+row_id None (Some null) value text is params = response_id None (msg.outcome_in value) tt
+row_id None (Some (number n)) value text is params = named_id (number n) (msg.outcome_in value) is
+row_id None (Some (string s)) value text is params = named_id (string s) (msg.outcome_in value) is
+row_id _ _ value text is params = tt
+
+version_id : (two : Bool) (found : Option MessageData) → OnSome MessageId found
+    → OnSome MessageId (if two then found else None)
+version_id true found is = is
+version_id false found is = tt
+
+read_or : {A : Type 0} (P : A → Type 0) (f : A → Reading) (o : Option A) (d : Reading)
+    → ((a : A) → P a → IdRead (f a)) → OnSome P o → IdRead d → IdRead (option_map_or f o d)
+read_or P f None d all is rest = rest
+read_or P f (Some a) d all is rest = all a is
+
+value_id : (d : Data) → IsHeld d → IdRead (message_of d)
+value_id d held = grind (arith, common_steps, read_or, version_id, row_id, held_get, on_then, id_held)
+
+asked : (body : List ℕ) → IsAsked (incoming_of (reading body))
+asked body =
+    asked_by (reading body) (read_or IsHeld message_of (json_of body) msg.not_json value_id (value_held body) tt)
+
+pub id_fits : (body : List ℕ) → OnSome IsProperId (id_of (incoming_of (reading body)))
+id_fits body = let is = asked body in is.id
+
+pub method_utf8 : (body : List ℕ) → OnSome IsUtf8 (method_of (incoming_of (reading body)))
+method_utf8 body = let is = asked body in is.method
+
+pub uri_utf8 : (side : Sender) (body : List ℕ) → OnSome IsUtf8 (uri_of side (incoming_of (reading body)))
+uri_utf8 Client body = let is = asked body in is.uri
+uri_utf8 Server body = tt
 
 -- ---- the versions of a table
 
@@ -164,25 +290,15 @@ pub record IsFit (limits : LimitsData) (known : Known) (s : Session) : Type 0 wh
   pub made : AreNumbered known.made
   pub mentions : AreNumbered known.mentions
 
-client_versions : (s : Session) (version : Version) (body : List ℕ) → AreVersions s.server.table
-    → AreVersions (judge_from s version Client body).session.server.table
-client_versions s version body kept =
-    of_incoming (λ j. AreVersions j.session.server.table) s version (incoming_of (reading body)) kept
-    (step_versions s.server.phase s.server (incoming_of (reading body)) (reading_version (reading body)) kept)
-
 from_versions : (s : Session) (version : Version) (side : Sender) (body : List ℕ) → AreVersions s.server.table
     → AreVersions (judge_from s version side body).session.server.table
-from_versions s version Client body kept = client_versions s version body kept
+from_versions s version Client body kept =
+    let is = asked body in
+    of_incoming (λ j. AreVersions j.session.server.table) s version (incoming_of (reading body)) kept
+    (step_versions s.server.phase s.server (incoming_of (reading body)) is.version kept)
 from_versions s version Server body kept =
     of_server (λ j. AreVersions j.session.server.table) s kept kept (λ encoding. kept)
     (encoding_for s.expected (reading body))
-
-from_records : (s : Session) (version : Version) (side : Sender) (body : List ℕ) → IsCount s.records
-    → IsCount (judge_from s version side body).session.records
-from_records s version Client body is =
-    of_incoming (λ j. IsCount j.session.records) s version (incoming_of (reading body)) is is
-from_records s version Server body is =
-    of_server (λ j. IsCount j.session.records) s is is (λ encoding. is) (encoding_for s.expected (reading body))
 
 one_more_fits : (n : ℕ) → IsCount n → IsCount (one_more n)
 one_more_fits n is = omega arith
@@ -191,8 +307,7 @@ pub judged_fits : (limits : LimitsData) (known : Known) (s : Session) (r : Recor
     → IsFit limits (known_after known s r.head r.body (judge s r)) (judge s r).session
 judged_fits limits known s r fit =
     let records : IsCount (judge s r).session.records =
-    one_more_fits (judge_from s r.head.version r.head.side r.body).session.records
-    (from_records s r.head.version r.head.side r.body fit.records) in
+    subst IsCount (sym (one_more_record s r)) (one_more_fits s.records fit.records) in
     record {
       held = judged_held limits s r fit.held;
       versions = from_versions s r.head.version r.head.side r.body fit.versions;
@@ -209,138 +324,6 @@ pub document_fits : (table : List DocumentItem) (uri : Option (List ℕ)) → Ar
     → OnSome IsOpenVersion (option_and_then (entry_at table) uri)
 document_fits table None kept = tt
 document_fits table (Some uri) kept = versions_at table uri kept
-
--- ---- ids and texts
-
--- an id fits, and the texts are UTF-8
-record IsAsked (m : IncomingData) : Type 0 where
-  id : OnSome IsProperId (id_of m)
-  method : OnSome IsUtf8 (method_of m)
-  uri : OnSome IsUtf8 (uri_of Client m)
-
-abbrev IdRead : Reading → Type 0
-IdRead msg.not_json = ⊤
-IdRead (msg.not_a_message id) = OnSome IsProperId id
-IdRead (msg.message (msg.request id method params)) = IsProperId id × IsUtf8 method
-IdRead (msg.message (msg.notification method params)) = IsUtf8 method × OnSome IsHeld params
-IdRead (msg.message (msg.response id outcome)) = OnSome IsProperId id
-
-either_asked : (b : Bool) (x y : IncomingData) → IsAsked x → IsAsked y → IsAsked (if b then x else y)
-either_asked true x y p q = p
-either_asked false x y p q = q
-
-abbrev HasUri : DocumentItem → Type 0
-HasUri p = IsUtf8 p.uri
-
-open_uri : (ms : Members) → MembersAreHeld ms → OnSome HasUri (open_by ms)
-open_uri ms held =
-    on_then IsUtf8 HasUri _
-    (λ uri u. on_then (λ language. ⊤) HasUri _
-    (λ language i. on_then (λ version. ⊤) HasUri _
-    (λ version j. on_then (λ t. ⊤) HasUri _ (λ t k. u) (text_in (get_member (codes "text") ms))
-    (any (text_in (get_member (codes "text") ms))))
-    (version_in (get_member (codes "version") ms)) (any (version_in (get_member (codes "version") ms))))
-    (text_in (get_member (codes "languageId") ms)) (any (text_in (get_member (codes "languageId") ms))))
-    (text_in (get_member (codes "uri") ms))
-    (held_text (get_member (codes "uri") ms) (held_member (codes "uri") ms held))
-
-abbrev HasCloseUri : CloseData → Type 0
-HasCloseUri p = IsUtf8 p.uri
-
-close_uri : (ms : Members) → MembersAreHeld ms → OnSome HasCloseUri (close_by ms)
-close_uri ms held = grind (arith, common_steps, on_map, held_text, held_member)
-
-plain_method : (method : List ℕ) → are_ascii method ≡ true → OnSome IsUtf8 (Some method)
-plain_method method h = IsUtf8-are_ascii method h
-
-asked_open : (params : Option DocumentItem) → OnSome HasUri params → IsAsked (did_open params)
-asked_open None is = record { id = tt; method = plain_method (codes "textDocument/didOpen") refl; uri = tt }
-asked_open (Some p) is = record { id = tt; method = plain_method (codes "textDocument/didOpen") refl; uri = is }
-
-asked_change : (params : Option ChangeData) → OnSome IsProperAsked params → IsAsked (did_change params)
-asked_change None is = record { id = tt; method = plain_method (codes "textDocument/didChange") refl; uri = tt }
-asked_change (Some p) is = record { id = tt; method = plain_method (codes "textDocument/didChange") refl; uri = is.uri }
-
-asked_close : (params : Option CloseData) → OnSome HasCloseUri params → IsAsked (did_close params)
-asked_close None is = record { id = tt; method = plain_method (codes "textDocument/didClose") refl; uri = tt }
-asked_close (Some p) is = record { id = tt; method = plain_method (codes "textDocument/didClose") refl; uri = is }
-
-asked_by : (r : Reading) → IdRead r → IsAsked (incoming_of r)
-asked_by msg.not_json is = record { id = tt; method = tt; uri = tt }
-asked_by (msg.not_a_message id) is = record { id = is; method = tt; uri = tt }
-asked_by (msg.message (msg.request id method params)) is =
-    either_asked (bytes_eq method (codes "initialize")) (initialize id (offers_of params)) _
-    (record { id = is.0; method = plain_method (codes "initialize") refl; uri = tt })
-    (either_asked (bytes_eq method (codes "shutdown")) (shutdown id) (other_request id method)
-    (record { id = is.0; method = plain_method (codes "shutdown") refl; uri = tt })
-    (record { id = is.0; method = is.1; uri = tt }))
-asked_by (msg.message (msg.notification method params)) is =
-    either_asked (bytes_eq method (codes "exit")) exit _
-    (record { id = tt; method = plain_method (codes "exit") refl; uri = tt })
-    (either_asked (bytes_eq method (codes "textDocument/didOpen")) (did_open (open_of params)) _
-    (asked_open (open_of params) (on_then MembersAreHeld HasUri open_by open_uri (document_in params)
-    (document_held params is.1)))
-    (either_asked (bytes_eq method (codes "textDocument/didChange")) (did_change (change_of params)) _
-    (asked_change (change_of params) (changed_held params is.1))
-    (either_asked (bytes_eq method (codes "textDocument/didClose")) (did_close (close_of params))
-    (other_notification method)
-    (asked_close (close_of params) (on_then MembersAreHeld HasCloseUri close_by close_uri (document_in params)
-    (document_held params is.1)))
-    (record { id = tt; method = is.0; uri = tt }))))
-asked_by (msg.message (msg.response id outcome)) is = record { id = is; method = tt; uri = tt }
-
-abbrev MessageId : MessageData → Type 0
-MessageId m = IdRead (msg.message m)
-
-response_id : (id : Option IdData) (outcome : Option OutcomeData) → OnSome IsProperId id
-    → OnSome MessageId (option_map (msg.response id) outcome)
-response_id id None is = tt
-response_id id (Some outcome) is = is
-
-named_id : (id : Data) (outcome : Option OutcomeData) → IsHeld id
-    → OnSome MessageId (option_and_then (λ i. option_map (msg.response (Some i)) outcome) (id_in id))
-named_id id outcome is =
-    on_then IsProperId MessageId _ (λ i h. response_id (Some i) outcome h) (id_in id) (id_held id is)
-
-row_id : (method id : Option Data) (value : Data) → OnSome IsHeld method → OnSome IsHeld id
-    → OnSome IsHeld (get (codes "params") value) → OnSome MessageId (msg.message_by method id value)
-row_id (Some (string s)) None value text is params = (text, params)
-row_id (Some (string s)) (Some id) value text is params =
-    on_then IsProperId MessageId _ (λ i p. (p, text)) (id_in id) (id_held id is)
-row_id None (Some null) value text is params = response_id None (msg.outcome_in value) tt
-row_id None (Some (boolean b)) value text is params = named_id (boolean b) (msg.outcome_in value) is
-row_id None (Some (number n)) value text is params = named_id (number n) (msg.outcome_in value) is
-row_id None (Some (string s)) value text is params = named_id (string s) (msg.outcome_in value) is
-row_id None (Some (array ds)) value text is params = named_id (array ds) (msg.outcome_in value) is
-row_id None (Some (object ms)) value text is params = named_id (object ms) (msg.outcome_in value) is
-row_id _ _ value text is params = tt
-
-version_id : (two : Bool) (found : Option MessageData) → OnSome MessageId found
-    → OnSome MessageId (if two then found else None)
-version_id true found is = is
-version_id false found is = tt
-
-read_or : {A : Type 0} (P : A → Type 0) (f : A → Reading) (o : Option A) (d : Reading)
-    → ((a : A) → P a → IdRead (f a)) → OnSome P o → IdRead d → IdRead (option_map_or f o d)
-read_or P f None d all is rest = rest
-read_or P f (Some a) d all is rest = all a is
-
-value_id : (d : Data) → IsHeld d → IdRead (message_of d)
-value_id d held = grind (arith, common_steps, read_or, version_id, row_id, held_get, on_then, id_held)
-
-asked : (body : List ℕ) → IsAsked (incoming_of (reading body))
-asked body =
-    asked_by (reading body) (read_or IsHeld message_of (json_of body) msg.not_json value_id (value_held body) tt)
-
-pub id_fits : (body : List ℕ) → OnSome IsProperId (id_of (incoming_of (reading body)))
-id_fits body = let is = asked body in is.id
-
-pub method_utf8 : (body : List ℕ) → OnSome IsUtf8 (method_of (incoming_of (reading body)))
-method_utf8 body = let is = asked body in is.method
-
-pub uri_utf8 : (side : Sender) (body : List ℕ) → OnSome IsUtf8 (uri_of side (incoming_of (reading body)))
-uri_utf8 Client body = let is = asked body in is.uri
-uri_utf8 Server body = tt
 
 -- ---- texts
 
@@ -381,16 +364,13 @@ body_json body h = by (json_of body) refl
         let found = read_is body d both.1 in
         record { value = found.0; json = found.1; utf8 = IsUtf8-from_is_utf8 body both.0 }
 
+-- a canonical message is that of a change
 change_there : (server : ServerData) (change : Option ChangeData) (verdict : Verdict) (body : List ℕ)
-    → canonical_if server change verdict ≡ Some body → (p : ChangeData) × (change ≡ Some p)
-change_there server None verdict body e = absurd (let no : None ≡ Some body = e in cc)
-change_there server (Some p) verdict body e = (p, refl)
-
-is_change_body : (server : ServerData) (p : ChangeData) (verdict : Verdict) (body : List ℕ)
-    → canonical_if server (Some p) verdict ≡ Some body → canonical_change_body server p ≡ body
-is_change_body server p (answered changed) body e =
-    let some : Some (canonical_change_body server p) ≡ Some body = e in cc
-is_change_body server p _ body e = absurd (let no : None ≡ Some body = e in cc)
+    → canonical_if server change verdict ≡ Some body
+    → (p : ChangeData) × (change ≡ Some p) × (canonical_change_body server p ≡ body)
+change_there server (Some p) (answered changed) body e =
+    (p, refl, let some : Some (canonical_change_body server p) ≡ Some body = e in cc)
+change_there server _ _ body e = absurd (let no : None ≡ Some body = e in cc)
 
 visible_change : (uri : List ℕ) (version : ℤ) (batch : List ContentChange)
     → are_visible (change_body uri version batch) ≡ true
@@ -415,10 +395,7 @@ canonical_json limits ranges s r body held e =
     let again = judged_again limits ranges s r.head r.body body held both.0 short in
     let asked = change_there s.server (change_in (incoming_of (reading body))) (judge s r).verdict body again.1 in
     let change = asks_change (incoming_of (reading body)) asked.0 asked.1 in
-    let first = change_there s.server (change_in (incoming_of (reading r.body))) (judge s r).verdict body both.0 in
-    let is : canonical_change_body s.server first.0 ≡ body =
-    is_change_body s.server first.0 (judge s r).verdict body
-    (ap (λ c. canonical_if s.server c (judge s r).verdict) (sym first.1) ∙ both.0) in (
+    let first = change_there s.server (change_in (incoming_of (reading r.body))) (judge s r).verdict body both.0 in (
       body_json body (ap is_json change),
-      subst (λ b. are_visible b ≡ true) is (visible_change first.0.uri first.0.version _),
+      subst (λ b. are_visible b ≡ true) first.2 (visible_change first.0.uri first.0.version _),
     )

@@ -1,14 +1,14 @@
 -- The line of `trace` for a record, and that of `replay` for a document.
-use Rattle.lsp_replay.proofs.Prelude.{◌≡◌, ℕ, ℤ, ◌^◌, ◌<◌, Bool, true, false, List, [], ◌∷◌, ◌++◌, map, Option, Some, None, refl, sym, ap, ◌∙◌, subst, arith, append_assoc, decimal, FitsSigned, IsUtf8, ◌&&◌, codes, flat_map, if◌then◌else◌, option_and_then, option_map, signed_decimal, and_parts, IsUtf8-append, IsUtf8-nil, IsUtf8-are_ascii, Json, document, ItemsHaveNumbers, items_depth, Data, compact_text, items_outline, items_text, outline, LimitsData, AreInRange, IdData, whole, text, reading, DocumentItem, IsProperDocument, IsProperId, AnswerData, Sent, IncomingData, incoming_of, Record, Details, Note, Known, is_renamed, known_after, last_in, uri_of, note_words, notes_of, notes_words, reason_words, renamed_words, Session, Judged, Verdict, answered, recorded, bad, has_changed, is_refused, judge, IsJsonLine, body_value, document_value, id_value, integer, members_with, natural, notes_value, reason_value, text_value, trace_value, common_steps}
-use Rattle.std.specs.Int.{w32, w64}
+use Rattle.lsp_replay.proofs.Prelude.{◌∙◌, ◌≡◌, ℕ, ℤ, ◌^◌, ◌<◌, Bool, true, false, List, [], ◌∷◌, ◌++◌, map, Option, Some, None, refl, sym, ap, ap₂, subst, arith, append_assoc, decimal, FitsSigned, IsUtf8, ◌&&◌, codes, flat_map, if◌then◌else◌, option_and_then, option_map, signed_decimal, one_line, and_parts, IsUtf8-append, IsUtf8-are_ascii, are_ascii, IsUtf8-quoted, Json, document, ItemsHaveNumbers, items_depth, compact_text, items_outline, items_text, outline, LimitsData, AreInRange, IdData, whole, text, reading, DocumentItem, IsProperDocument, IsProperId, AnswerData, Sent, IncomingData, incoming_of, Record, Details, Note, Known, is_renamed, known_after, last_in, uri_of, note_words, notes_of, notes_words, reason_words, renamed_words, Session, Judged, Verdict, answered, has_changed, is_refused, judge, IsJsonLine, body_value, document_value, id_value, integer, natural, notes_value, reason_value, text_value, trace_value, common_steps}
+use Rattle.std.specs.Int.{w32}
 use Rattle.json.specs.Print.{escape_byte, quoted}
 use Rattle.lsp_replay.specs.Commands.{canonical_of_record, change_in, document_line, verdict_word}
-use Rattle.lsp_replay.specs.Trace.{body_json, document_after, id_json, id_of, is_json, json_string, last_members, member, method_of, notes_json, reason_json, side_word, text_json, trace_line, version_json, within}
+use Rattle.lsp_replay.specs.Trace.{body_json, document_after, id_json, id_of, is_json, json_string, member, method_of, notes_json, reason_json, side_word, text_json, trace_line, version_json, within}
 use Rattle.lsp_replay.proofs.JsonLines.FitLemmas.{IsBody, IsFit, canonical_json, document_fits, id_fits, judged_fits, last_fits, method_utf8, text_utf8, uri_utf8}
 use Rattle.lsp_replay.proofs.JsonLines.PlainLemmas.{escape_plain, utf8_plain}
 use Rattle.lsp_replay.proofs.JsonLines.ReasonPlainLemmas.{plain_note, plain_reason_with, plain_side, plain_verdict}
 use Rattle.lsp_replay.proofs.JsonLines.StringLemmas.{are_visible}
-use Rattle.lsp_replay.proofs.JsonLines.ValueLemmas.{AreRead, IsValue, IsValueIf, a_body, a_compact, a_member, a_member_if, a_natural, a_plain, a_quoted, a_string, a_text, an_integer, an_object, last_read, no_more}
+use Rattle.lsp_replay.proofs.JsonLines.ValueLemmas.{IsValue, IsValueIf, a_body, a_compact, a_member, a_member_if, a_natural, a_plain, a_quoted, a_string, a_text, an_integer, an_object, document_is, no_more}
 use Rattle.lsp_replay.proofs.Records.ReadLemmas.{OnSome}
 use Rattle.json.specs.Json as json
 use Rattle.json.specs.Value as values
@@ -18,33 +18,28 @@ use Rattle.lsp_replay.proofs.JsonLines.FitLemmas as fit
 
 -- ---- values that are there or not
 
+values_if : {A : Type 0} (P : A → Type 0) (f : A → List ℕ) (g : A → Json) → ((a : A) → P a → IsValue (f a) (g a))
+    → (o : Option A) → OnSome P o → IsValueIf (option_map f o) (option_map g o)
+values_if P f g is None p = tt
+values_if P f g is (Some a) p = is a p
+
+a_json_string : (s : List ℕ) → IsUtf8 s → IsValue (json_string s) (json.string s)
+unfolding json_string
+a_json_string s u = a_string s u
+
 strings_if : (o : Option (List ℕ)) → OnSome IsUtf8 o → IsValueIf (option_map json_string o) (option_map json.string o)
-unfolding json_string
-strings_if None is = tt
-strings_if (Some s) is = a_string s is
+strings_if = values_if IsUtf8 json_string json.string a_json_string
 
-id_if : (id : Option IdData) → OnSome IsProperId id → IsValueIf (option_map id_json id) (option_map id_value id)
-unfolding json_string
-id_if None is = tt
-id_if (Some (whole z)) is = an_integer z is
-id_if (Some (text s)) is = a_string s is
+an_id : (id : IdData) → IsProperId id → IsValue (id_json id) (id_value id)
+an_id (whole z) is = an_integer z is
+an_id (text s) is = a_json_string s is
 
-naturals_if : (o : Option ℕ) → OnSome (λ n. n < 2 ^ 64) o → IsValueIf (option_map decimal o) (option_map natural o)
-naturals_if None is = tt
-naturals_if (Some n) is = a_natural n is
-
-wider : (z : ℤ) → FitsSigned w32 z → FitsSigned w64 z
-wider z h = let small = h.sfits in record { sfits = omega arith }
-
-version_if : (entry : Option DocumentItem) → OnSome (λ (e : DocumentItem). FitsSigned w32 e.version) entry
-    → IsValueIf (version_json entry) (option_map (λ (e : DocumentItem). integer e.version) entry)
-version_if None is = tt
-version_if (Some entry) is = an_integer entry.version (wider entry.version is)
+a_version : (z : ℤ) → FitsSigned w32 z → IsValue (signed_decimal z) (integer z)
+a_version z h = let small = h.sfits in an_integer z (record { sfits = omega arith })
 
 text_if : (is_asked : Bool) (entry : Option DocumentItem) → OnSome (λ (e : DocumentItem). IsUtf8 e.text) entry
     → IsValueIf (text_json is_asked entry) (text_value is_asked entry)
-unfolding json_string
-text_if true (Some entry) is = a_string entry.text is
+text_if true (Some entry) is = a_json_string entry.text is
 text_if _ _ is = tt
 
 reason_by : (b : Bool) (limits : LimitsData) (m : IncomingData) (renamed : Bool) (answer : AnswerData Sent)
@@ -63,70 +58,67 @@ reason_if limits m renamed _ = tt
 
 -- ---- notes
 
-abbrev note_data : Note → Data
-note_data note = tree.string (note_words note)
+abbrev note_items : List Note → tree.Items
+note_items notes = view.items_of (map (λ note. tree.string (note_words note)) notes)
 
 notes_from : (notes : List Note) → flat_map (λ note. codes "\",\"" ++ note_words note) notes ++ codes "\"]"
-    ≡ 34 ∷ items_text true (view.items_of (map note_data notes))
+    ≡ 34 ∷ items_text true (note_items notes)
 notes_from [] = refl
 notes_from (note ∷ notes) = grind (arith, common_steps, append_assoc, escape_plain, plain_note, (notes_from notes))
 
 notes_text : (note : Note) (notes : List Note)
     → codes "[\"" ++ notes_words (codes "\",\"") (note ∷ notes) ++ codes "\"]"
-    ≡ compact_text (tree.array (view.items_of (map note_data (note ∷ notes))))
+    ≡ compact_text (tree.array (note_items (note ∷ notes)))
 notes_text note notes =
     ap (λ l. 91 ∷ 34 ∷ l)
     (append_assoc (note_words note) (flat_map (λ note. codes "\",\"" ++ note_words note) notes) (codes "\"]")
-    ∙ ap (λ l. note_words note ++ l) (notes_from notes)
-    ∙ ap (λ l. l ++ 34 ∷ items_text true (view.items_of (map note_data notes)))
-    (sym (escape_plain (note_words note) (plain_note note)))
-    ∙ sym (append_assoc _ (34 ∷ []) (items_text true (view.items_of (map note_data notes)))))
+    ∙ ap₂ (λ w l. w ++ l) (sym (escape_plain (note_words note) (plain_note note))) (notes_from notes)
+    ∙ sym (append_assoc _ (34 ∷ []) (items_text true (note_items notes))))
 
-notes_outline : (notes : List Note) → items_outline (view.items_of (map note_data notes))
-    ≡ values.items_of (map (λ note. json.string (note_words note)) notes)
-notes_outline [] = refl
-notes_outline (note ∷ notes) = ap (json.item (json.string (note_words note))) (notes_outline notes)
+record AreStrings (notes : List Note) : Type 0 where
+  outline : items_outline (note_items notes) ≡ values.items_of (map (λ note. json.string (note_words note)) notes)
+  numbers : ItemsHaveNumbers (items_outline (note_items notes))
+  flat : items_depth (items_outline (note_items notes)) ≡ 0
+  utf8 : IsUtf8 (items_text true (note_items notes))
 
-notes_numbers : (notes : List Note) → ItemsHaveNumbers (items_outline (view.items_of (map note_data notes)))
-notes_numbers [] = tt
-notes_numbers (note ∷ notes) = (tt, notes_numbers notes)
+note_utf8 : (c : ℕ) (note : Note) (rest : List ℕ) → are_ascii (c ∷ []) ≡ true → IsUtf8 rest
+    → IsUtf8 (c ∷ (quoted (note_words note) ++ rest))
+note_utf8 c note rest ascii u =
+    IsUtf8-append (c ∷ []) (quoted (note_words note) ++ rest) (IsUtf8-are_ascii (c ∷ []) ascii)
+    (IsUtf8-append (quoted (note_words note)) rest
+    (IsUtf8-quoted (note_words note) (utf8_plain (note_words note) (plain_note note))) u)
 
-notes_flat : (notes : List Note) → items_depth (items_outline (view.items_of (map note_data notes))) ≡ 0
-notes_flat [] = refl
-notes_flat (note ∷ notes) = omega (arith, notes_flat notes)
-
-notes_utf8 : (notes : List Note) → IsUtf8 (flat_map (λ note. codes "\",\"" ++ note_words note) notes)
-notes_utf8 [] = IsUtf8-nil
-notes_utf8 (note ∷ notes) =
-    IsUtf8-append (codes "\",\"" ++ note_words note) (flat_map (λ note. codes "\",\"" ++ note_words note) notes)
-    (IsUtf8-append (codes "\",\"") (note_words note) (IsUtf8-are_ascii (codes "\",\"") refl)
-    (utf8_plain (note_words note) (plain_note note))) (notes_utf8 notes)
-
-array_utf8 : (note : Note) (notes : List Note)
-    → IsUtf8 (codes "[\"" ++ notes_words (codes "\",\"") (note ∷ notes) ++ codes "\"]")
-array_utf8 note notes =
-    IsUtf8-append (codes "[\"" ++ notes_words (codes "\",\"") (note ∷ notes)) (codes "\"]")
-    (IsUtf8-append (codes "[\"") (notes_words (codes "\",\"") (note ∷ notes)) (IsUtf8-are_ascii (codes "[\"") refl)
-    (IsUtf8-append (note_words note) (flat_map (λ note. codes "\",\"" ++ note_words note) notes)
-    (utf8_plain (note_words note) (plain_note note)) (notes_utf8 notes)))
-    (IsUtf8-are_ascii (codes "\"]") refl)
+are_strings : (notes : List Note) → AreStrings notes
+are_strings [] = record { outline = refl; numbers = tt; flat = refl; utf8 = IsUtf8-are_ascii (93 ∷ []) refl }
+are_strings (note ∷ notes) =
+    let more = are_strings notes in
+    record {
+      outline = ap (json.item (json.string (note_words note))) more.outline;
+      numbers = (tt, more.numbers);
+      flat = omega (arith, more.flat);
+      utf8 = note_utf8 44 note (items_text true (note_items notes)) refl more.utf8;
+    }
 
 notes_if : (notes : List Note) → IsValueIf (notes_json notes) (notes_value notes)
 notes_if [] = tt
 notes_if (note ∷ notes) =
+    let all = are_strings (note ∷ notes) in
+    let more = are_strings notes in
     subst (λ j. IsValue (codes "[\"" ++ notes_words (codes "\",\"") (note ∷ notes) ++ codes "\"]") (json.array j))
-    (notes_outline (note ∷ notes))
-    (subst (λ bytes. IsValue bytes (outline (tree.array (view.items_of (map note_data (note ∷ notes))))))
-    (sym (notes_text note notes))
-    (a_compact (tree.array (view.items_of (map note_data (note ∷ notes)))) (notes_numbers (note ∷ notes))
-    (omega (arith, notes_flat (note ∷ notes))) (subst IsUtf8 (notes_text note notes) (array_utf8 note notes))))
+    all.outline
+    (subst (λ bytes. IsValue bytes (outline (tree.array (note_items (note ∷ notes))))) (sym (notes_text note notes))
+    (a_compact (tree.array (note_items (note ∷ notes))) all.numbers (omega (arith, all.flat))
+    (note_utf8 91 note (items_text true (note_items notes)) refl more.utf8)))
 
 -- ---- bodies
 
 body_if : (is_asked : Bool) (body : List ℕ) → (is_asked ≡ true → IsBody body)
     → IsValueIf (body_json is_asked body) (body_value is_asked body)
 body_if false body is = tt
-body_if true body is = grind (arith, common_steps, a_body)
+body_if true body is =
+    let found = is refl in
+    subst (λ v. IsValueIf (Some (one_line body)) v) (sym (document_is body found.value found.json))
+    (a_body body found.value found.utf8 found.json)
 
 canonical_if : (o : Option (List ℕ)) → ((body : List ℕ) → o ≡ Some body → IsBody body × (are_visible body ≡ true))
     → IsValueIf o (option_and_then document o)
@@ -134,7 +126,7 @@ canonical_if None is = tt
 canonical_if (Some body) is =
     let both = is body refl in
     let found = both.0 in
-    subst (λ v. IsValueIf (Some body) v) (sym found.json.document)
+    subst (λ v. IsValueIf (Some body) v) (sym (document_is body found.value found.json))
     (a_text body found.value both.1 found.utf8 found.json)
 
 -- ---- the line of `trace`
@@ -155,89 +147,58 @@ module _ (limits : LimitsData) (ranges : AreInRange limits) (details : Details) 
   abbrev uri : Option (List ℕ)
   uri = uri_of r.head.side m
 
+  abbrev entry : Option DocumentItem
+  entry = document_after j.session.server.table uri
+
+  abbrev canonical : Option (List ℕ)
+  canonical = within s.server.config.limits.max_body (canonical_of_record s r.body j.verdict)
+
   after : IsFit limits (known_after known s r.head r.body j) j.session
   after = judged_fits limits known s r fits
-
-  abbrev last_texts : List (List ℕ × Option (List ℕ))
-  last_texts =
-      (codes ",\"reason\":", reason_json j.session.server.config.limits m (is_renamed known uri j.verdict) j.verdict)
-      ∷ (codes ",\"last\":", option_map decimal (last_in known uri j.verdict))
-      ∷ (codes ",\"notes\":", notes_json (notes_of s known.ranged r.body j.verdict))
-      ∷ (codes ",\"version\":", version_json (document_after j.session.server.table uri))
-      ∷ (codes ",\"canonical\":", within s.server.config.limits.max_body (canonical_of_record s r.body j.verdict))
-      ∷ (
-        codes ",\"text\":",
-        text_json (details.texts && has_changed j.verdict) (document_after j.session.server.table uri),
-      )
-      ∷ (codes ",\"body\":", body_json (details.bodies && is_json m) r.body) ∷ []
-
-  abbrev last_values : List (List ℕ × Option Json)
-  last_values =
-      (codes "reason", reason_value j.session.server.config.limits m (is_renamed known uri j.verdict) j.verdict)
-      ∷ (codes "last", option_map natural (last_in known uri j.verdict))
-      ∷ (codes "notes", notes_value (notes_of s known.ranged r.body j.verdict))
-      ∷ (
-        codes "version",
-        option_map (λ (e : DocumentItem). integer e.version) (document_after j.session.server.table uri),
-      )
-      ∷ (
-        codes "canonical",
-        option_and_then document
-            (within s.server.config.limits.max_body (canonical_of_record s r.body j.verdict)),
-      )
-      ∷ (codes "text", text_value (details.texts && has_changed j.verdict) (document_after j.session.server.table uri))
-      ∷ (codes "body", body_value (details.bodies && is_json m) r.body) ∷ []
-
-  are_read : AreRead last_texts last_values
-  unfolding escape_byte
-  are_read = (
-    (refl, refl),
-    reason_if j.session.server.config.limits m (is_renamed known uri j.verdict) j.verdict,
-    (
-      (refl, refl),
-      naturals_if (last_in known uri j.verdict) (last_fits known uri j.verdict fits.made fits.mentions),
-      (
-        (refl, refl),
-        notes_if (notes_of s known.ranged r.body j.verdict),
-        (
-          (refl, refl),
-          version_if (document_after j.session.server.table uri)
-              (document_fits j.session.server.table uri after.versions),
-          (
-            (refl, refl),
-            canonical_if (within s.server.config.limits.max_body (canonical_of_record s r.body j.verdict))
-                (λ body e. canonical_json limits ranges s r body fits.held e),
-            (
-              (refl, refl),
-              text_if (details.texts && has_changed j.verdict) (document_after j.session.server.table uri)
-                  (text_utf8 limits j.session.server.table uri after.held.table),
-              (
-                (refl, refl),
-                body_if (details.bodies && is_json m) r.body
-                    (λ e. fit.body_json r.body (and_parts details.bodies (is_json m) e).1),
-                tt,
-              ),
-            ),
-          ),
-        ),
-      ),
-    ),
-  )
 
   pub trace_json : IsJsonLine (trace_line details known s r j m) (trace_value details known s r j m)
   unfolding escape_byte
   trace_json =
-      let word = a_quoted (codes ",\"word\":") (codes "word") (verdict_word j.verdict) (last_members last_texts)
-      (members_with last_values) (refl, refl) (plain_verdict j.verdict) (last_read last_texts last_values are_read) in
+      let body = a_member_if (codes ",\"body\":") (codes "body") _ (body_json (details.bodies && is_json m) r.body)
+      (body_value (details.bodies && is_json m) r.body) _ (refl, refl)
+      (body_if (details.bodies && is_json m) r.body
+      (λ e. fit.body_json r.body (and_parts details.bodies (is_json m) e).1)) no_more in
+      let text = a_member_if (codes ",\"text\":") (codes "text") _
+      (text_json (details.texts && has_changed j.verdict) entry)
+      (text_value (details.texts && has_changed j.verdict) entry) _ (refl, refl)
+      (text_if (details.texts && has_changed j.verdict) entry
+      (text_utf8 limits j.session.server.table uri after.held.table)) body in
+      let with_canonical = a_member_if (codes ",\"canonical\":") (codes "canonical") _ canonical
+      (option_and_then document canonical) _ (refl, refl)
+      (canonical_if canonical (λ body e. canonical_json limits ranges s r body fits.held e)) text in
+      let version = a_member_if (codes ",\"version\":") (codes "version") _ (version_json entry)
+      (option_map (λ (e : DocumentItem). integer e.version) entry) _ (refl, refl)
+      (values_if (λ (e : DocumentItem). FitsSigned w32 e.version) (λ (e : DocumentItem). signed_decimal e.version)
+      (λ (e : DocumentItem). integer e.version) (λ e is. a_version e.version is) entry
+      (document_fits j.session.server.table uri after.versions)) with_canonical in
+      let notes = a_member_if (codes ",\"notes\":") (codes "notes") _
+      (notes_json (notes_of s known.ranged r.body j.verdict))
+      (notes_value (notes_of s known.ranged r.body j.verdict)) _ (refl, refl)
+      (notes_if (notes_of s known.ranged r.body j.verdict)) version in
+      let last = a_member_if (codes ",\"last\":") (codes "last") _ (option_map decimal (last_in known uri j.verdict))
+      (option_map natural (last_in known uri j.verdict)) _ (refl, refl)
+      (values_if (λ n. n < 2 ^ 64) decimal natural a_natural (last_in known uri j.verdict)
+      (last_fits known uri j.verdict fits.made fits.mentions)) notes in
+      let reason = a_member_if (codes ",\"reason\":") (codes "reason") _
+      (reason_json j.session.server.config.limits m (is_renamed known uri j.verdict) j.verdict)
+      (reason_value j.session.server.config.limits m (is_renamed known uri j.verdict) j.verdict) _ (refl, refl)
+      (reason_if j.session.server.config.limits m (is_renamed known uri j.verdict) j.verdict) last in
+      let word = a_quoted (codes ",\"word\":") (codes "word") (verdict_word j.verdict) _ _ (refl, refl)
+      (plain_verdict j.verdict) reason in
       let with_uri = a_member_if (codes ",\"uri\":") (codes "uri") _ (option_map json_string uri)
       (option_map json.string uri) _ (refl, refl) (strings_if uri (uri_utf8 r.head.side r.body)) word in
-      let with_id = a_member_if (codes ",\"id\":") (codes "id") _ (option_map id_json (id_of m))
-      (option_map id_value (id_of m)) _ (refl, refl) (id_if (id_of m) (id_fits r.body)) with_uri in
-      let with_method = a_member_if (codes ",\"method\":") (codes "method") _ (option_map json_string (method_of m))
-      (option_map json.string (method_of m)) _ (refl, refl)
-      (strings_if (method_of m) (method_utf8 r.body)) with_id in
+      let id = a_member_if (codes ",\"id\":") (codes "id") _ (option_map id_json (id_of m))
+      (option_map id_value (id_of m)) _ (refl, refl)
+      (values_if IsProperId id_json id_value an_id (id_of m) (id_fits r.body)) with_uri in
+      let method = a_member_if (codes ",\"method\":") (codes "method") _ (option_map json_string (method_of m))
+      (option_map json.string (method_of m)) _ (refl, refl) (strings_if (method_of m) (method_utf8 r.body)) id in
       let from = a_quoted (codes ",\"from\":") (codes "from") (side_word r.head.side) _ _ (refl, refl)
-      (plain_side r.head.side) with_method in
+      (plain_side r.head.side) method in
       let offset = a_member (codes ",\"offset\":") (codes "offset") (decimal r.head.place) _ (natural r.head.place) _
       (refl, refl) (a_natural r.head.place place) from in
       let line = an_object (codes "{\"number\":") (codes "number") (decimal j.session.records) _
@@ -248,7 +209,7 @@ module _ (limits : LimitsData) (ranges : AreInRange limits) (details : Details) 
       (member (codes ",\"method\":") (option_map json_string (method_of m)))
       (member (codes ",\"id\":") (option_map id_json (id_of m)))
       (member (codes ",\"uri\":") (option_map json_string uri)) (codes ",\"word\":\"") (verdict_word j.verdict)
-      (codes "\"") (last_members last_texts))) line
+      (codes "\"") _)) line
 
 -- ---- the line of `replay`
 
@@ -261,8 +222,7 @@ pub document_json : (entry : DocumentItem) → IsProperDocument entry
 unfolding document_line escape_byte
 document_json entry proper =
     let version = a_member (codes ",\"version\":") (codes "version") (signed_decimal entry.version) (codes "}\n")
-    (integer entry.version) json.no_members (refl, refl) (an_integer entry.version (wider entry.version proper.version))
-    no_more in
+    (integer entry.version) json.no_members (refl, refl) (a_version entry.version proper.version) no_more in
     let with_uri = a_member (codes ",\"uri\":") (codes "uri") (quoted entry.uri) _ (json.string entry.uri) _
     (refl, refl) (a_string entry.uri proper.uri) version in
     let with_text = a_member (codes ",\"text\":") (codes "text") (quoted entry.text) _ (json.string entry.text) _

@@ -4,8 +4,8 @@ use Rattle.std.specs.Fmt.{digit_glyph, digits, digits_onto, signed_decimal}
 use Rattle.std.proofs.Math.Nat.{mod-lt}
 use Rattle.json.specs.Run.{is_plain}
 use Rattle.json.specs.Print.{escape, escape_byte, quoted}
-use Rattle.serde_json.specs.Data.{Num, unsigned, negative, float, Data, null, boolean, number, string, array, object, Items, no_items, item, Members, no_members, member}
-use Rattle.lsp_replay.proofs.JsonLines.StringLemmas.{are_visible}
+use Rattle.serde_json.specs.Data.{Num, unsigned, negative, float, Data, boolean, number, string, array, object, Items, no_items, item, Members, no_members, member}
+use Rattle.lsp_replay.proofs.JsonLines.StringLemmas.{are_visible, one_visible, visible-append}
 
 -- ---- texts that need no escape
 
@@ -77,12 +77,6 @@ plain_signed (negsuc n) = plain_decimal (suc n)
 
 -- ---- texts without line breaks
 
-pub visible-append : (xs ys : List ℕ) → are_visible xs ≡ true → are_visible ys ≡ true → are_visible (xs ++ ys) ≡ true
-visible-append [] ys h k = k
-visible-append (x ∷ xs) ys h k =
-    let both = and_parts (nat_le 32 x) (are_visible xs) h in
-    and_from (nat_le 32 x) (are_visible (xs ++ ys)) both.0 (visible-append xs ys both.1 k)
-
 pub visible_plain : (s : List ℕ) → IsPlain s → are_visible s ≡ true
 visible_plain [] h = refl
 visible_plain (x ∷ s) h =
@@ -103,9 +97,6 @@ letter_high false _ _ _ _ _ x h l is some = omega (arith, is)
 
 special_high : (x : ℕ) → ((x == 34) || (x == 92)) ≡ true → 32 ≤ x
 special_high x e = grind (arith, common_steps, or_cases, inl, eqb-true, inr)
-
-pub one_visible : (x : ℕ) (xs : List ℕ) → 32 ≤ x → are_visible xs ≡ true → are_visible (x ∷ xs) ≡ true
-one_visible x xs l h = and_from (nat_le 32 x) (are_visible xs) (le-leb 32 x l) h
 
 digit_high : (d : ℕ) → 32 ≤ digit_char d
 digit_high d = grind (arith, common_steps, cases_Bool, inl, inr)

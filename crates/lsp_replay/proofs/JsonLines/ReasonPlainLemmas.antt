@@ -1,13 +1,13 @@
 -- The words of a line need no escape in a JSON string.
-use Rattle.lsp_replay.proofs.Prelude.{ℕ, Bool, true, false, ◌==◌, List, [], ◌++◌, Option, Some, None, refl, codes, if◌then◌else◌, list_all-append, LimitsData, Position, Range, EditFault, ErrorCode, ParseError, InvalidRequest, MethodNotFound, InvalidParams, ServerNotInitialized, ChangeData, fault_code, StoreFault, AnswerData, reply, changed, dropped, ignored, refused, exits, already_ended, Sent, one_more, Sender, Client, Server, Note, code_word, verdict_word, change_words, note_words, past_words, side_words, edit_reason, end_words, error_reason, idle_words, is_idle, position_words, range_sent, reason_words, renamed_words, store_reason, version_words, Verdict, answered, recorded, bad, side_word}
+use Rattle.lsp_replay.proofs.Prelude.{Bool, ◌==◌, [], ◌++◌, Option, Some, None, refl, codes, list_all-append, LimitsData, Position, Range, EditFault, ErrorCode, ParseError, ChangeData, fault_code, StoreFault, AnswerData, reply, refused, exits, Sent, one_more, Sender, Client, Server, Note, code_word, verdict_word, note_words, past_words, side_words, edit_reason, end_words, error_reason, idle_words, is_idle, position_words, range_sent, reason_words, renamed_words, store_reason, version_words, Verdict, answered, side_word}
 use Rattle.lsp_edit.specs.declared.fault.EditFault.TheVariants.{InsideCharacter, ReversedRange, NoMemory as NoMemoryToEdit}
 use Rattle.lsp_edit.specs.declared.fault.Side.{Side}
 use Rattle.lsp_edit.specs.declared.fault.Side.TheVariants.{Start, Stop}
-use Rattle.lsp_store.specs.declared.fault.StoreFault.TheVariants.{AlreadyOpen, TooManyDocuments, TextTooLong, NotOpen, StaleVersion, TooManyChanges, Edit, BodyTooLong, NoMemory}
+use Rattle.lsp_store.specs.declared.fault.StoreFault.TheVariants.{TooManyDocuments, TextTooLong, StaleVersion, TooManyChanges, Edit}
 use Rattle.lsp_server.specs.Codes.{server_refusal_code}
 use Rattle.lsp_server.specs.declared.answer.Refusal.{Refusal}
 use Rattle.lsp_server.specs.declared.answer.Refusal.TheVariants.{InvalidParams as BadParams, Store}
-use Rattle.lsp_replay.specs.declared.notes.Note.TheVariants.{OpenAlready, LoneReturn, OldVersion, NoChanges, WholeText, PastEnd, WrongLength, SameText, OtherSaved}
+use Rattle.lsp_replay.specs.declared.notes.Note.TheVariants.{OldVersion, WholeText, PastEnd, WrongLength, SameText, OtherSaved}
 use Rattle.lsp_replay.proofs.JsonLines.PlainLemmas.{IsPlain, either_plain, is_ascii_plain, plain-append, plain_decimal, plain_signed}
 
 -- ---- the word of an answer
@@ -90,9 +90,6 @@ plain_reason_with limits p answer renamed =
 
 -- ---- the words of a note
 
-plain_change : (index : ℕ) → IsPlain (change_words index)
-plain_change index = plain_decimal (one_more index)
-
 plain_from : (side : Side) → IsPlain (side_words side)
 plain_from Start = refl
 plain_from Stop = refl
@@ -102,20 +99,10 @@ plain_past sent taken = either_plain (sent.line == taken.line) _ _ refl refl
 
 pub plain_note : (note : Note) → IsPlain (note_words note)
 plain_note (OldVersion sent current) = simp (list_all-append is_ascii_plain, plain_signed)
-plain_note (WholeText index) =
-    plain-append (change_words index) (codes " is the whole text, and the server asked for ranges")
-    (plain_change index) refl
+plain_note (WholeText index) = simp (list_all-append is_ascii_plain, plain_decimal)
 plain_note (PastEnd index side sent taken) =
-    plain-append
-    (change_words index ++ side_words side ++ position_words sent ++ past_words sent taken ++ position_words taken)
-    (codes ")")
-    (plain-append (change_words index ++ side_words side ++ position_words sent ++ past_words sent taken)
-    (position_words taken)
-    (plain-append (change_words index ++ side_words side ++ position_words sent) (past_words sent taken)
-    (plain-append (change_words index ++ side_words side) (position_words sent)
-    (plain-append (change_words index) (side_words side) (plain_change index) (plain_from side))
-    (plain_position sent)) (plain_past sent taken)) (plain_position taken)) refl
+    simp (list_all-append is_ascii_plain, plain_decimal, plain_from side, plain_past sent taken)
 plain_note (WrongLength index sent replaced characters) = simp (list_all-append is_ascii_plain, plain_decimal)
-plain_note (SameText index) = plain-append (change_words index) (codes " changes nothing") (plain_change index) refl
+plain_note (SameText index) = simp (list_all-append is_ascii_plain, plain_decimal)
 plain_note (OtherSaved line) = simp (list_all-append is_ascii_plain, plain_decimal)
 plain_note _ = refl

@@ -1,18 +1,19 @@
 -- Values and members of an object, as they are written one after another.
-use Rattle.lsp_replay.proofs.Prelude.{◌≡◌, ◌⊎◌, inl, inr, ℕ, suc, ℤ, ◌^◌, ◌<◌, ◌≤◌, FitsSigned, Bool, true, false, ◌||◌, ◌==◌, List, [], ◌∷◌, ◌++◌, Option, Some, None, option_and_then, refl, sym, ap, ap₂, ◌∙◌, subst, arith, append_assoc, append-nil, decimal, IsUtf8, length, get_or, signed_decimal, w64, ⊤, codes, if◌then◌else◌, and_parts, cases_Bool, cases_lt, eqb-true, or_cases, IsUtf8-append, IsUtf8-encode, IsUtf8-nil, encode_ascii, inside_one, Token, ends_word, depth, members_depth, json_tokens, items_tokens, members_tokens, HasNumbers, IsUtf8-are_ascii, IsUtf8-quoted, are_ascii, Data, number, unsigned, negative, string, max_depth, of_json, read, compact_text, outline, print-outline, IsJsonLine, member_if, members_with, last_members, member, one_line, common_steps}
+use Rattle.lsp_replay.proofs.Prelude.{◌≡◌, ◌⊎◌, inl, inr, ℕ, suc, ℤ, ◌^◌, ◌<◌, ◌≤◌, FitsSigned, Bool, true, false, ◌||◌, ◌==◌, List, [], ◌∷◌, ◌++◌, Option, Some, None, option_and_then, refl, sym, ap, ap₂, ◌∙◌, subst, arith, append_assoc, append-nil, decimal, IsUtf8, length, get_or, signed_decimal, w64, ⊤, codes, if◌then◌else◌, and_parts, cases_Bool, cases_lt, IsUtf8-append, IsUtf8-encode, IsUtf8-nil, encode_ascii, inside_one, Token, ends_word, depth, members_depth, json_tokens, items_tokens, members_tokens, HasNumbers, IsUtf8-are_ascii, IsUtf8-quoted, are_ascii, Data, number, unsigned, negative, string, max_depth, of_json, read, compact_text, outline, print-outline, IsJsonLine, member_if, member, one_line, common_steps}
 use lib.Utf8.{encode, encodes, scalar, scalars}
 use Rattle.json.specs.Json.{Json, Items, Members, document, if_last, value}
-use Rattle.json.specs.Lex.{token, comma, colon, lex, between, fresh, after_value, begins_colon, punctuate, tokens}
-use Rattle.json.specs.Print.{ends, print, quoted, ArePrintable}
+use Rattle.json.specs.Lex.{token, comma, colon, string_token, lex, between, fresh, after_value, begins_colon, punctuate, tokens}
+use Rattle.json.specs.Print.{ends, escape, quoted, ArePrintable}
 use Rattle.json.proofs.Nesting.{value-depth}
 use Rattle.json.proofs.Numbered.{ArePrintableOrBad-tokens, value-HasNumbers}
+use Rattle.json.proofs.Printed.Strings.{content-escape, lex-escape}
+use Rattle.json.proofs.Printed.Tokens.{tokens-print}
 use Rattle.json.proofs.Printed.Decimals.{IsNumber-decimal, IsNumber-signed_decimal}
 use Rattle.json.proofs.Printed.Trees.{ArePrintable-json_tokens, value-json_tokens}
 use Rattle.json.proofs.Unique.Spelling.{value-json_tokens_back}
-use Rattle.lsp_replay.proofs.JsonLines.PrintedLemmas.{ended, lex-printed, lex-quoted, place, punctuate-printed}
-use Rattle.lsp_replay.proofs.JsonLines.StringLemmas.{are_visible, stays_text, then_some, without}
-use Rattle.lsp_replay.proofs.JsonLines.PlainLemmas.{IsPlain, one_visible, quoted_plain, visible-append, visible_compact, visible_quoted, plain_decimal, plain_signed, utf8_plain}
-use Rattle.lsp_replay.proofs.JsonLines.WithinLemmas.{kept, punctuate-then, same_lexemes}
+use Rattle.lsp_replay.proofs.JsonLines.StringLemmas.{are_visible, one_visible, stays_text, then_some, visible-append}
+use Rattle.lsp_replay.proofs.JsonLines.PlainLemmas.{IsPlain, quoted_plain, visible_compact, visible_quoted, plain_decimal, plain_signed, utf8_plain}
+use Rattle.lsp_replay.proofs.JsonLines.WithinLemmas.{ended, place, punctuate-then, same_lexemes}
 use Rattle.json.specs.Json as json
 
 -- ---- the last token of a value
@@ -44,30 +45,24 @@ abbrev pub IsText : List ℕ → Json → Type 0
 IsText bytes j = (r : List ℕ) → ends_word r ≡ true → begins_colon (lex between r) ≡ false
     → punctuate fresh (lex between (bytes ++ r)) ≡ json_tokens j ++ punctuate after_value (lex between r)
 
--- a value that was printed
-pub printed_text : (j : Json) → HasNumbers j → IsText (print (json_tokens j)) j
-printed_text j h r e c =
-    let printable = ArePrintable-json_tokens j h in
-    ap (punctuate fresh) (lex-printed false (json_tokens j) r printable (λ z. e))
-    ∙ punctuate-printed false (json_tokens j) (lex between r) printable c
-    ∙ ap (λ b. json_tokens j ++ punctuate (place b) (lex between r)) (ended-json false j)
-
 -- bytes that are a value by themselves
 pub record IsJson (text : List ℕ) (j : Json) : Type 0 where
-  pub document : document text ≡ Some j
   pub tokens : tokens text ≡ json_tokens j
   pub numbers : HasNumbers j
   pub shallow : depth j ≤ max_depth
-
-last_is : (j k : Json) (ts : List Token) → if_last j ts ≡ Some k → (ts ≡ []) × (j ≡ k)
-last_is j k [] e = (refl, let same : Some j ≡ Some k = e in let is : j ≡ k = cc in is)
-last_is j k (t ∷ ts) e = absurd (let no : None ≡ Some k = e in cc)
 
 document_by : (text : List ℕ) (j : Json) → tokens text ≡ json_tokens j → depth j ≤ json.max_depth
     → document text ≡ Some j
 document_by text j e shallow =
     ap (option_and_then (λ p. if_last p.0 p.1)) (ap (value json.max_depth) (e ∙ sym (append-nil (json_tokens j)))
     ∙ value-json_tokens j json.max_depth [] shallow)
+
+pub document_is : (text : List ℕ) (j : Json) → IsJson text j → document text ≡ Some j
+document_is text j is = let shallow = is.shallow in document_by text j is.tokens (omega arith)
+
+last_is : (j k : Json) (ts : List Token) → if_last j ts ≡ Some k → (ts ≡ []) × (j ≡ k)
+last_is j k [] e = (refl, let same : Some j ≡ Some k = e in let is : j ≡ k = cc in is)
+last_is j k (t ∷ ts) e = absurd (let no : None ≡ Some k = e in cc)
 
 -- what `serde_json` reads is JSON
 pub read_is : (text : List ℕ) (d : Data) → read text ≡ Some d → (j : Json) × IsJson text j
@@ -77,57 +72,38 @@ read_is text d e =
     let parsed = then_some (λ p. if_last p.0 p.1) (value max_depth (tokens text)) j found.1 in
     let last = last_is parsed.0.0 j parsed.0.1 parsed.2 in
     let is : value max_depth (tokens text) ≡ Some (j, []) =
-    parsed.1 ∙ ap₂ (λ (k : Json) (ts : List Token). Some (k, ts)) last.1 last.0 in
-    let same : tokens text ≡ json_tokens j =
-    value-json_tokens_back max_depth (tokens text) [] j is ∙ append-nil (json_tokens j) in
-    let shallow : depth j ≤ max_depth = value-depth max_depth (tokens text) [] j is in (
+    parsed.1 ∙ ap₂ (λ (k : Json) (ts : List Token). Some (k, ts)) last.1 last.0 in (
       j,
       record {
-        document = document_by text j same (omega arith);
-        tokens = same;
+        tokens = value-json_tokens_back max_depth (tokens text) [] j is ∙ append-nil (json_tokens j);
         numbers = value-HasNumbers max_depth (tokens text) [] j (ArePrintableOrBad-tokens text) is;
-        shallow = shallow;
+        shallow = value-depth max_depth (tokens text) [] j is;
       },
     )
 
-without_text : (drops : ℕ → Bool) → ((x : ℕ) → drops x ≡ true → (x ≡ 10) ⊎ (x ≡ 13)) → (text : List ℕ) (j : Json)
-    → IsJson text j → IsText (without drops text) j
-without_text drops breaks text j is r e c =
+-- what is printed is JSON
+printed_is : (d : Data) → HasNumbers (outline d) → depth (outline d) ≤ max_depth → IsJson (compact_text d) (outline d)
+printed_is d numbers shallow = record {
+  tokens = ap tokens (sym (print-outline d))
+      ∙ tokens-print (json_tokens (outline d)) (ArePrintable-json_tokens (outline d) numbers);
+  numbers = numbers;
+  shallow = shallow;
+}
+
+-- JSON within JSON, on one line
+one_line_text : (text : List ℕ) (j : Json) → IsJson text j → IsText (one_line text) j
+one_line_text text j is r e c =
     let alone : ArePrintable (punctuate fresh (lex between text)) =
     subst ArePrintable (sym is.tokens) (ArePrintable-json_tokens j is.numbers) in
-    ap (punctuate fresh) (same_lexemes drops breaks r e text fresh alone)
+    ap (punctuate fresh) (same_lexemes r e text fresh alone)
     ∙ punctuate-then (lex between r) c (lex between text) fresh alone
     ∙ ap (λ ts. ts ++ punctuate (place (ended false ts)) (lex between r)) is.tokens
     ∙ ap (λ b. json_tokens j ++ punctuate (place b) (lex between r)) (ended-json false j)
 
-abbrev never : ℕ → Bool
-never x = false
-
-never_without : (text : List ℕ) → without never text ≡ text
-never_without [] = refl
-never_without (x ∷ xs) = ap (λ m. x ∷ m) (never_without xs)
-
--- JSON within JSON
-pub within_text : (text : List ℕ) (j : Json) → IsJson text j → IsText text j
-within_text text j is =
-    subst (λ bytes. IsText bytes j) (never_without text)
-    (without_text never (λ x e. absurd (let no : false ≡ true = e in cc)) text j is)
+-- ---- a text on one line
 
 abbrev is_break : ℕ → Bool
 is_break x = (x == 10) || (x == 13)
-
-is_break_of : (x : ℕ) → is_break x ≡ true → (x ≡ 10) ⊎ (x ≡ 13)
-is_break_of x e = grind (arith, common_steps, or_cases, inl, eqb-true, inr)
-
-one_line_is : (text : List ℕ) → without is_break text ≡ one_line text
-one_line_is [] = refl
-one_line_is (x ∷ xs) = ap (λ m. if is_break x then m else x ∷ m) (one_line_is xs)
-
-gone : (x : ℕ) (xs : List ℕ) → is_break x ≡ true → one_line (x ∷ xs) ≡ one_line xs
-gone x xs e = ap (λ b. if b then one_line xs else x ∷ one_line xs) e
-
-stays : (x : ℕ) (xs : List ℕ) → is_break x ≡ false → one_line (x ∷ xs) ≡ x ∷ one_line xs
-stays x xs e = ap (λ b. if b then one_line xs else x ∷ one_line xs) e
 
 one_line_twice : (xs : List ℕ) → one_line (one_line xs) ≡ one_line xs
 one_line_twice [] = refl
@@ -144,10 +120,8 @@ one_line-append (x ∷ xs) ys =
     either_break (is_break x) x (one_line (xs ++ ys)) (one_line xs) (one_line ys) (one_line-append xs ys)
 
 -- a text without line breaks is on one line
-pub unbroken : (s : List ℕ) → are_visible s ≡ true → one_line s ≡ s
-unbroken s h =
-    sym (one_line_is s) ∙ ap (without is_break) (sym (append-nil s))
-    ∙ stays_text is_break (kept is_break is_break_of) s [] h ∙ append-nil s
+unbroken : (s : List ℕ) → are_visible s ≡ true → one_line s ≡ s
+unbroken s h = ap one_line (sym (append-nil s)) ∙ stays_text s [] h ∙ append-nil s
 
 visible_high : (xs : List ℕ) → ((k : ℕ) → k < length xs → 128 ≤ get_or xs k 0) → are_visible xs ≡ true
 visible_high [] h = refl
@@ -158,9 +132,9 @@ visible_high (x ∷ xs) h =
 one_line_char : (c : ℕ) → scalar c ≡ true → IsUtf8 (one_line (encode c))
 one_line_char c ok = by (cases_lt c 128)
   where
-    small : c < 128 → (is_break c ≡ true) ⊎ (is_break c ≡ false) → IsUtf8 (one_line (c ∷ []))
-    small l (inl e) = subst IsUtf8 (sym (gone c [] e)) IsUtf8-nil
-    small l (inr e) = subst IsUtf8 (encode_ascii c l ∙ sym (stays c [] e)) (IsUtf8-encode c ok)
+    small : (b : Bool) → c < 128 → IsUtf8 (if b then [] else c ∷ [])
+    small true l = IsUtf8-nil
+    small false l = subst IsUtf8 (encode_ascii c l) (IsUtf8-encode c ok)
 
     high : 128 ≤ c → (k : ℕ) → k < length (encode c) → (get_or (encode c) k 0 < 128) ⊎ (128 ≤ get_or (encode c) k 0)
         → 128 ≤ get_or (encode c) k 0
@@ -170,7 +144,7 @@ one_line_char c ok = by (cases_lt c 128)
     high l k below (inr is) = is
 
     by : (c < 128) ⊎ (128 ≤ c) → IsUtf8 (one_line (encode c))
-    by (inl l) = subst (λ bytes. IsUtf8 (one_line bytes)) (sym (encode_ascii c l)) (small l (cases_Bool (is_break c)))
+    by (inl l) = subst (λ bytes. IsUtf8 (one_line bytes)) (sym (encode_ascii c l)) (small (is_break c) l)
     by (inr l) =
         subst IsUtf8
         (sym (unbroken (encode c) (visible_high (encode c) (λ k below. high l k below
@@ -183,15 +157,6 @@ one_line_chars (c ∷ cs) e =
     subst IsUtf8 (sym (one_line-append (encode c) (encodes cs)))
     (IsUtf8-append (one_line (encode c)) (one_line (encodes cs)) (one_line_char c both.0) (one_line_chars cs both.1))
 
--- a text stays UTF-8 without its line breaks
-one_line_utf8 : (text : List ℕ) → IsUtf8 text → IsUtf8 (one_line text)
-one_line_utf8 text u = subst (λ bytes. IsUtf8 (one_line bytes)) u.1.1 (one_line_chars u.0 u.1.0)
-
--- the same on one line
-one_line_text : (text : List ℕ) (j : Json) → IsJson text j → IsText (one_line text) j
-one_line_text text j is =
-    subst (λ bytes. IsText bytes j) (one_line_is text) (without_text is_break is_break_of text j is)
-
 -- ---- a value on one line
 
 pub record IsValue (bytes : List ℕ) (j : Json) : Type 0 where
@@ -200,15 +165,24 @@ pub record IsValue (bytes : List ℕ) (j : Json) : Type 0 where
   pub text : IsText bytes j
   pub one : one_line bytes ≡ bytes
 
--- what is printed
-pub a_compact : (d : Data) → HasNumbers (outline d) → depth (outline d) ≤ max_depth
-    → IsUtf8 (compact_text d) → IsValue (compact_text d) (outline d)
-a_compact d numbers shallow utf8 = record {
-  shallow = shallow;
-  utf8 = utf8;
-  text = subst (λ bytes. IsText bytes (outline d)) (print-outline d) (printed_text (outline d) numbers);
-  one = unbroken (compact_text d) (visible_compact d);
+-- JSON on one line
+pub a_body : (text : List ℕ) (j : Json) → IsUtf8 text → IsJson text j → IsValue (one_line text) j
+a_body text j u is = record {
+  shallow = is.shallow;
+  utf8 = subst (λ bytes. IsUtf8 (one_line bytes)) u.1.1 (one_line_chars u.0 u.1.0);
+  text = one_line_text text j is;
+  one = one_line_twice text;
 }
+
+-- JSON without line breaks
+pub a_text : (text : List ℕ) (j : Json) → are_visible text ≡ true → IsUtf8 text → IsJson text j → IsValue text j
+a_text text j h u is = subst (λ bytes. IsValue bytes j) (unbroken text h) (a_body text j u is)
+
+-- what is printed
+pub a_compact : (d : Data) → HasNumbers (outline d) → depth (outline d) ≤ max_depth → IsUtf8 (compact_text d)
+    → IsValue (compact_text d) (outline d)
+a_compact d numbers shallow utf8 =
+    a_text (compact_text d) (outline d) (visible_compact d) utf8 (printed_is d numbers shallow)
 
 pub a_string : (s : List ℕ) → IsUtf8 s → IsValue (quoted s) (json.string s)
 a_string s u = a_compact (string s) tt (omega arith) (IsUtf8-quoted s u)
@@ -224,19 +198,6 @@ a_natural n h = a_compact (number (unsigned n)) (IsNumber-decimal n h) (omega ar
 pub an_integer : (z : ℤ) → FitsSigned w64 z → IsValue (signed_decimal z) (json.number (signed_decimal z))
 an_integer z h = a_compact (number (negative z)) (IsNumber-signed_decimal z h.sfits) (omega arith)
     (utf8_plain (signed_decimal z) (plain_signed z))
-
--- JSON without line breaks
-pub a_text : (text : List ℕ) (j : Json) → are_visible text ≡ true → IsUtf8 text → IsJson text j → IsValue text j
-a_text text j h u is = record { shallow = is.shallow; utf8 = u; text = within_text text j is; one = unbroken text h }
-
--- JSON on one line
-pub a_body : (text : List ℕ) (j : Json) → IsUtf8 text → IsJson text j → IsValue (one_line text) j
-a_body text j u is = record {
-  shallow = is.shallow;
-  utf8 = one_line_utf8 text u;
-  text = one_line_text text j is;
-  one = one_line_twice text;
-}
 
 -- ---- the members of an object, with its end
 
@@ -271,7 +232,9 @@ no_more = record {
 
 lex-name : (name r : List ℕ) → lex between (quoted name ++ 58 ∷ r) ≡ token (Token.string name) ∷ colon ∷ lex between r
 unfolding lex
-lex-name name r = lex-quoted name (58 ∷ r)
+lex-name name r =
+    ap (λ l. lex between (34 ∷ l)) (append_assoc (escape name) (34 ∷ []) (58 ∷ r))
+    ∙ ap₂ (λ o l. token (string_token o) ∷ l) (content-escape name (58 ∷ r)) (lex-escape name (58 ∷ r))
 
 lex-front : (name r : List ℕ) → lex between (44 ∷ (quoted name ++ 58 ∷ r))
     ≡ comma ∷ token (Token.string name) ∷ colon ∷ lex between r
@@ -354,21 +317,6 @@ an_object front name bytes rest j ms is ascii value more =
       ends = line_before front (bytes ++ rest) (front_visible 123 front name (omega arith) is)
           (line_before bytes rest value.one more.line);
     }
-
--- ---- members that are there or not
-
--- the texts of some members are these values
-abbrev pub AreRead : List (List ℕ × Option (List ℕ)) → List (List ℕ × Option Json) → Type 0
-AreRead [] [] = ⊤
-AreRead (t ∷ ts) (v ∷ vs) = IsFront t.0 v.0 × IsValueIf t.1 v.1 × AreRead ts vs
-AreRead _ _ = ⊥
-
-pub last_read : (ts : List (List ℕ × Option (List ℕ))) (vs : List (List ℕ × Option Json)) → AreRead ts vs
-    → AreMembers (last_members ts) (members_with vs)
-last_read [] [] are = no_more
-last_read (t ∷ ts) (v ∷ vs) are =
-    a_member_if t.0 v.0 (last_members ts) t.1 v.1 (members_with vs) are.0 are.1 (last_read ts vs are.2)
-last_read _ _ are = absurd are
 
 -- a member whose value is a text between quotation marks
 pub a_quoted : (front name s rest : List ℕ) (ms : Members) → IsFront front name → IsPlain s → AreMembers rest ms

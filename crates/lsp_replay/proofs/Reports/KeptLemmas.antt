@@ -1,6 +1,7 @@
 -- The last text of a document, over one more record.
-use Rattle.lsp_replay.proofs.Prelude.{◌≡◌, ◌⊎◌, inl, inr, ℕ, Bool, true, false, List, [], ◌∷◌, ◌++◌, map, Option, Some, None, option_map, bytes_eq, refl, sym, ap, ◌∙◌, if◌then◌else◌, ℤ, bytes_eq-Decides, units_in, Encoding, ContentChange, reading, DocumentItem, CloseData, as_sent, Phase, New, Running, Down, Ended, IncomingData, not_json, not_a_message, response, initialize, shutdown, other_request, exit, did_open, did_change, did_close, other_notification, ServerData, step_in, step_on, result_step, content_change_from_data, session_encoding, Version, Session, bad, judged, counted, handled, is_ended, is_early, judge_client, judge_server, encoding_for, last_text, last_text_in, BodyData, from_client, from_server, judge_read, closed_by, kept_after, text_at, text_closed}
-use Rattle.lsp_store.specs.Table.{Refusal, entry_at, changed, after_open, after_change, after_close, close_refusal, change_refusal, open_refusal, unless_refused}
+use Rattle.lsp_replay.proofs.Prelude.{arith, cases_Bool, common_steps, ◌≡◌, ◌⊎◌, inl, inr, ℕ, Bool, true, false, List, [], ◌∷◌, ◌++◌, map, Option, Some, None, option_map, bytes_eq, refl, sym, ap, ◌∙◌, if◌then◌else◌, ℤ, bytes_eq-Decides, units_in, Encoding, ContentChange, reading, DocumentItem, CloseData, Phase, New, Running, Down, IncomingData, not_json, initialize, did_open, did_change, did_close, ServerData, step_in, result_step, content_change_from_data, session_encoding, Version, Session, judged, counted, judge_client, judge_server, encoding_for, last_text, last_text_in, BodyData, from_client, from_server, judge_read, closed_by, kept_after, text_at, text_closed}
+use Rattle.lsp_store.specs.Table.{Refusal, entry_at, after_open, after_change, after_close, close_refusal, change_refusal, open_refusal, unless_refused}
+use Rattle.lsp_replay.proofs.Records.JudgeLemmas.{of_incoming}
 
 -- ---- a document that isn't open afterwards was not open before
 
@@ -21,49 +22,19 @@ stays_last (x ∷ table) entry uri e =
 last_found : (table : List DocumentItem) (entry : DocumentItem) (uri : List ℕ) → bytes_eq uri entry.uri ≡ true
     → entry_at (table ++ entry ∷ []) uri ≡ None → ⊥
 last_found [] entry uri is e = let wrong : Some entry ≡ None = rw is at e in cc
-last_found (x ∷ table) entry uri is e = by (bytes_eq uri x.uri) (last_found table entry uri is) e
-  where
-    by : (b : Bool) → (entry_at (table ++ entry ∷ []) uri ≡ None → ⊥)
-        → (if b then Some x else entry_at (table ++ entry ∷ []) uri) ≡ None → ⊥
-    by true later f = let wrong : Some x ≡ None = f in cc
-    by false later f = later f
+last_found (x ∷ table) entry uri is e = grind (arith, common_steps, cases_Bool, (last_found table entry uri is))
 
 stays_changed : (units : ℕ → ℕ) (table : List DocumentItem) (other : List ℕ) (version : ℤ) (batch : List ContentChange)
     (uri : List ℕ) → Stays table (after_change units table other version batch) uri
 stays_changed units [] other version batch uri e = refl
 stays_changed units (x ∷ table) other version batch uri e =
-    by (stays_changed units table other version batch uri) (bytes_eq other x.uri) e
-  where
-    here : (b : Bool) → (if b then Some (changed units x version batch) else entry_at table uri) ≡ None
-        → (if b then Some x else entry_at table uri) ≡ None
-    here true f = absurd (let wrong : Some (changed units x version batch) ≡ None = f in cc)
-    here false f = f
-
-    by : Stays table (after_change units table other version batch) uri → (b : Bool)
-        → entry_at (if b then changed units x version batch ∷ table else x ∷ after_change units table other version
-        batch) uri ≡ None → entry_at (x ∷ table) uri ≡ None
-    by others true f = here (bytes_eq uri x.uri) f
-    by others false f =
-        none_more (bytes_eq uri x.uri) x (entry_at table uri) (entry_at (after_change units table other version batch)
-        uri) others f
+    grind (arith, common_steps, bytes_eq, cases_Bool, (stays_changed units table other version batch uri))
 
 stays_closed : (table : List DocumentItem) (other uri : List ℕ) → bytes_eq other uri ≡ false
     → Stays table (after_close table other) uri
 stays_closed [] other uri differ e = refl
-stays_closed (x ∷ table) other uri differ e = by (stays_closed table other uri differ) (bytes_eq other x.uri) refl e
-  where
-    of_other : (b : Bool) → bytes_eq uri x.uri ≡ b → bytes_eq other x.uri ≡ true → entry_at table uri ≡ None
-        → (if b then Some x else entry_at table uri) ≡ None
-    of_other true is same f =
-        let one : other ≡ uri = (bytes_eq-Decides other x.uri).0 same ∙ sym ((bytes_eq-Decides uri x.uri).0 is) in
-        absurd (let wrong : true ≡ false = sym ((bytes_eq-Decides other uri).1 one) ∙ differ in cc)
-    of_other false is same f = f
-
-    by : Stays table (after_close table other) uri → (b : Bool) → bytes_eq other x.uri ≡ b
-        → entry_at (if b then table else x ∷ after_close table other) uri ≡ None → entry_at (x ∷ table) uri ≡ None
-    by others true is f = of_other (bytes_eq uri x.uri) refl is f
-    by others false is f =
-        none_more (bytes_eq uri x.uri) x (entry_at table uri) (entry_at (after_close table other) uri) others f
+stays_closed (x ∷ table) other uri differ e =
+    grind (arith, common_steps, cases_Bool, bytes_eq-Decides, (stays_closed table other uri differ))
 
 stays_open : (table : List DocumentItem) (entry : DocumentItem) (uri : List ℕ) → Stays table (after_open table entry)
     uri
@@ -122,14 +93,9 @@ step_kept _ s uri m = same_table s.table uri m
 
 client_kept : (s : Session) (version : Version) (uri : List ℕ) (m : IncomingData)
     → Keeps s.server.table uri m (judge_client s version m).session.server.table
-client_kept s version uri m = by (is_ended s.server.phase) (is_early s m)
-  where
-    by : (ended early : Bool)
-        → Keeps s.server.table uri m (if ended then judged bad s else if early then judged bad s else handled s version
-        m (step_on s.server m).state (as_sent (step_on s.server m).answer)).session.server.table
-    by true early = same_table s.server.table uri m
-    by false true = same_table s.server.table uri m
-    by false false = step_kept s.server.phase s.server uri m
+client_kept s version uri m =
+    of_incoming (λ j. Keeps s.server.table uri m j.session.server.table) s version m (same_table s.server.table uri m)
+    (step_kept s.server.phase s.server uri m)
 
 -- ---- a server's record leaves the documents alone
 

@@ -37,10 +37,6 @@ eight_words (Err x) new old a b c d e f g h is = tt
 
 -- ---- the first members
 
-first_parts : (old a d b p c s q m i u : List ℕ) → old ++ a ++ d ++ b ++ p ++ c ++ s ++ q ++ m ++ i ++ u
-    ≡ old ++ (a ++ d ++ b ++ p ++ c ++ s ++ q ++ m ++ i ++ u)
-first_parts old a d b p c s q m i u = simp append_assoc
-
 pub first_is : (number : ℕ) (head : Head) (m : IncomingData) (old one two three four : List ℕ)
     → one ≡ old ++ codes "{\"number\":" ++ decimal number ++ codes ",\"offset\":" ++ decimal head.place
     ++ codes ",\"from\":\"" ++ side_word head.side ++ codes "\""
@@ -48,20 +44,9 @@ pub first_is : (number : ℕ) (head : Head) (m : IncomingData) (old one two thre
     → three ≡ two ++ member (codes ",\"id\":") (option_map id_json (id_of m))
     → four ≡ three ++ member (codes ",\"uri\":") (option_map json_string (uri_of head.side m))
     → four ≡ old ++ first_members number head m
-first_is number head m old one two three four a b c d =
-    let method = member (codes ",\"method\":") (option_map json_string (method_of m)) in
-    let id = member (codes ",\"id\":") (option_map id_json (id_of m)) in
-    let document = member (codes ",\"uri\":") (option_map json_string (uri_of head.side m)) in
-    d ∙ ap (λ (bs : List ℕ). bs ++ document)
-    (c ∙ ap (λ (bs : List ℕ). bs ++ id) (b ∙ ap (λ (bs : List ℕ). bs ++ method) a))
-    ∙ first_parts old (codes "{\"number\":") (decimal number) (codes ",\"offset\":") (decimal head.place)
-    (codes ",\"from\":\"") (side_word head.side) (codes "\"") method id document
+first_is number head m old one two three four a b c d = rw (d, c, b, a) (simp append_assoc)
 
 -- ---- the others
-
-last_parts : (old a w q r l n v c t b e : List ℕ) → old ++ a ++ w ++ q ++ r ++ l ++ n ++ v ++ c ++ t ++ b ++ e
-    ≡ old ++ (a ++ w ++ q ++ (r ++ (l ++ (n ++ (v ++ (c ++ (t ++ (b ++ e))))))))
-last_parts old a w q r l n v c t b e = simp append_assoc
 
 pub last_is : (word : List ℕ) (reason last notes version canonical shown body : Option (List ℕ))
     (old one two three four five six seven eight nine : List ℕ)
@@ -75,20 +60,7 @@ pub last_is : (word : List ℕ) (reason last notes version canonical shown body 
     ∷ (codes ",\"body\":", body) ∷ []))
 last_is word reason last notes version canonical shown body old one two three four five six seven eight nine a b c d e f
     g h i =
-    let r = member (codes ",\"reason\":") reason in
-    let l = member (codes ",\"last\":") last in
-    let n = member (codes ",\"notes\":") notes in
-    let v = member (codes ",\"version\":") version in
-    let k = member (codes ",\"canonical\":") canonical in
-    let t = member (codes ",\"text\":") shown in
-    let o = member (codes ",\"body\":") body in
-    i ∙ ap (λ (bs : List ℕ). bs ++ codes "}\n")
-    (h ∙ ap (λ (bs : List ℕ). bs ++ o)
-    (g ∙ ap (λ (bs : List ℕ). bs ++ t)
-    (f ∙ ap (λ (bs : List ℕ). bs ++ k)
-    (e ∙ ap (λ (bs : List ℕ). bs ++ v)
-    (d ∙ ap (λ (bs : List ℕ). bs ++ n) (c ∙ ap (λ (bs : List ℕ). bs ++ l) (b ∙ ap (λ (bs : List ℕ). bs ++ r) a)))))))
-    ∙ last_parts old (codes ",\"word\":\"") word (codes "\"") r l n v k t o (codes "}\n")
+    rw (i, h, g, f, e, d, c, b, a) (simp append_assoc)
 
 -- ---- a whole line: the members between those that other commands have too
 

@@ -1,5 +1,5 @@
 -- What `replay` of a part gives for a record, and over all records.
-use Rattle.lsp_replay.proofs.Prelude.{◌≡◌, ◌≢◌, ℕ, Bool, true, false, List, [], ◌∷◌, Option, Some, None, bytes_eq, refl, sym, ap, ◌∙◌, Ok, not, ◌&&◌, ◌||◌, if◌then◌else◌, ends_so, DocumentItem, Outcome, Record, RunOutput, written_first, stopped, Session, Judged, Verdict, bad, counted, judge, session_outcome, RecordOutput, writes, ends, followed_by, opened_if, opened_in, Found, PartData, found_after, found_if, is_last, is_named, last_text_in, only, part_bytes, part_outcome, part_step, refreshed, replaying_part, text_found, with_ending, BodyData, body_read, closed_by, kept_after, open_read, output_in}
+use Rattle.lsp_replay.proofs.Prelude.{◌≡◌, ◌≢◌, ℕ, Bool, true, false, List, [], ◌∷◌, Option, Some, None, bytes_eq, refl, sym, ap, ◌∙◌, Ok, not, ◌&&◌, ◌||◌, if◌then◌else◌, ends_so, DocumentItem, Outcome, Record, RunOutput, written_first, stopped, Session, Judged, Verdict, bad, counted, judge, session_outcome, RecordOutput, followed_by, opened_if, opened_in, Found, PartData, found_after, found_if, is_last, is_named, last_text_in, only, part_bytes, part_outcome, part_step, refreshed, replaying_part, text_found, with_ending, BodyData, body_read, closed_by, kept_after, open_read, output_in}
 use Rattle.lsp_replay.proofs.Records.BodyLemmas.{judged_at}
 use Rattle.lsp_replay.proofs.Records.OutputLemmas.{output_after, unless_not}
 use Rattle.lsp_replay.proofs.Reports.KeptLemmas.{kept_over}
@@ -26,22 +26,13 @@ module _ (part : PartData) (old : Found) (s : Session) (r : Record) (t : Session
   pub part_continues : (bytes : List ℕ) → bytes ≡ [] → is_last part.at t.records ≡ false → (more : List Record)
       → output_in (replaying_part part) old s (r ∷ more)
       ≡ written_first bytes (output_in (replaying_part part) new t more)
-  part_continues bytes empty other more =
-      goes more
-      ∙ ap (λ (b : Bool). step_with (if b then ends (part_bytes part.uri (text_found new) t.server.table)
-      (Ok (part_outcome part.uri (text_found new) (session_outcome t))) else writes []) new t more) other
-      ∙ ap (λ (b : List ℕ). written_first b (output_in (replaying_part part) new t more)) (sym empty)
+  part_continues bytes empty other more = goes more ∙ rw (other, empty) refl
 
   pub part_ends : (bytes : List ℕ) (outcome : Outcome) → is_last part.at t.records ≡ true
       → bytes ≡ part_bytes part.uri (text_found new) t.server.table
       → outcome ≡ part_outcome part.uri (text_found new) (session_outcome t)
       → (more : List Record) → output_in (replaying_part part) old s (r ∷ more) ≡ stopped bytes (Ok outcome)
-  part_ends bytes outcome here bytes_are outcome_is more =
-      goes more
-      ∙ ap (λ (b : Bool). step_with (if b then ends (part_bytes part.uri (text_found new) t.server.table)
-      (Ok (part_outcome part.uri (text_found new) (session_outcome t))) else writes []) new t more) here
-      ∙ ap (λ (o : Outcome). stopped (part_bytes part.uri (text_found new) t.server.table) (Ok o)) (sym outcome_is)
-      ∙ ap (λ (b : List ℕ). stopped b (Ok outcome)) (sym bytes_are)
+  part_ends bytes outcome here bytes_are outcome_is more = goes more ∙ rw (here, bytes_are, outcome_is) refl
 
 -- ---- the document that is found, by the text that was kept
 

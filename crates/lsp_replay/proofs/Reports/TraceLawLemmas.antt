@@ -1,5 +1,5 @@
 -- `trace` beside `check` and `replay`.
-use Rattle.lsp_replay.proofs.Prelude.{◌≡◌, ℕ, Bool, true, false, List, [], ◌∷◌, ◌++◌, Option, Some, None, refl, sym, ap, ◌∙◌, Err, ◌&&◌, codes, decimal, flat_map, if◌then◌else◌, option_map, bytes_eq-Decides, reading, DocumentItem, ErrorCode, ParseError, InvalidRequest, MethodNotFound, InvalidParams, ServerNotInitialized, entry_at, reply, changed, dropped, ignored, refused, exits, already_ended, IncomingData, incoming_of, BadLog, Record, Details, RunOutput, written_first, canonical_of_record, check_line, checking, code_word, followed_by, log_config, replaying, report_from, unless_bad, verdict_word, writes, run_output_in, Session, Verdict, answered, has_changed, recorded, bad, opened, Judged, judge, Known, known_after, nothing_known, uri_of, is_renamed, last_in, notes_of, body_json, document_after, first_members, id_json, id_of, is_json, json_string, last_members, member, method_of, notes_json, reason_json, side_word, text_json, trace_line, tracing, version_json, within, Line, TraceLaw, checked_line, is_document, traced_line, written_text, output_in, lines}
+use Rattle.lsp_replay.proofs.Prelude.{◌≡◌, ℕ, Bool, true, false, List, [], ◌∷◌, ◌++◌, Option, Some, None, refl, sym, ap, ◌∙◌, Err, ◌&&◌, codes, decimal, flat_map, if◌then◌else◌, option_map, bytes_eq-Decides, reading, DocumentItem, ErrorCode, ParseError, entry_at, reply, IncomingData, incoming_of, BadLog, Record, Details, RunOutput, written_first, canonical_of_record, check_line, checking, code_word, followed_by, log_config, replaying, report_from, unless_bad, verdict_word, writes, run_output_in, Session, Verdict, answered, has_changed, bad, opened, Judged, judge, Known, known_after, nothing_known, uri_of, is_renamed, last_in, notes_of, body_json, document_after, id_json, id_of, is_json, json_string, member, method_of, notes_json, reason_json, side_word, text_json, trace_line, tracing, version_json, within, Line, TraceLaw, checked_line, is_document, traced_line, written_text, output_in, lines}
 use Rattle.std.specs.Str.{bytes_eq}
 use Rattle.lsp_replay.proofs.Reports.MemberLemmas.{line_parts}
 use Rattle.lsp_replay.proofs.Records.TableLemmas.{record_keeps}
@@ -58,16 +58,8 @@ module _ (details : Details) (known : Known) (s : Session) (r : Record) (m : Inc
 
   line_of_trace : trace_line details known s r j m ≡ traced_line line_of
   line_of_trace =
-      ap (λ (t : Option (List ℕ)). first_members j.session.records r.head m ++ (codes ",\"word\":\""
-      ++ verdict_word j.verdict ++ codes "\"" ++ last_members (
-      (codes ",\"reason\":", reason_json j.session.server.config.limits m (is_renamed known uri j.verdict) j.verdict)
-      ∷ (codes ",\"last\":", option_map decimal (last_in known uri j.verdict))
-      ∷ (codes ",\"notes\":", notes_json (notes_of s known.ranged r.body j.verdict))
-      ∷ (codes ",\"version\":", version_json document)
-      ∷ (codes ",\"canonical\":", within s.server.config.limits.max_body (canonical_of_record s r.body j.verdict))
-      ∷ (codes ",\"text\":", t) ∷ (codes ",\"body\":", body_json (details.bodies && is_json m) r.body) ∷ [])))
-      (text_member (details.texts && has_changed j.verdict) document)
-      ∙ line_parts (codes "{\"number\":") (decimal j.session.records) (codes ",\"offset\":") (decimal r.head.place)
+      rw (text_member (details.texts && has_changed j.verdict) document)
+      (line_parts (codes "{\"number\":") (decimal j.session.records) (codes ",\"offset\":") (decimal r.head.place)
       (codes ",\"from\":\"") (side_word r.head.side) (codes "\"")
       (member (codes ",\"method\":") (option_map json_string (method_of m)))
       (member (codes ",\"id\":") (option_map id_json (id_of m)))
@@ -81,7 +73,7 @@ module _ (details : Details) (known : Known) (s : Session) (r : Record) (m : Inc
       (member (codes ",\"canonical\":")
       (within s.server.config.limits.max_body (canonical_of_record s r.body j.verdict)))
       (member (codes ",\"text\":") (option_map json_string text))
-      (member (codes ",\"body\":") (body_json (details.bodies && is_json m) r.body)) (codes "}\n")
+      (member (codes ",\"body\":") (body_json (details.bodies && is_json m) r.body)) (codes "}\n"))
 
 -- ---- the text after a record
 
@@ -89,12 +81,8 @@ word_changed : (verdict : Verdict) → bytes_eq (verdict_word verdict) (codes "c
 word_changed (answered (reply m)) = by m.code
   where
     by : (code : Option ErrorCode) → bytes_eq (code_word code) (codes "changed") ≡ false
-    by None = refl
     by (Some ParseError) = refl
-    by (Some InvalidRequest) = refl
-    by (Some MethodNotFound) = refl
-    by (Some InvalidParams) = refl
-    by (Some ServerNotInitialized) = refl
+    by _ = refl
 word_changed _ = refl
 
 abbrev text_in : List DocumentItem → List ℕ → Option (List ℕ)
@@ -189,8 +177,7 @@ module _ (details : Details) (known : Known) (s : Session) (r : Record) where
     checked = refl;
     texts = λ asked none. absurd (let wrong : Some (Err (BadLog r.head.place)) ≡ None = none in cc);
   }
-  by_verdict recorded is c d e beside = goes c d e beside
-  by_verdict (answered answer) is c d e beside = goes c d e beside
+  by_verdict _ is c d e beside = goes c d e beside
 
 trace_beside : (details : Details) (known : Known) (s : Session) (rs : List Record)
     → Beside details s (output_in (lines (tracing details)) known s rs) (run_output_in checking s rs)

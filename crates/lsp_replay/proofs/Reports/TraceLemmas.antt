@@ -1,31 +1,16 @@
 -- A line of `trace`, as it is written.
-use Rattle.lsp_replay.proofs.Prelude.{◌≡◌, ℕ, Bool, true, false, List, [], ◌++◌, length, le-ltb, lt-ltb, Option, Some, None, refl, sym, ap, ◌∙◌, subst, if◌then◌else◌, Encoding, reading, as_sent, IncomingData, incoming_of, step_on, one_more, Version, Sender, Client, Server, Record, Details, Facts, Appended, Body, TooLong, Canonical, canonical_of_record, Known, is_renamed, uri_of, Session, bad, Judged, judged, judge, judge_from, judge_client, judge_server, encoding_for, handled, is_ended, is_early, first_members, is_json, trace_line, within, AreFacts, canonical_json, members_by, IsAppended}
+use Rattle.lsp_replay.proofs.Prelude.{◌≡◌, ℕ, Bool, List, [], ◌++◌, length, le-ltb, lt-ltb, Option, Some, None, refl, sym, ap, ◌∙◌, subst, reading, IncomingData, incoming_of, one_more, Version, Sender, Client, Server, Record, Details, Facts, Appended, Body, TooLong, Canonical, canonical_of_record, Known, is_renamed, uri_of, Session, judge, judge_from, encoding_for, first_members, is_json, trace_line, within, AreFacts, canonical_json, members_by, IsAppended}
+use Rattle.lsp_replay.proofs.Records.JudgeLemmas.{of_incoming, of_server}
 use Rattle.lsp_replay.proofs.Reports.ReasonLemmas.{reason_at}
 
 -- ---- one record more was judged
 
-either : (b : Bool) (x y : Judged) (n : ℕ) → x.session.records ≡ n → y.session.records ≡ n
-    → (if b then x else y).session.records ≡ n
-either true x y n p q = p
-either false x y n p q = q
-
-of_server : (s : Session) (announced : Option (Option Encoding)) → (judge_server s announced).session.records
-    ≡ s.records
-of_server s (Some None) = refl
-of_server s _ = refl
-
-of_incoming : (s : Session) (version : Version) (m : IncomingData) → (judge_client s version m).session.records
-    ≡ s.records
-of_incoming s version m =
-    let step = step_on s.server m in
-    either (is_ended s.server.phase) (judged bad s) (if is_early s m then judged bad s else handled s version m
-    step.state (as_sent step.answer)) s.records refl
-    (either (is_early s m) (judged bad s) (handled s version m step.state (as_sent step.answer)) s.records refl refl)
-
 of_body : (s : Session) (version : Version) (side : Sender) (body : List ℕ)
     → (judge_from s version side body).session.records ≡ s.records
-of_body s version Client body = of_incoming s version (incoming_of (reading body))
-of_body s version Server body = of_server s (encoding_for s.expected (reading body))
+of_body s version Client body =
+    of_incoming (λ j. j.session.records ≡ s.records) s version (incoming_of (reading body)) refl refl
+of_body s version Server body =
+    of_server (λ j. j.session.records ≡ s.records) s refl refl (λ encoding. refl) (encoding_for s.expected (reading body))
 
 pub one_more_record : (s : Session) (r : Record) → (judge s r).session.records ≡ one_more s.records
 one_more_record s r = ap one_more (of_body s r.head.version r.head.side r.body)

@@ -1,5 +1,5 @@
 -- A change that is accepted is joined to the batches of the open series, or begins batches of its own.
-use Rattle.lsp_replay.proofs.Prelude.{◌≡◌, ◌≢◌, ℕ, true, false, List, [], ◌∷◌, map, Option, Some, None, bytes_eq, refl, sym, ap, ◌∙◌, subst, ⊎_elim, cases_Bool, bytes_eq-Decides, units_in, Encoding, IdData, DocumentItem, ChangeData, SquashData, HasReached, IsSquashAfter, squash_of, after_is, changed, Phase, New, Running, Down, Ended, did_change, ServerData, content_change_from_data, session_encoding, Version, Session, answered, judge_client, IsOpenIn, IsLonger, IsBegun, refusal_of, server_after, accepted_if}
+use Rattle.lsp_replay.proofs.Prelude.{◌≡◌, ◌≢◌, ℕ, false, List, [], ◌∷◌, map, Option, Some, None, bytes_eq, refl, sym, ap, ◌∙◌, subst, cases_Bool, bytes_eq-Decides, units_in, Encoding, IdData, DocumentItem, ChangeData, SquashData, HasReached, IsSquashAfter, squash_of, after_is, changed, Phase, New, Running, Down, Ended, did_change, ServerData, content_change_from_data, session_encoding, Version, Session, answered, judge_client, IsOpenIn, IsLonger, IsBegun, refusal_of, server_after, accepted_if, arith, common_steps}
 use Rattle.lsp_store.specs.Table.{changed as changed_entry, entry_at}
 use Rattle.lsp_store.proofs.LawLemmas.{found_changed}
 
@@ -16,9 +16,7 @@ running_leaves s version p running none may = rw (running, none, may) refl
 
 -- URIs that aren't equal
 pub not_same : (a b : List ℕ) → b ≢ a → bytes_eq a b ≡ false
-not_same a b not =
-    ⊎_elim (λ (is : bytes_eq a b ≡ true). absurd (not (sym ((bytes_eq-Decides a b).0 is))))
-    (λ (differ : bytes_eq a b ≡ false). differ) (cases_Bool (bytes_eq a b))
+not_same a b not = grind (arith, common_steps, cases_Bool, bytes_eq-Decides)
 
 -- a change that is not accepted for the phase or for its encoding
 module _ (s : Session) (version : Version) (p : ChangeData) where
@@ -49,13 +47,7 @@ pub uri_at : (table : List DocumentItem) (uri : List ℕ) (entry : DocumentItem)
     → entry.uri ≡ uri
 uri_at [] uri entry found = absurd (let wrong : None ≡ Some entry = found in cc)
 uri_at (first ∷ table) uri entry found =
-    ⊎_elim
-    (λ (is : bytes_eq uri first.uri ≡ true).
-    let at : Some first ≡ Some entry = rw is at found in
-    let same : first ≡ entry = cc in
-    ap (λ (e : DocumentItem). e.uri) (sym same) ∙ sym ((bytes_eq-Decides uri first.uri).0 is))
-    (λ (not : bytes_eq uri first.uri ≡ false). uri_at table uri entry (rw not at found))
-    (cases_Bool (bytes_eq uri first.uri))
+    grind (arith, common_steps, cases_Bool, bytes_eq-Decides, (uri_at table uri entry))
 
 module _ (server : ServerData) (p : ChangeData) (entry : DocumentItem)
     (found : entry_at server.table p.uri ≡ Some entry) where

@@ -1,12 +1,12 @@
 -- A run that is open: what its batches make together of the document before it is the document that is open now.
-use Rattle.lsp_replay.proofs.Prelude.{◌≡◌, ℕ, ℤ, ◌≤◌, Bool, true, false, not, ◌&&◌, nat_lt, int_le, List, [], ◌∷◌, ◌++◌, map, length, bytes_eq, encode_utf8_all, IsUtf8, Some, None, Ok, refl, sym, ap, ◌∙◌, subst, arith, w32, FitsSigned, chars, leb-false, lt-leb, bytes_eq-Decides, chars-encodes, scalars-chars, AreInRange, units_in, ContentChange, meaning, canonical, then_items, plain_text, bytes_left, DocumentItem, ChangeData, entry_at, is_stale, meant_text, AreTexts, SquashData, items_meant, squash_batch, squash_of, Accepts, accepted_parts, scalar-meaning, scalar-text, IsWithin, ServerData, content_change_from_data, session_encoding, refusal_of, server_after, joined_by, common_steps}
+use Rattle.lsp_replay.proofs.Prelude.{◌≡◌, ℕ, ℤ, ◌≤◌, Bool, true, false, not, ◌&&◌, nat_lt, int_le, List, [], ◌∷◌, ◌++◌, map, length, bytes_eq, encode_utf8_all, IsUtf8, Some, None, Ok, refl, sym, ap, ◌∙◌, subst, arith, w32, FitsSigned, chars, leb-false, lt-leb, bytes_eq-Decides, chars-encodes, scalars-chars, AreInRange, units_in, ContentChange, meaning, canonical, then_items, plain_text, bytes_left, DocumentItem, ChangeData, entry_at, is_stale, meant_text, AreTexts, SquashData, squash_batch, squash_of, Accepts, accepted_parts, scalar-meaning, scalar-text, IsWithin, ServerData, content_change_from_data, session_encoding, refusal_of, server_after, joined_by, common_steps}
 use Rattle.std.proofs.Math.IntN.{pos, negsuc}
 use Rattle.lsp_edit.specs.Items.{Item, plain, text_of}
 use Rattle.lsp_edit.proofs.Batches.ComposeLemmas.{text_of-then, then_means}
 use Rattle.lsp_replay.proofs.Records.AskedLemmas.{IsProperAsked}
 use Rattle.lsp_replay.proofs.Squash.JoiningLemmas.{uri_at}
 use Rattle.lsp_replay.proofs.Records.PutLemmas.{put, change_puts, put_at, put_twice}
-use Rattle.lsp_replay.proofs.Canonical.CanonicalChangeLemmas.{IsProperAt, IsCanonicalChange, canonical_change, is_canonical_change}
+use Rattle.lsp_replay.proofs.Canonical.CanonicalChangeLemmas.{IsProperAt, IsCanonicalChange, canonical_change, is_canonical_change, joins_as}
 
 -- the squash with other items and another version
 abbrev pub with_items : SquashData → List Item → ℤ → SquashData
@@ -64,13 +64,11 @@ module _ (t : ServerData) (p : ChangeData) (entry : DocumentItem) (found : entry
 
   begun_items : begun_squash.items ≡ begun_accepts.items
   begun_items =
-      ap (λ x. then_items (plain (chars entry.text))
-      (items_meant (meaning (units_in (session_encoding t)) x (map content_change_from_data p.changes))))
-      (plain_text (chars entry.text))
-      ∙ ap (λ m. then_items (plain (chars entry.text)) (items_meant m)) begun_accepts.means
+      ap (λ (k : SquashData). k.items) (joins_as p (squash_of t.config.limits (session_encoding t) entry)
+      (session_encoding t) (chars entry.text) begun_accepts.items refl (plain_text (chars entry.text))
+      begun_accepts.means)
       ∙ plain_then (units_in (session_encoding t)) (chars entry.text) (map content_change_from_data p.changes)
-      begun_accepts.items
-      begun_accepts.means
+      begun_accepts.items begun_accepts.means
 
   same_uri : entry.uri ≡ p.uri
   same_uri = uri_at t.table p.uri entry found
@@ -151,15 +149,11 @@ module _ (t : ServerData) (squash : SquashData) (now : ServerData) (from : IsOpe
   abbrev longer_squash : SquashData
   longer_squash = joined_by p squash
 
-  items_in : (k : SquashData) → k ≡ squash
-      → items_meant (meaning (units_in k.encoding) (text_of (chars k.text) squash.items)
-      (map content_change_from_data p.changes))
-      ≡ items_meant (meaning (units_in squash.encoding) (text_of (chars squash.text) squash.items)
-      (map content_change_from_data p.changes))
-  items_in k e = grind (arith, common_steps)
-
   longer_items : longer_squash.items ≡ then_items squash.items accepts_now.items
-  longer_items = grind (arith, common_steps, items_in, means_now)
+  longer_items =
+      ap (λ (k : SquashData). k.items) (joins_as p squash (session_encoding t)
+      (text_of (chars from.entry.text) squash.items) accepts_now.items (ap (λ (k : SquashData). k.encoding) from.is)
+      (ap (λ (k : SquashData). text_of (chars k.text) squash.items) from.is) means_now)
 
   left_now : bytes_left reached_text accepts_now.items ≡ bytes_left from.entry.text longer_squash.items
   left_now =

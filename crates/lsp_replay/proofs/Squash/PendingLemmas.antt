@@ -1,10 +1,11 @@
 -- The open series of a log that is squashed, and the records that are written of it.
-use Rattle.lsp_replay.proofs.Prelude.{◌≡◌, ◌≢◌, ℕ, ◌≤◌, Bool, true, false, nat_lt, List, [], ◌∷◌, ◌++◌, length, Option, Some, None, refl, sym, ap, ◌∙◌, subst, arith, append_assoc, append-nil, bytes_eq, if◌then◌else◌, ltb-false, place_after, frame, LimitsData, AreInRange, written_is_frame, reading, DocumentItem, ChangeData, change_body, SquashData, squash_batch, squash_body, squash_of, squash_refusal, Refusal, entry_at, Running, incoming_of, changed, ServerData, session_encoding, Version, Client, Record, AreRecords, together, mark_of, due_after, written_first, replaying, front_of, line_if, canonical_change_body, run_output_in, server_after, Session, answered, bad, judge, OpenSeries, change_output, end_bytes, joined_by, longer, open_bytes, squash_step, squashed_in, common_steps}
+use Rattle.lsp_replay.proofs.Prelude.{◌≡◌, ◌≢◌, ℕ, ◌≤◌, Bool, true, false, nat_lt, List, [], ◌∷◌, ◌++◌, length, Option, Some, None, refl, sym, ap, ◌∙◌, subst, arith, append_assoc, append-nil, bytes_eq, if◌then◌else◌, ltb-false, place_after, frame, LimitsData, AreInRange, written_is_frame, reading, DocumentItem, ChangeData, change_body, SquashData, squash_batch, squash_body, squash_of, squash_refusal, Refusal, entry_at, Running, incoming_of, changed, ServerData, session_encoding, Version, Client, Record, AreRecords, together, mark_of, due_after, written_first, replaying, front_of, line_if, canonical_change_body, run_output_in, Session, answered, bad, judge, OpenSeries, change_output, end_bytes, joined_by, longer, open_bytes, squash_step, squashed_in, common_steps}
 use Rattle.lsp_replay.proofs.Canonical.CanonicalChangeLemmas.{IsCanonicalChange, canonical_at, canonical_change}
 use Rattle.lsp_replay.proofs.Records.ChangeLemmas.{IsAccepted, IsDone, is_done}
 use Rattle.lsp_replay.proofs.Records.NumberedLemmas.{IsAlike, alike_both}
 use Rattle.lsp_replay.proofs.Squash.OpenSeriesLemmas.{IsOpenFrom, one_batch, one_message, one_joins}
-use Rattle.lsp_replay.proofs.Squash.SquashLawLemmas.{IsEnded, IsApart, NonEmpty, first_line, report_on, step_on}
+use Rattle.lsp_replay.proofs.Canonical.NormalisedLemmas.{first_line}
+use Rattle.lsp_replay.proofs.Squash.SquashLawLemmas.{IsEnded, IsApart, NonEmpty, report_on, step_on}
 use Rattle.lsp_replay.proofs.Squash.SquashingLemmas.{step_changed}
 
 -- The records that are written of an open series, if it isn't written as one message: they lead to the same series.
@@ -75,7 +76,7 @@ module _ (t : Session) (before : Option OpenSeries) (q : Record) (p : ChangeData
 
 -- ---- no series is open
 
-pub none_ended : (max_body at : ℕ) (version : Version) (due : Bool) (s t : Session) → IsAlike s t
+abbrev pub none_ended : (max_body at : ℕ) (version : Version) (due : Bool) (s t : Session) → IsAlike s t
     → IsEnded max_body at version due s None t None
 none_ended max_body at version due s t like = record {
   us = [];
@@ -90,11 +91,6 @@ none_ended max_body at version due s t like = record {
   run_output = λ more. refl;
   replay = λ more. refl;
 }
-
-pub none_after : (max_body at : ℕ) (version : Version) (due : Bool) (s t : Session) (like : IsAlike s t)
-    → due_after due (none_ended max_body at version due s t like).us ≡ due
-unfolding none_ended
-none_after max_body at version due s t like = refl
 
 -- ---- the series ends
 
@@ -198,28 +194,14 @@ module _ (limits : LimitsData) (ranges : AreInRange limits) (at : ℕ) (version 
     joins : one_series.squash ≡ series.squash
     joins = one_joins t.server series.squash s.server p.from here few
 
-    step : squash_step t before one (judge t one) ≡ record {
-      out = end_bytes before;
-      end = None;
-      series = Some
-          one_series;
-    }
-    step = begun_step t before one change accepted done short entry p.from.found p.apart
-
     same_front : front ≡ series.front
     same_front = front_is t before one change accepted done short version refl ∙ sym p.front
-
-    leaves : server_after t.server change ≡ s.server
-    leaves = message.leaves ∙ sym p.from.now_is
 
     same_end : end_bytes (Some one_series) ≡ open_bytes series
     same_end =
         ap (λ (k : SquashData). open_bytes (record { front = front; singles = one_series.singles; squash = k })) joins
         ∙ ap (λ f. open_bytes (record { front = f; singles = one_series.singles; squash = series.squash })) same_front
         ∙ rw is refl
-
-    one_written : open_bytes series ≡ series.front ++ frame body
-    one_written = rw is refl
 
     as_one : IsEnded limits.max_body at version due s (Some series) t before
     as_one = record {
@@ -228,8 +210,8 @@ module _ (limits : LimitsData) (ranges : AreInRange limits) (at : ℕ) (version 
       last_series = Some one_series;
       like =
           alike_both (record t { server = s.server }) s (judge t one).session p.like
-          (subst (λ (server : ServerData). IsAlike (record t { server = server }) (judge t one).session) leaves
-          done.leaves);
+          (subst (λ (server : ServerData). IsAlike (record t { server = server }) (judge t one).session)
+          (message.leaves ∙ sym p.from.now_is) done.leaves);
       some = λ _. tt;
       same_bytes = same_end;
       apart = λ uri apart. ap (λ (k : SquashData). bytes_eq uri k.uri) joins ∙ apart;
@@ -244,10 +226,11 @@ module _ (limits : LimitsData) (ranges : AreInRange limits) (at : ℕ) (version 
         tt,
       );
       bytes =
-          one_written ∙ ap (λ f. f ++ frame body) p.front ∙ append_assoc (line_if due) (mark_of version Client)
+          rw is (ap (λ f. f ++ frame body) p.front ∙ append_assoc (line_if due) (mark_of version Client)
           (frame body)
-          ∙ ap (λ z. line_if due ++ z) (sym (append-nil (mark_of version Client ++ frame body)));
-      run_output = λ more. step_on t before one more (end_bytes before) (Some one_series) step;
+          ∙ ap (λ z. line_if due ++ z) (sym (append-nil (mark_of version Client ++ frame body))));
+      run_output = λ more. step_on t before one more (end_bytes before) (Some one_series)
+          (begun_step t before one change accepted done short entry p.from.found p.apart);
       replay = λ more. report_on t one more (not_bad t before one change accepted done short);
     }
 

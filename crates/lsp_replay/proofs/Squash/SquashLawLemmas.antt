@@ -1,6 +1,7 @@
 -- What `normalise` writes of a log with squash: a log of which `replay` reports the same documents, and of which the
 -- same is written.
 use Rattle.lsp_replay.proofs.Prelude.{◌≡◌, ◌≢◌, ℕ, ◌+◌, Bool, false, List, [], ◌∷◌, ◌++◌, length, Option, Some, None, refl, sym, ap, ◌∙◌, subst, arith, append_assoc, append-nil, bytes_eq, ⊤, length-append, Version, Record, IsRecord, AreRecords, together, record_bytes, mark_of, due_after, RunOutput, written_first, writes, followed_by, replaying, line_if, run_output_in, Session, bad, judge, OpenSeries, Step, end_bytes, squash_step, squashed_in, common_steps}
+use Rattle.lsp_replay.proofs.Canonical.NormalisedLemmas.{first_line, no_line}
 use Rattle.lsp_replay.proofs.Records.NumberedLemmas.{IsAlike}
 
 -- all that is written of some records
@@ -35,18 +36,9 @@ are_more max_body version place due (r ∷ rs) more each also = (
     later [] = refl
     later (q ∷ rs) = refl
 
--- what stands in front of the first record, if there is one
-abbrev pub first_line : Bool → List Record → List ℕ
-first_line due [] = []
-first_line due (r ∷ rs) = line_if due
-
 abbrev pub NonEmpty : List Record → Type 0
 NonEmpty [] = ⊥
 NonEmpty (r ∷ rs) = ⊤
-
-no_line : (rs : List Record) → first_line false rs ≡ []
-no_line [] = refl
-no_line (r ∷ rs) = refl
 
 -- ---- a course, a step at a time
 
@@ -62,6 +54,23 @@ step_on s series r rs out next is =
 pub report_on : (s : Session) (r : Record) (rs : List Record) → (judge s r).verdict ≢ bad
     → run_output_in replaying s (r ∷ rs) ≡ run_output_in replaying (judge s r).session rs
 report_on s r rs not_bad = grind (arith, common_steps)
+
+-- `replay` reports the same documents, with the same status and as many refusals.
+pub record IsReportedAs (c d : RunOutput) : Type 0 where
+  pub documents : (line_due : Bool) → c.last line_due ≡ d.last line_due
+  pub status : c.outcome.status ≡ d.outcome.status
+  pub refused : c.outcome.refused ≡ d.outcome.refused
+
+pub reported_by : (a b c d : RunOutput) → a ≡ c → b ≡ d → IsReportedAs c d → IsReportedAs a b
+reported_by a b c d e f is = subst (λ (x : RunOutput). IsReportedAs x b) (sym e) (subst (IsReportedAs c) (sym f) is)
+
+pub reported_end : (s t : Session) → IsAlike s t
+    → IsReportedAs (run_output_in replaying t []) (run_output_in replaying s [])
+reported_end s t like = record {
+  documents = λ line_due. ap (λ (u : Session). (run_output_in replaying u []).last line_due) like.2;
+  status = ap (λ (u : Session). (run_output_in replaying u []).outcome.status) like.2;
+  refused = ap (λ (u : Session). (run_output_in replaying u []).outcome.refused) like.2;
+}
 
 -- no series is open, or one of a document with another URI
 abbrev pub IsApart : Option OpenSeries → List ℕ → Type 0
@@ -110,11 +119,8 @@ pub record IsSquashedAs (max_body at : ℕ) (version : Version) (due : Bool) (s 
   pub bytes : total (squashed_in s series rs) ≡ first_line due qs ++ together version qs []
   pub again : total (squashed_in t before qs) ≡ end_bytes before ++ total (squashed_in s series rs)
   pub continues : (squashed_in t before qs).stop ≡ None
-  pub documents : (line_due : Bool) → (run_output_in replaying t qs).last line_due ≡ (run_output_in replaying s rs).last
-      line_due
   pub to_end : (run_output_in replaying t qs).stop ≡ None
-  pub status : (run_output_in replaying t qs).outcome.status ≡ (run_output_in replaying s rs).outcome.status
-  pub refused : (run_output_in replaying t qs).outcome.refused ≡ (run_output_in replaying s rs).outcome.refused
+  pub reported : IsReportedAs (run_output_in replaying t qs) (run_output_in replaying s rs)
 
 module _ (max_body at : ℕ) (version : Version) (due : Bool) (s : Session) (series : Option OpenSeries) (t : Session)
     (before : Option OpenSeries) (e : IsEnded max_body at version due s series t before) where
@@ -133,13 +139,8 @@ module _ (max_body at : ℕ) (version : Version) (due : Bool) (s : Session) (ser
             ap total run_output ∙ ap (λ z. (end_bytes before ++ []) ++ (z ++ [])) e.same_bytes
             ∙ ap (λ z. z ++ (end_bytes series ++ [])) (append-nil (end_bytes before));
         continues = ap (λ (c : RunOutput). c.stop) run_output;
-        documents = λ line_due. ap (λ (c : RunOutput). c.last line_due) replay
-            ∙ ap (λ (u : Session). (run_output_in replaying u []).last line_due) e.like.2;
         to_end = ap (λ (c : RunOutput). c.stop) replay;
-        status = ap (λ (c : RunOutput). c.outcome.status) replay
-            ∙ ap (λ (u : Session). (run_output_in replaying u []).outcome.status) e.like.2;
-        refused = ap (λ (c : RunOutput). c.outcome.refused) replay
-            ∙ ap (λ (u : Session). (run_output_in replaying u []).outcome.refused) e.like.2;
+        reported = reported_by _ _ _ _ replay refl (reported_end s e.last e.like);
       }
 
   -- The series ends, and others follow that begin with what ends it.
@@ -151,12 +152,8 @@ module _ (max_body at : ℕ) (version : Version) (due : Bool) (s : Session) (ser
       }) (not_bad : (judge s r).verdict ≢ bad)
       (any : IsAny next rs) (more : IsSquashedAs max_body (at + length (together version e.us [])) version
       (due_after due e.us) (judge s r).session next rs e.last e.last_series) where
-    first : squashed_in s series (r ∷ rs) ≡ written_first (end_bytes series) (squashed_in (judge s r).session next rs)
-    first = step_on s series r rs (end_bytes series) next goes
-
     pub begins_next : IsSquashedAs max_body at version due s series (r ∷ rs) t before
     begins_next =
-        let inner = squashed_in (judge s r).session next rs in
         record {
           qs = e.us ++ more.qs;
           some = λ _. some_behind e.us more.qs (more.some any);
@@ -164,13 +161,8 @@ module _ (max_body at : ℕ) (version : Version) (due : Bool) (s : Session) (ser
           bytes = grind (arith, common_steps, append_assoc, swap);
           again = grind (arith, common_steps, append_assoc);
           continues = ap (λ (c : RunOutput). c.stop) (e.run_output more.qs) ∙ more.continues;
-          documents = λ line_due. ap (λ (c : RunOutput). c.last line_due) (e.replay more.qs) ∙ more.documents line_due
-              ∙ sym (ap (λ (c : RunOutput). c.last line_due) (report_on s r rs not_bad));
           to_end = ap (λ (c : RunOutput). c.stop) (e.replay more.qs) ∙ more.to_end;
-          status = ap (λ (c : RunOutput). c.outcome.status) (e.replay more.qs) ∙ more.status
-              ∙ sym (ap (λ (c : RunOutput). c.outcome.status) (report_on s r rs not_bad));
-          refused = ap (λ (c : RunOutput). c.outcome.refused) (e.replay more.qs) ∙ more.refused
-              ∙ sym (ap (λ (c : RunOutput). c.outcome.refused) (report_on s r rs not_bad));
+          reported = reported_by _ _ _ _ (e.replay more.qs) (report_on s r rs not_bad) more.reported;
         }
       where
         -- the line is due once
@@ -195,10 +187,6 @@ module _ (max_body at : ℕ) (version : Version) (due : Bool) (s : Session) (ser
       }) (again_not_bad : (judge e.last q).verdict ≢ bad)
       (more : IsSquashedAs max_body (at + length (together version e.us []) + length (record_bytes version q)) version
       false (judge s r).session None rs (judge e.last q).session None) where
-    one : squashed_in s series (r ∷ rs) ≡ written_first (end_bytes series ++ (front ++ q.raw))
-        (squashed_in (judge s r).session None rs)
-    one = step_on s series r rs (end_bytes series ++ (front ++ q.raw)) None goes
-
     again_one : squashed_in t before (e.us ++ q ∷ more.qs) ≡ written_first (end_bytes before)
         (written_first (end_bytes e.last_series ++ (front ++ q.raw)) (squashed_in (judge e.last q).session None
         more.qs))
@@ -208,12 +196,6 @@ module _ (max_body at : ℕ) (version : Version) (due : Bool) (s : Session) (ser
     replay_one : run_output_in replaying t (e.us ++ q ∷ more.qs) ≡ run_output_in replaying (judge e.last q).session
         more.qs
     replay_one = e.replay (q ∷ more.qs) ∙ report_on e.last q more.qs again_not_bad
-
-    abbrev written : List ℕ
-    written = end_bytes series ++ (front ++ q.raw)
-
-    abbrev inner : RunOutput
-    inner = squashed_in (judge s r).session None rs
 
     -- its bytes, behind those of the series
     placed_bytes : (us : List Record) (line : List ℕ) → line ≡ line_if (due_after due us)
@@ -240,13 +222,8 @@ module _ (max_body at : ℕ) (version : Version) (due : Bool) (s : Session) (ser
       bytes = one_bytes;
       again = one_again;
       continues = ap (λ (c : RunOutput). c.stop) again_one ∙ more.continues;
-      documents = λ line_due. ap (λ (c : RunOutput). c.last line_due) replay_one ∙ more.documents line_due
-          ∙ sym (ap (λ (c : RunOutput). c.last line_due) (report_on s r rs not_bad));
       to_end = ap (λ (c : RunOutput). c.stop) replay_one ∙ more.to_end;
-      status = ap (λ (c : RunOutput). c.outcome.status) replay_one ∙ more.status
-          ∙ sym (ap (λ (c : RunOutput). c.outcome.status) (report_on s r rs not_bad));
-      refused = ap (λ (c : RunOutput). c.outcome.refused) replay_one ∙ more.refused
-          ∙ sym (ap (λ (c : RunOutput). c.outcome.refused) (report_on s r rs not_bad));
+      reported = reported_by _ _ _ _ replay_one (report_on s r rs not_bad) more.reported;
     }
 
 -- A record that goes on with the series.
@@ -258,7 +235,6 @@ pub goes_on_next : (max_body at : ℕ) (version : Version) (due : Bool) (s : Ses
     series (r ∷ rs) t before
 goes_on_next max_body at version due s series t before next r rs writes not_bad any more =
     let first = step_on s series r rs [] next writes in
-    let error = report_on s r rs not_bad in
     record {
       qs = more.qs;
       some = λ _. more.some any;
@@ -266,8 +242,6 @@ goes_on_next max_body at version due s series t before next r rs writes not_bad 
       bytes = ap total first ∙ more.bytes;
       again = more.again ∙ ap (λ z. end_bytes before ++ z) (sym (ap total first));
       continues = more.continues;
-      documents = λ line_due. more.documents line_due ∙ sym (ap (λ (c : RunOutput). c.last line_due) error);
       to_end = more.to_end;
-      status = more.status ∙ sym (ap (λ (c : RunOutput). c.outcome.status) error);
-      refused = more.refused ∙ sym (ap (λ (c : RunOutput). c.outcome.refused) error);
+      reported = reported_by _ _ _ _ refl (report_on s r rs not_bad) more.reported;
     }

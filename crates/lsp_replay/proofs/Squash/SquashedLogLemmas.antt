@@ -4,13 +4,13 @@ use Rattle.lsp_replay.proofs.Prelude.{◌≡◌, ◌≢◌, ℕ, ◌+◌, Bool, 
 use Rattle.lsp_replay.proofs.Squash.SeriesLemmas.{squashed_is}
 use Rattle.lsp_replay.proofs.Records.ChangeLemmas.{IsAccepted, IsOtherKind, IsChangeKind, kind_of, not_bad_of, was_accepted}
 use Rattle.lsp_replay.proofs.Records.JudgeLemmas.{judged_held}
-use Rattle.lsp_replay.proofs.Canonical.NormalisedLemmas.{canonical_record, went_on, version_is}
+use Rattle.lsp_replay.proofs.Canonical.NormalisedLemmas.{canonical_record, first_line, went_on, version_is}
 use Rattle.lsp_replay.proofs.Records.NumberedLemmas.{IsAlike, alike_self, judged_alike}
-use Rattle.lsp_replay.proofs.Squash.PendingLemmas.{IsPending, behind_some, none_after, none_ended, some_ended}
-use Rattle.lsp_replay.proofs.Squash.LongerLemmas.{IsLongerSeries, longer_series}
-use Rattle.lsp_replay.proofs.Squash.BegunLemmas.{IsBegunSeries, begun_series, same_server}
+use Rattle.lsp_replay.proofs.Squash.PendingLemmas.{IsPending, behind_some, none_ended, some_ended}
+use Rattle.lsp_replay.proofs.Squash.LongerLemmas.{longer_series}
+use Rattle.lsp_replay.proofs.Squash.BegunLemmas.{IsSeriesStep, begun_series, same_server}
 use Rattle.lsp_replay.proofs.Squash.SquashingLemmas.{step_other}
-use Rattle.lsp_replay.proofs.Squash.SquashLawLemmas.{IsApart, IsAny, IsEnded, IsSquashedAs, NonEmpty, at_end, begins_next, first_line, goes_on_next, others_next, report_on, total}
+use Rattle.lsp_replay.proofs.Squash.SquashLawLemmas.{IsApart, IsAny, IsEnded, IsSquashedAs, NonEmpty, at_end, begins_next, goes_on_next, others_next, report_on, total}
 use Rattle.lsp_replay.proofs.Records.StateLemmas.{IsHeldState}
 
 -- How far a log and what was written of it have come, between two records.
@@ -34,7 +34,7 @@ module _ (limits : LimitsData) (ranges : AreInRange limits) where
       subst (λ (b : Option OpenSeries). AllEnded limits.max_body at version due due_in s None t b) (sym is.0)
       (record {
         ended = none_ended limits.max_body at version due s t is.1;
-        same_due = sym is.2 ∙ sym (none_after limits.max_body at version due s t is.1);
+        same_due = sym is.2;
       })
   all_ended at version due due_in s (Some series) t before received is =
       let e = some_ended limits ranges at version due s series t before received.limit is.0 in
@@ -139,10 +139,11 @@ module _ (limits : LimitsData) (ranges : AreInRange limits) where
 
       begins : IsApart series p.uri → IsSquashedAs limits.max_body at version due s series (r ∷ rs) t before
       begins apart =
-          let b : IsBegunSeries limits.max_body next_at version (due_after due e.us) s series r e.last e.last_series =
-          begun_series limits ranges next_at version (due_after due e.us) s series e.last e.last_series r p e.like
-          is.of_version
-          apart (e.apart p.uri apart) received accepted kind.3 due_r in
+          let b : IsSeriesStep limits.max_body next_at version (due_after due e.us) s series r (end_bytes series) e.last
+          e.last_series =
+          subst (λ (u : Session). IsSeriesStep limits.max_body next_at version (due_after due e.us) s series r
+          (end_bytes series) u e.last_series) (sym e.like.2) (begun_series limits ranges next_at version (due_after due e.us) s series e.like.0
+          e.like.1 e.last_series r p is.of_version apart (e.apart p.uri apart) received accepted kind.3 due_r) in
           begins_next limits.max_body at version due s series t before e r rs (Some b.next) b.writes not_bad
           (any_some b.next rs)
           (rest next_at place (due_after due e.us) (Some b.next) e.last e.last_series held_last (b.pending, refl)
@@ -152,7 +153,7 @@ module _ (limits : LimitsData) (ranges : AreInRange limits) where
           ≡ true → IsPending limits.max_body at version due s before_series t before → due_in ≡ false
           → IsSquashedAs limits.max_body at version due s series (r ∷ rs) t before
       continues before_series is_series same pending not_due =
-          let l : IsLongerSeries limits.max_body at version due s before_series r t before =
+          let l : IsSeriesStep limits.max_body at version due s (Some before_series) r [] t before =
           longer_series limits ranges at version due s before_series t before r p pending is.of_version same received
           accepted
           kind.3 (is.due ∙ not_due) in
@@ -302,9 +303,9 @@ module _ (settings : Settings) (ranges : AreInRange settings.limits) (log : Log)
     };
     whole = refl;
     to_end = w.to_end;
-    documents = w.documents;
-    status = w.status;
-    refused = w.refused;
+    documents = w.reported.documents;
+    status = w.reported.status;
+    refused = w.reported.refused;
   }
 
   some_law : IsSquashedBy squashed_steps settings (r ∷ rs) bytes

@@ -1,5 +1,5 @@
 -- What a record gives with squash, by what is known of how it is written.
-use Rattle.lsp_replay.proofs.Prelude.{◌≡◌, ◌≢◌, ◌⊎◌, inl, inr, ◌∷◌, ℕ, ◌<◌, Bool, true, false, List, [], ◌++◌, length, Option, Some, None, refl, sym, ap, ◌∙◌, append_assoc, subst, nat_lt, le-ltb, lt-ltb, if◌then◌else◌, Err, frame, ChangeData, SquashData, reply, changed, dropped, ignored, already_ended, refused, exits, ServerData, Record, EngineFault, BadLog, BodyTooLong, NoMemory, followed_by, writes, stopped, IsRecordFault, after, reading, incoming_of, change_in, front_of, canonical_if, canonical_change_body, Session, Verdict, answered, recorded, bad, judge, IsSquashStep, OpenSeries, Squashing, Step, begun, change_output, end_bytes, faulty, longer, other_step, open_bytes, series_of, squash_step, squash_view, squashed_in, step_at, step_if, IsChange, IsLonger, IsOther, IsBegun}
+use Rattle.lsp_replay.proofs.Prelude.{◌≡◌, ◌≢◌, ◌∷◌, ℕ, ◌<◌, List, [], ◌++◌, length, Option, Some, None, refl, sym, ap, ◌∙◌, append_assoc, subst, le-ltb, lt-ltb, Err, frame, ChangeData, SquashData, changed, ServerData, Record, EngineFault, BadLog, BodyTooLong, followed_by, writes, stopped, after, reading, incoming_of, change_in, front_of, canonical_if, canonical_change_body, Session, Verdict, answered, recorded, bad, judge, IsSquashStep, OpenSeries, Squashing, Step, begun, change_output, end_bytes, faulty, longer, other_step, open_bytes, series_of, squash_step, squash_view, squashed_in, step_at, step_if, IsChange, IsLonger, IsOther, IsBegun}
 use Rattle.lsp_replay.proofs.Records.OutputLemmas.{output_after}
 
 -- any record but an accepted change
@@ -19,16 +19,8 @@ pub step_changed : (server : ServerData) (r : Record) (front canonical : List �
 step_changed server r front canonical series change verdict is =
     ap (λ (c : Option ChangeData). step_if server r front series c verdict) is.is
     ∙ ap (λ (v : Verdict). step_if server r front series (Some is.params) v) is.accepted
-    ∙ short (nat_lt server.config.limits.max_body (length (canonical_change_body server is.params)))
-    (le-ltb server.config.limits.max_body (length (canonical_change_body server is.params)) is.framed.within)
+    ∙ rw (le-ltb server.config.limits.max_body (length (canonical_change_body server is.params)) is.framed.within) refl
     ∙ ap (λ (c : List ℕ). change_output server is.params front (front ++ c) series) (sym is.framed.is)
-  where
-    short : (over : Bool) → over ≡ false
-        → (if over then faulty (BodyTooLong r.head.place) else change_output server is.params front
-        (front ++ frame (canonical_change_body server is.params)) series)
-        ≡ change_output server is.params front (front ++ frame (canonical_change_body server is.params)) series
-    short true e = absurd (let wrong : true ≡ false = e in cc)
-    short false e = refl
 
 pub step_too_long : (server : ServerData) (r : Record) (front : List ℕ) (series : Option OpenSeries) (change : Option
     ChangeData) (verdict : Verdict) (p : ChangeData) → change ≡ Some p → verdict ≡ answered changed
@@ -89,42 +81,11 @@ module _ (s : Session) (front singles : List ℕ) (series : Option SquashData) (
   abbrev its_front : List ℕ
   its_front = front_of r.head
 
-  gives_as_it_is : (out : List ℕ) → verdict ≢ bad → canonical_if s.server (change_in (incoming_of (reading r.body)))
-      verdict ≡ None → out ≡ end_bytes here ++ (its_front ++ r.raw)
-      → squash_step s here r (judge s r) ≡ record { out = out; end = None; series = None }
-  gives_as_it_is out not_bad none is =
-      ap (λ v. step_if s.server r its_front here (change_in (incoming_of (reading r.body))) v) (sym error)
-      ∙ step_other s.server r its_front here (change_in (incoming_of (reading r.body))) verdict not_bad none
-      ∙ ap (λ o. record { out = o; end = None; series = None }) (sym is)
-
   changes : (canonical : List ℕ) → (is : IsChange s.server (change_in (incoming_of (reading r.body))) verdict canonical)
       → squash_step s here r (judge s r) ≡ change_output s.server is.params its_front (its_front ++ canonical) here
   changes canonical is =
       ap (λ v. step_if s.server r its_front here (change_in (incoming_of (reading r.body))) v) (sym error)
       ∙ step_changed s.server r its_front canonical here (change_in (incoming_of (reading r.body))) verdict is
-
-  gives_more : (canonical : List ℕ) (batches : SquashData)
-      (is : IsChange s.server (change_in (incoming_of (reading r.body))) verdict canonical)
-      → IsLonger series is.params batches → squash_step s here r (judge s r) ≡ record {
-        out = [];
-        end = None;
-        series = series_of front (singles ++ (its_front ++ canonical)) (Some batches);
-      }
-  gives_more canonical batches is longer =
-      changes canonical is ∙ gives_longer s.server is.params its_front (its_front ++ canonical) front singles series
-      batches longer
-
-  gives_next : (canonical : List ℕ) (batches : SquashData)
-      (is : IsChange s.server (change_in (incoming_of (reading r.body))) verdict canonical) → IsOther series is.params
-      → IsBegun s.server is.params batches → squash_step s here r (judge s r) ≡ record {
-        out = end_bytes here;
-        end = None;
-        series = series_of its_front (its_front ++ canonical) (Some batches);
-      }
-  gives_next canonical batches is other begun =
-      changes canonical is ∙ gives_begun s.server is.params its_front (its_front ++ canonical) front singles series
-      batches
-      other begun
 
   pub told_bad : verdict ≡ bad → squash_step s here r (judge s r) ≡ faulty (BadLog r.head.place)
   told_bad is =
@@ -158,15 +119,16 @@ module _ (s : Session) (front singles : List ℕ) (series : Option SquashData) (
           }
       told_as_it_is ended same not_bad none series_out front_out out series_is front_is is batches closed last_front
           last_singles =
-          gives_as_it_is out not_bad none
-          (is ∙ ap (λ z. z ++ r.raw) (front_is ∙ ap (λ z. z ++ its_front) (ends ended series_out same series_is))
-          ∙ append_assoc (end_bytes here) its_front r.raw)
+          ap (λ v. step_if s.server r its_front here (change_in (incoming_of (reading r.body))) v) (sym error)
+          ∙ step_other s.server r its_front here (change_in (incoming_of (reading r.body))) verdict not_bad none
+          ∙ ap (λ o. record { out = o; end = None; series = None }) (sym (is ∙ ap (λ z. z ++ r.raw)
+          (front_is ∙ ap (λ z. z ++ its_front) (ends ended series_out same series_is))
+          ∙ append_assoc (end_bytes here) its_front r.raw))
           ∙ ap (λ (o : Option SquashData). record {
             out = out;
             end = None;
             series = series_of last_front last_singles o;
-          })
-          (sym closed)
+          }) (sym closed)
 
       pub told_more : (canonical : List ℕ) (batches : SquashData)
           (is : IsChange s.server (change_in (incoming_of (reading r.body))) verdict canonical)
@@ -183,8 +145,8 @@ module _ (s : Session) (front singles : List ℕ) (series : Option SquashData) (
             same_front,
             more_singles,
             same,
-          ) (gives_more canonical batches is (subst (λ (o : Option SquashData). IsLonger o is.params batches) taken
-          longer))
+          ) (changes canonical is ∙ gives_longer s.server is.params its_front (its_front ++ canonical) front singles
+          series batches (subst (λ (o : Option SquashData). IsLonger o is.params batches) taken longer))
 
       pub told_next : (canonical : List ℕ) (ended : Option SquashData) (batches : SquashData)
           (is : IsChange s.server (change_in (incoming_of (reading r.body))) verdict canonical)
@@ -199,7 +161,8 @@ module _ (s : Session) (front singles : List ℕ) (series : Option SquashData) (
       told_next canonical ended batches is other ended_is begun out frame new_front new_singles out_is same same_front
           more_singles =
           rw (ends ended out ended_is out_is, same_front, more_singles, same)
-          (gives_next canonical batches is (subst (λ (o : Option SquashData). IsOther o is.params) taken other) begun)
+          (changes canonical is ∙ gives_begun s.server is.params its_front (its_front ++ canonical) front singles series
+          batches (subst (λ (o : Option SquashData). IsOther o is.params) taken other) begun)
 
 -- ---- the output from a record on
 

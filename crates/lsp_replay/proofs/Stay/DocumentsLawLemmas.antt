@@ -1,10 +1,11 @@
 -- What `normalise` writes of the records that stay: a log of which `replay` reports the same.
-use Rattle.lsp_replay.proofs.Prelude.{◌≡◌, ℕ, Bool, true, false, ◌||◌, List, [], ◌∷◌, ◌++◌, length, Option, None, refl, sym, ap, ◌∙◌, subst, Result, IfOk, Consumes, AreInRange, EngineFault, Version, One, Two, Record, Log, IsReadAs, AreRecords, is_line_due, line_of, together, Settings, Outcome, Kept, KeepsDocuments, WroteDocuments, documents, kept_records, nothing_selected, PortState, all_of, AtEnd, Ran, as_log, canonical_log, log_config, report, IsCanonicalLog, IsSquashed, LeavesAlike, RunOutput, Session, opened, normalised_if, squashed, squashed_steps}
+use Rattle.lsp_replay.proofs.Prelude.{◌≡◌, ℕ, Bool, true, false, ◌||◌, List, [], ◌++◌, length, Option, None, refl, sym, ap, ◌∙◌, subst, Result, IfOk, Consumes, AreInRange, EngineFault, Version, Record, Log, IsReadAs, AreRecords, is_line_due, line_of, together, Settings, Outcome, Kept, KeepsDocuments, WroteDocuments, documents, kept_records, nothing_selected, PortState, all_of, AtEnd, Ran, as_log, canonical_log, log_config, report, IsCanonicalLog, IsSquashed, LeavesAlike, RunOutput, Session, opened, normalised_if, squashed, squashed_steps}
 use Rattle.lsp_replay.specs.laws.Documents.{DocumentsLaw, DocumentsStopAlike}
-use Rattle.lsp_replay.proofs.Stay.KeptLogLemmas.{IsReportedAs, are_kept, each_located, kept_due, kept_stop, located_all, located_due, reported, squash_located}
+use Rattle.lsp_replay.proofs.Stay.KeptLogLemmas.{are_kept, each_located, kept_due, kept_stop, line_left, located_all, located_left, reported, squash_located}
 use Rattle.lsp_replay.proofs.Canonical.NormalisedLemmas.{canonical_log_law, version_is}
 use Rattle.lsp_replay.proofs.Records.NumberedLemmas.{alike_self}
 use Rattle.lsp_replay.proofs.Squash.SquashedLemmas.{stops_alike}
+use Rattle.lsp_replay.proofs.Squash.SquashLawLemmas.{IsReportedAs}
 use Rattle.lsp_replay.proofs.Squash.SeriesLemmas.{squashed_is}
 use Rattle.lsp_replay.proofs.Squash.SquashedLogLemmas.{squashed_law}
 use Rattle.lsp_replay.proofs.Runs.WroteLemmas.{IsNotOk, at_the_end, normal_not_ok}
@@ -72,27 +73,11 @@ module _ (settings : Settings) (ranges : AreInRange settings.limits) (input : Li
   due_at_end = k.due || is_line_due log.version log.records
 
   same_due : due_at_end ≡ is_line_due log.version ks
-  same_due = by log.records refl
-    where
-      or_none : (b : Bool) → (b || false) ≡ b
-      or_none true = refl
-      or_none false = refl
-
-      later : (version : Version) (r : Record) (rs : List Record) → is_line_due version (r ∷ rs) ≡ false
-      later One r rs = refl
-      later Two r rs = refl
-
-      by : (rs : List Record) → log.records ≡ rs → due_at_end ≡ is_line_due log.version ks
-      by [] e =
-          ap (λ (xs : List Record). (kept_records settings xs).due || is_line_due log.version xs) e
-          ∙ sym (ap (λ (xs : List Record). is_line_due log.version
-          (located_all start log.version (kept_records settings xs).records)) e)
-      by (r ∷ rs) e =
-          ap (λ (xs : List Record). k.due || is_line_due log.version xs) e
-          ∙ ap (λ b. k.due || b) (later log.version r rs) ∙ or_none k.due
-          ∙ kept_due settings.limits.max_body log.version log.records s nothing_selected start
-          (is_line_due log.version []) reads.each (λ none. absurd (let wrong : r ∷ rs ≡ [] = sym e ∙ none in cc))
-          ∙ sym (located_due log.version start k.records)
+  same_due =
+      ap (λ b. k.due || b) (line_left log.version log.records)
+      ∙ kept_due settings.limits.max_body log.version log.records s nothing_selected start
+      (is_line_due log.version []) reads.each
+      ∙ sym (line_left log.version ks ∙ located_left log.version start (is_line_due log.version []) k.records)
 
   all_same : (g : List Record → RunOutput) → g ks ≡ g k.records → all_of g kept_log ≡ (g k.records).out
       ++ (g k.records).last due_at_end
@@ -101,7 +86,7 @@ module _ (settings : Settings) (ranges : AreInRange settings.limits) (input : Li
       ∙ ap (λ b. (g k.records).out ++ (g k.records).last b) (sym same_due)
 
   module _ (goes : (canonical_log settings log.records).stop ≡ None) where
-    told : IsReportedAs s log.records s ks
+    told : IsReportedAs (report settings ks) (report settings log.records)
     told = reported log.version log.records s s nothing_selected start (alike_self s) goes
 
     -- what an output of the records that stay is, by a law of that output

@@ -1,12 +1,12 @@
 -- The records that stay, as a log of their own.
-use Rattle.lsp_replay.proofs.Prelude.{◌≡◌, ◌≢◌, ℕ, ◌+◌, Bool, true, false, ◌||◌, List, [], ◌∷◌, ◌++◌, length, Option, Some, None, refl, sym, ap, ◌∙◌, subst, nat_lt, ⊎_elim, if◌then◌else◌, Result, Err, place_after, frame, reading, ChangeData, incoming_of, ServerData, EngineFault, BadLog, BodyTooLong, Version, One, Two, Record, AreRecords, is_line_due, record_bytes, Outcome, Kept, Selection, after_kept, after_left_out, is_due, kept_first, kept_in, record_stays, with_line, RecordOutput, canonical_change_body, canonical_if, change_in, followed_by, ends, front_of, normalising, replaying, unless_bad, writes, written, run_output_in, IsChange, RunOutput, Session, Verdict, answered, bad, judge, recorded, OpenSeries, Step, squash_step, squashed_in}
+use Rattle.lsp_replay.proofs.Prelude.{common_steps, cases_Bool, arith, ◌≡◌, ◌≢◌, ℕ, ◌+◌, Bool, true, false, ◌||◌, List, [], ◌∷◌, length, Option, Some, None, refl, sym, ap, ◌∙◌, subst, ⊎_elim, cond_both, Result, Err, place_after, frame, reading, ChangeData, incoming_of, ServerData, EngineFault, BadLog, Version, One, Record, AreRecords, is_line_due, record_bytes, Outcome, Kept, Selection, after_kept, after_left_out, is_due, kept_first, kept_in, record_stays, with_line, RecordOutput, canonical_change_body, canonical_if, change_in, followed_by, front_of, normalising, replaying, unless_bad, written, run_output_in, IsChange, RunOutput, Session, Verdict, answered, bad, judge, recorded, OpenSeries, Step, squash_step, squashed_in}
 use Rattle.lsp_replay.proofs.Records.ChangeLemmas.{IsChangeKind, IsOtherKind, kind_of}
 use Rattle.lsp_replay.proofs.Stay.LeftOutLemmas.{harmless, stays_alike}
 use Rattle.lsp_replay.proofs.Canonical.NormalisedLemmas.{went_on}
 use Rattle.lsp_replay.proofs.Records.NumberedLemmas.{IsAlike, alike_both, judged_alike}
 use Rattle.lsp_replay.proofs.Squash.SquashedLemmas.{stop_on}
 use Rattle.lsp_replay.proofs.Squash.SquashingLemmas.{step_changed, step_other}
-use Rattle.lsp_replay.proofs.Squash.SquashLawLemmas.{report_on}
+use Rattle.lsp_replay.proofs.Squash.SquashLawLemmas.{IsReportedAs, report_on, reported_by, reported_end}
 
 -- ---- the records that stay, by whether the first does
 
@@ -18,6 +18,14 @@ kept_true s c r rs e = rw e refl
 pub kept_false : (s : Session) (c : Selection) (r : Record) (rs : List Record) → record_stays s c.waiting r.head.side
     r.body ≡ false → kept_in s c (r ∷ rs) ≡ kept_in s (after_left_out c r.head) rs
 kept_false s c r rs e = rw e refl
+
+-- what holds of the records that stay, by both cases of the first
+pub kept_cases : (s : Session) (c : Selection) (r : Record) (rs : List Record) (P : Kept → Type 0)
+    → (record_stays s c.waiting r.head.side r.body ≡ true
+    → P (kept_first (with_line c r) (kept_in (judge s r).session (after_kept c r.head r.body) rs)))
+    → (record_stays s c.waiting r.head.side r.body ≡ false → P (kept_in s (after_left_out c r.head) rs))
+    → P (kept_in s c (r ∷ rs))
+kept_cases s c r rs P stays left = cond_both (record_stays s c.waiting r.head.side r.body) _ _ P stays left
 
 -- ---- what a record gives
 
@@ -31,12 +39,7 @@ single server r v =
 written_end : (max_body : ℕ) (r : Record) (front other : List ℕ) (c : Option (List ℕ))
     → (written max_body r front c).end ≡ (written max_body r other c).end
 written_end max_body r front other None = refl
-written_end max_body r front other (Some body) = by (nat_lt max_body (length body))
-  where
-    by : (over : Bool) → (if over then ends [] (Err (BodyTooLong r.head.place)) else writes (front ++ frame body)).end
-        ≡ (if over then ends [] (Err (BodyTooLong r.head.place)) else writes (other ++ frame body)).end
-    by true = refl
-    by false = refl
+written_end max_body r front other (Some body) = grind (arith, common_steps, cases_Bool)
 
 line_end : (server : ServerData) (c : Selection) (r : Record) (v : Verdict) → (single server (with_line c r) v).end
     ≡ (single server r v).end
@@ -63,39 +66,21 @@ pub kept_stop : (s t : Session) (c : Selection) (rs : List Record) → IsAlike s
     → (run_output_in normalising t (kept_in t c rs).records).stop ≡ (run_output_in normalising s rs).stop
 kept_stop s t c [] like = refl
 kept_stop s t c (r ∷ rs) like =
-    by (record_stays t c.waiting r.head.side r.body) refl
-    (kept_stop (judge s r).session (judge t r).session (after_kept c r.head r.body) rs (judged_alike s t r like).1)
-    (λ (also : IsAlike (judge s r).session t). kept_stop (judge s r).session t (after_left_out c r.head) rs also)
+    kept_cases t c r rs
+    (λ (k : Kept). (run_output_in normalising t k.records).stop ≡ (run_output_in normalising s (r ∷ rs)).stop)
+    (λ e. stop_on _ _ _ _ _ _ same_end
+    (kept_stop (judge s r).session (judge t r).session (after_kept c r.head r.body) rs (judged_alike s t r like).1))
+    (λ e.
+    let h = harmless s c.waiting r (sym (stays_alike s t c.waiting r.head.side r.body like) ∙ e) in
+    kept_stop (judge s r).session t (after_left_out c r.head) rs (alike_both s (judge s r).session t h.alike like)
+    ∙ sym (goes_on_after _ (single s.server r (judge s r).verdict).end
+    (run_output_in normalising (judge s r).session rs) (single_none s.server r (judge s r).verdict h.not_bad h.none)))
   where
-    same : (judge t r).verdict ≡ (judge s r).verdict
-    same = (judged_alike s t r like).0
-
-    there : t.server ≡ s.server
-    there = ap (λ (u : Session). u.server) like.2
-
     same_end : (single t.server (with_line c r) (judge t r).verdict).end ≡ (single s.server r (judge s r).verdict).end
     same_end =
         line_end t.server c r (judge t r).verdict
-        ∙ ap (λ (server : ServerData). (single server r (judge t r).verdict).end) there
-        ∙ ap (λ (v : Verdict). (single s.server r v).end) same
-
-    by : (b : Bool) → record_stays t c.waiting r.head.side r.body ≡ b
-        → (run_output_in normalising (judge t r).session (kept_in (judge t r).session (after_kept c r.head r.body)
-        rs).records).stop ≡ (run_output_in normalising (judge s r).session rs).stop → (IsAlike (judge s r).session t
-        → (run_output_in normalising t (kept_in t (after_left_out c r.head) rs).records).stop
-        ≡ (run_output_in normalising (judge s r).session rs).stop)
-        → (run_output_in normalising t (kept_in t c (r ∷ rs)).records).stop
-        ≡ (run_output_in normalising s (r ∷ rs)).stop
-    by true e stays left =
-        ap (λ (k : Kept). (run_output_in normalising t k.records).stop) (kept_true t c r rs e)
-        ∙ stop_on _ _ _ _ _ _ same_end stays
-    by false e stays left =
-        let h = harmless s c.waiting r (sym (stays_alike s t c.waiting r.head.side r.body like) ∙ e) in
-        ap (λ (k : Kept). (run_output_in normalising t k.records).stop) (kept_false t c r rs e)
-        ∙ left (alike_both s (judge s r).session t h.alike like)
-        ∙ sym (goes_on_after _ (single s.server r (judge s r).verdict).end
-        (run_output_in normalising (judge s r).session rs) (single_none s.server r (judge s r).verdict h.not_bad
-        h.none))
+        ∙ ap (λ (server : ServerData). (single server r (judge t r).verdict).end) (ap (λ (u : Session). u.server) like.2)
+        ∙ ap (λ (v : Verdict). (single s.server r v).end) (judged_alike s t r like).0
 
 -- ---- records at other places
 
@@ -116,40 +101,26 @@ pub are_kept : (max_body : ℕ) (version : Version) (rs : List Record) (s : Sess
     → AreRecords max_body version at (c.due || due) (located_all at version (kept_in s c rs).records)
 are_kept max_body version [] s c at before due each = tt
 are_kept max_body version (r ∷ rs) s c at before due each =
-    by (record_stays s c.waiting r.head.side r.body) refl
-    (are_kept max_body version rs (judge s r).session (after_kept c r.head r.body)
-    (at + length (record_bytes version r)) (before + length (record_bytes version r)) false each.1)
+    kept_cases s c r rs
+    (λ (k : Kept). AreRecords max_body version at (c.due || due) (located_all at version k.records))
+    (λ e. (
+      record {
+        is_frame_of = each.0.is_frame_of;
+        side = each.0.side;
+        of_version = each.0.of_version;
+        placed = refl;
+        due = same_due;
+      },
+      are_kept max_body version rs (judge s r).session (after_kept c r.head r.body)
+          (at + length (record_bytes version r)) (before + length (record_bytes version r)) false each.1,
+    ))
+    (λ e. subst (λ (b : Bool). AreRecords max_body version at b
+    (located_all at version (kept_in s (after_left_out c r.head) rs).records)) (or_false (is_due c r.head) ∙ same_due)
     (are_kept max_body version rs s (after_left_out c r.head) at (before + length (record_bytes version r)) false
-    each.1)
+    each.1))
   where
     same_due : is_due c r.head ≡ (c.due || due)
     same_due = ap (λ b. c.due || b) each.0.due
-
-    by : (b : Bool) → record_stays s c.waiting r.head.side r.body ≡ b
-        → AreRecords max_body version (at + length (record_bytes version r)) false
-        (located_all (at + length (record_bytes version r)) version
-        (kept_in (judge s r).session (after_kept c r.head r.body) rs).records)
-        → AreRecords max_body version at (is_due c r.head || false)
-        (located_all at version (kept_in s (after_left_out c r.head) rs).records)
-        → AreRecords max_body version at (c.due || due) (located_all at version (kept_in s c (r ∷ rs)).records)
-    by true e stays left =
-        subst (λ (k : Kept). AreRecords max_body version at (c.due || due) (located_all at version k.records))
-        (sym (kept_true s c r rs e)) (
-          record {
-            is_frame_of = each.0.is_frame_of;
-            side = each.0.side;
-            of_version = each.0.of_version;
-            placed = refl;
-            due = same_due;
-          },
-          stays,
-        )
-    by false e stays left =
-        subst (λ (k : Kept). AreRecords max_body version at (c.due || due) (located_all at version k.records))
-        (sym (kept_false s c r rs e))
-        (subst (λ (b : Bool). AreRecords max_body version at b
-        (located_all at version (kept_in s (after_left_out c r.head) rs).records)) (or_false (is_due c r.head)
-        ∙ same_due) left)
 
 -- Whether the line of version 2 is still to be written after records.
 abbrev pub left_due : Bool → List Record → Bool
@@ -161,55 +132,40 @@ none_due [] = refl
 none_due (r ∷ rs) = refl
 
 pub kept_due : (max_body : ℕ) (version : Version) (rs : List Record) (s : Session) (c : Selection) (before : ℕ)
-    (due : Bool) → AreRecords max_body version before due rs → ((rs ≡ []) → due ≡ false)
-    → (kept_in s c rs).due ≡ left_due (c.due || due) (kept_in s c rs).records
-kept_due max_body version [] s c before due each none = sym (or_false c.due) ∙ ap (λ b. c.due || b) (sym (none refl))
-kept_due max_body version (r ∷ rs) s c before due each none =
-    by (record_stays s c.waiting r.head.side r.body) refl
-    (kept_due max_body version rs (judge s r).session (after_kept c r.head r.body)
-    (before + length (record_bytes version r)) false each.1 (λ _. refl))
-    (kept_due max_body version rs s (after_left_out c r.head) (before + length (record_bytes version r)) false each.1
-    (λ _. refl))
-  where
-    same_due : is_due c r.head ≡ (c.due || due)
-    same_due = ap (λ b. c.due || b) each.0.due
+    (due : Bool) → AreRecords max_body version before due rs
+    → ((kept_in s c rs).due || left_due due rs) ≡ left_due (c.due || due) (kept_in s c rs).records
+kept_due max_body version [] s c before due each = refl
+kept_due max_body version (r ∷ rs) s c before due each =
+    let later = before + length (record_bytes version r) in
+    kept_cases s c r rs (λ (k : Kept). (k.due || false) ≡ left_due (c.due || due) k.records)
+    (λ e.
+    let k = kept_in (judge s r).session (after_kept c r.head r.body) rs in
+    ap (λ b. k.due || b) (sym (none_due rs))
+    ∙ kept_due max_body version rs (judge s r).session (after_kept c r.head r.body) later false each.1
+    ∙ none_due k.records)
+    (λ e.
+    let k = kept_in s (after_left_out c r.head) rs in
+    ap (λ b. k.due || b) (sym (none_due rs))
+    ∙ kept_due max_body version rs s (after_left_out c r.head) later false each.1
+    ∙ ap (λ b. left_due b k.records) (or_false (is_due c r.head) ∙ ap (λ b. c.due || b) each.0.due))
 
-    by : (b : Bool) → record_stays s c.waiting r.head.side r.body ≡ b
-        → (kept_in (judge s r).session (after_kept c r.head r.body) rs).due
-        ≡ left_due false (kept_in (judge s r).session (after_kept c r.head r.body) rs).records
-        → (kept_in s (after_left_out c r.head) rs).due ≡ left_due (is_due c r.head || false)
-        (kept_in s (after_left_out c r.head) rs).records
-        → (kept_in s c (r ∷ rs)).due ≡ left_due (c.due || due) (kept_in s c (r ∷ rs)).records
-    by true e stays left =
-        let inner = kept_in (judge s r).session (after_kept c r.head r.body) rs in
-        ap (λ (k : Kept). k.due) (kept_true s c r rs e)
-        ∙ stays
-        ∙ none_due inner.records
-        ∙ sym (ap (λ (k : Kept). left_due (c.due || due) k.records) (kept_true s c r rs e))
-    by false e stays left =
-        ap (λ (k : Kept). k.due) (kept_false s c r rs e)
-        ∙ left
-        ∙ ap (λ b. left_due b (kept_in s (after_left_out c r.head) rs).records) (or_false (is_due c r.head) ∙ same_due)
-        ∙ sym (ap (λ (k : Kept). left_due (c.due || due) k.records) (kept_false s c r rs e))
+pub line_left : (version : Version) (rs : List Record) → is_line_due version rs ≡ left_due (is_line_due version []) rs
+line_left One [] = refl
+line_left One (r ∷ rs) = refl
+line_left _ [] = refl
+line_left _ (r ∷ rs) = refl
 
-pub located_due : (version : Version) (at : ℕ) (rs : List Record) → is_line_due version (located_all at version rs)
-    ≡ left_due (is_line_due version []) rs
-located_due One at [] = refl
-located_due Two at (r ∷ rs) = refl
-located_due _ at _ = refl
+pub located_left : (version : Version) (at : ℕ) (due : Bool) (rs : List Record)
+    → left_due due (located_all at version rs) ≡ left_due due rs
+located_left version at due [] = refl
+located_left version at due (r ∷ rs) = refl
 
 -- ---- the same is written at other places
 
 located_written : (max_body at : ℕ) (r : Record) (front : List ℕ) (c : Option (List ℕ))
     → (written max_body r front c).end ≡ None → written max_body (located at r) front c ≡ written max_body r front c
 located_written max_body at r front None e = refl
-located_written max_body at r front (Some body) e = by (nat_lt max_body (length body)) e
-  where
-    by : (over : Bool) → (if over then ends [] (Err (BodyTooLong r.head.place)) else writes (front ++ frame body)).end
-        ≡ None → (if over then ends [] (Err (BodyTooLong (place_after 0 at))) else writes (front ++ frame body))
-        ≡ (if over then ends [] (Err (BodyTooLong r.head.place)) else writes (front ++ frame body))
-    by true f = absurd (let wrong : Some (Err (BodyTooLong r.head.place)) ≡ None = f in cc)
-    by false f = refl
+located_written max_body at r front (Some body) e = grind (arith, common_steps, cases_Bool)
 
 located_single : (server : ServerData) (at : ℕ) (r : Record) (v : Verdict) → (single server r v).end ≡ None
     → single server (located at r) v ≡ single server r v
@@ -270,66 +226,29 @@ verdict_not_bad r recorded g e = λ (wrong : recorded ≡ bad). cc
 verdict_not_bad r (answered a) g e = λ (wrong : answered a ≡ bad). cc
 
 -- `replay` reports the same documents of the records that stay, the same status and as many refusals.
-pub record IsReportedAs (s : Session) (rs : List Record) (t : Session) (ks : List Record) : Type 0 where
-  pub documents : (line_due : Bool) → (run_output_in replaying t ks).last line_due ≡ (run_output_in replaying s rs).last
-      line_due
-  pub status : (run_output_in replaying t ks).outcome.status ≡ (run_output_in replaying s rs).outcome.status
-  pub refused : (run_output_in replaying t ks).outcome.refused ≡ (run_output_in replaying s rs).outcome.refused
-
-same_report : (s u : Session) (rs more : List Record) (t : Session) (ks : List Record) → run_output_in replaying s rs
-    ≡ run_output_in replaying u more → IsReportedAs u more t ks → IsReportedAs s rs t ks
-same_report s u rs more t ks same is = record {
-  documents = λ line_due. is.documents line_due ∙ sym (ap (λ (c : RunOutput). c.last line_due) same);
-  status = is.status ∙ sym (ap (λ (c : RunOutput). c.outcome.status) same);
-  refused = is.refused ∙ sym (ap (λ (c : RunOutput). c.outcome.refused) same);
-}
-
-same_kept : (s : Session) (rs : List Record) (t u : Session) (ks more : List Record) → run_output_in replaying t ks
-    ≡ run_output_in replaying u more → IsReportedAs s rs u more → IsReportedAs s rs t ks
-same_kept s rs t u ks more same is = record {
-  documents = λ line_due. ap (λ (c : RunOutput). c.last line_due) same ∙ is.documents line_due;
-  status = ap (λ (c : RunOutput). c.outcome.status) same ∙ is.status;
-  refused = ap (λ (c : RunOutput). c.outcome.refused) same ∙ is.refused;
-}
-
 pub reported : (version : Version) (rs : List Record) (s t : Session) (c : Selection) (at : ℕ) → IsAlike s t
     → (run_output_in normalising s rs).stop ≡ None
-    → IsReportedAs s rs t (located_all at version (kept_in t c rs).records)
-reported version [] s t c at like goes = record {
-  documents = λ line_due. ap (λ (u : Session). (run_output_in replaying u []).last line_due) like.2;
-  status = ap (λ (u : Session). (run_output_in replaying u []).outcome.status) like.2;
-  refused = ap (λ (u : Session). (run_output_in replaying u []).outcome.refused) like.2;
-}
+    → IsReportedAs (run_output_in replaying t (located_all at version (kept_in t c rs).records))
+    (run_output_in replaying s rs)
+reported version [] s t c at like goes = reported_end s t like
 reported version (r ∷ rs) s t c at like goes =
     let given = single s.server r (judge s r).verdict in
     let on = went_on given.out given.end (run_output_in normalising (judge s r).session rs) goes in
-    by (record_stays t c.waiting r.head.side r.body) refl on.0
+    let not_bad : (judge s r).verdict ≢ bad = verdict_not_bad r (judge s r).verdict _ on.0 in
+    let here = report_on s r rs not_bad in
+    kept_cases t c r rs (λ (k : Kept). IsReportedAs (run_output_in replaying t (located_all at version k.records))
+    (run_output_in replaying s (r ∷ rs)))
+    (λ e.
+    let q = located at (with_line c r) in
+    let later = located_all (at + length (record_bytes version r)) version
+    (kept_in (judge t r).session (after_kept c r.head r.body) rs).records in
+    let also : (judge t q).verdict ≢ bad =
+    λ (wrong : (judge t q).verdict ≡ bad). not_bad (sym (judged_alike s t r like).0 ∙ wrong) in
+    reported_by _ _ _ _ (report_on t q later also) here
     (reported version rs (judge s r).session (judge t r).session (after_kept c r.head r.body)
-    (at + length (record_bytes version r)) (judged_alike s t r like).1 on.1)
-    (λ (also : IsAlike (judge s r).session t). reported version rs (judge s r).session t (after_left_out c r.head) at
-    also on.1)
-  where
-    by : (b : Bool) → record_stays t c.waiting r.head.side r.body ≡ b → (single s.server r (judge s r).verdict).end
-        ≡ None
-        → IsReportedAs (judge s r).session rs (judge t r).session (located_all (at + length (record_bytes version r))
-        version (kept_in (judge t r).session (after_kept c r.head r.body) rs).records)
-        → (IsAlike (judge s r).session t → IsReportedAs (judge s r).session rs t
-        (located_all at version (kept_in t (after_left_out c r.head) rs).records))
-        → IsReportedAs s (r ∷ rs) t (located_all at version (kept_in t c (r ∷ rs)).records)
-    by true e ended stays left =
-        let not_bad : (judge s r).verdict ≢ bad = verdict_not_bad r (judge s r).verdict _ ended in
-        let q = located at (with_line c r) in
-        let later = located_all (at + length (record_bytes version r)) version
-        (kept_in (judge t r).session (after_kept c r.head r.body) rs).records in
-        let also : (judge t q).verdict ≢ bad =
-        λ (wrong : (judge t q).verdict ≡ bad). not_bad (sym (judged_alike s t r like).0 ∙ wrong) in
-        subst (λ (k : Kept). IsReportedAs s (r ∷ rs) t (located_all at version k.records)) (sym (kept_true t c r rs e))
-        (same_report s (judge s r).session (r ∷ rs) rs t (q ∷ later) (report_on s r rs not_bad)
-        (same_kept (judge s r).session rs t (judge t q).session (q ∷ later) later (report_on t q later also) stays))
-    by false e ended stays left =
-        let not_bad : (judge s r).verdict ≢ bad = verdict_not_bad r (judge s r).verdict _ ended in
-        let h = harmless s c.waiting r (sym (stays_alike s t c.waiting r.head.side r.body like) ∙ e) in
-        subst (λ (k : Kept). IsReportedAs s (r ∷ rs) t (located_all at version k.records)) (sym (kept_false t c r rs e))
-        (same_report s (judge s r).session (r ∷ rs) rs t
-        (located_all at version (kept_in t (after_left_out c r.head) rs).records) (report_on s r rs not_bad)
-        (left (alike_both s (judge s r).session t h.alike like)))
+    (at + length (record_bytes version r)) (judged_alike s t r like).1 on.1))
+    (λ e.
+    let h = harmless s c.waiting r (sym (stays_alike s t c.waiting r.head.side r.body like) ∙ e) in
+    reported_by _ _ _ _ refl here
+    (reported version rs (judge s r).session t (after_left_out c r.head) at
+    (alike_both s (judge s r).session t h.alike like) on.1))

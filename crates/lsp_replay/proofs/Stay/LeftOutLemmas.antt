@@ -1,5 +1,5 @@
 -- A record that is left out changes nothing of a session but its counts.
-use Rattle.lsp_replay.proofs.Prelude.{◌≡◌, ◌≢◌, ℕ, Bool, true, false, ◌&&◌, ◌||◌, List, Option, Some, None, is_some, refl, sym, ap, ◌∙◌, subst, if◌then◌else◌, option_map, Data, IdData, Reading, reading, OutgoingData, error_reply, ChangeData, MethodNotFound, Phase, New, Running, Down, Ended, AnswerData, reply, dropped, ignored, as_sent, IncomingData, not_json, not_a_message, response, initialize, shutdown, other_request, exit, did_open, did_change, did_close, other_notification, incoming_of, one_more, Version, One, Two, Sender, Client, Server, Record, is_answer_to, message_stays, record_stays, canonical_if, change_in, Session, answered, recorded, bad, Judged, judged, judge, judge_from, judge_client, handled, judge_server, encoding_for, encoding_in, counted, count_if, result_for, is_change, is_early, is_ended, is_new, is_refused, is_running, expected_of}
+use Rattle.lsp_replay.proofs.Prelude.{◌≡◌, ◌≢◌, ℕ, Bool, true, false, ◌&&◌, ◌||◌, List, Option, Some, None, is_some, refl, sym, ap, ◌∙◌, subst, if◌then◌else◌, option_map, Data, IdData, Reading, reading, OutgoingData, error_reply, ChangeData, MethodNotFound, Phase, New, Running, Down, Ended, AnswerData, reply, dropped, ignored, as_sent, IncomingData, response, other_request, other_notification, incoming_of, one_more, Version, One, Two, Sender, Client, Server, Record, is_answer_to, message_stays, record_stays, canonical_if, change_in, Session, answered, recorded, bad, Judged, judged, judge, judge_from, judge_client, handled, judge_server, encoding_for, encoding_in, counted, count_if, result_for, is_change, is_early, is_ended, is_new, is_refused, is_running, expected_of}
 use Rattle.lsp_server.specs.Step.{ServerData, Step, unchanged_step, step_in, step_on}
 use Rattle.lsp_replay.proofs.Records.NumberedLemmas.{IsAlike}
 use Rattle.lsp_message.specs.Message as read
@@ -20,78 +20,48 @@ record IsIdle (phase : Phase) (server : ServerData) (m : IncomingData) : Type 0 
   accepted : is_refused (as_sent answer) ≡ false
   no_change : is_change m ≡ false
   nothing : change_in m ≡ None
-  expects : (version : Version) (expected : Option IdData) → expected_of version m expected ≡ expected
+  one : (expected : Option IdData) → expected_of One m expected ≡ expected
+  two : (expected : Option IdData) → expected_of Two m expected ≡ expected
 
 module _ (server : ServerData) where
-  expects_response : (id : Option IdData) (version : Version) (expected : Option IdData)
-      → expected_of version (response id) expected ≡ expected
-  expects_response id One expected = refl
-  expects_response id Two expected = refl
-
-  expects_request : (id : IdData) (method : List ℕ) (version : Version) (expected : Option IdData)
-      → expected_of version (other_request id method) expected ≡ expected
-  expects_request id method One expected = refl
-  expects_request id method Two expected = refl
-
-  expects_notification : (method : List ℕ) (version : Version) (expected : Option IdData)
-      → expected_of version (other_notification method) expected ≡ expected
-  expects_notification method One expected = refl
-  expects_notification method Two expected = refl
-
-  idle_response : (phase : Phase) (id : Option IdData) → is_ended phase ≡ false → step_in phase server (response id)
-      ≡ unchanged_step server ignored → IsIdle phase server (response id)
-  idle_response phase id goes step = record {
-    goes_on = goes;
-    answer = ignored;
-    step = step;
-    accepted = refl;
-    no_change = refl;
-    nothing = refl;
-    expects = expects_response id;
-  }
-
-  idle_notification : (phase : Phase) (method : List ℕ) (answer : AnswerData OutgoingData) → is_ended phase ≡ false
-      → step_in phase server (other_notification method) ≡ unchanged_step server answer
-      → is_refused (as_sent answer) ≡ false → IsIdle phase server (other_notification method)
-  idle_notification phase method answer goes step accepted = record {
+  idle_by : (phase : Phase) (m : IncomingData) (answer : AnswerData OutgoingData) → is_ended phase ≡ false
+      → step_in phase server m ≡ unchanged_step server answer → is_refused (as_sent answer) ≡ false
+      → is_change m ≡ false → change_in m ≡ None → ((e : Option IdData) → expected_of One m e ≡ e)
+      → ((e : Option IdData) → expected_of Two m e ≡ e) → IsIdle phase server m
+  idle_by phase m answer goes step accepted no_change nothing one two = record {
     goes_on = goes;
     answer = answer;
     step = step;
     accepted = accepted;
-    no_change = refl;
-    nothing = refl;
-    expects = expects_notification method;
-  }
-
-  idle_request : (id : IdData) (method : List ℕ) → IsIdle Running server (other_request id method)
-  idle_request id method = record {
-    goes_on = refl;
-    answer = reply (error_reply (Some id) MethodNotFound);
-    step = refl;
-    accepted = refl;
-    no_change = refl;
-    nothing = refl;
-    expects = expects_request id method;
+    no_change = no_change;
+    nothing = nothing;
+    one = one;
+    two = two;
   }
 
   wrong : (phase : Phase) (m : IncomingData) → true ≡ false → IsIdle phase server m
   wrong phase m e = absurd (cc)
 
   idle : (phase : Phase) (m : IncomingData) → message_stays phase m ≡ false → IsIdle phase server m
-  idle New (response id) e = idle_response New id refl refl
-  idle Running (response id) e = idle_response Running id refl refl
-  idle Down (response id) e = idle_response Down id refl refl
+  idle New (response id) e = idle_by New (response id) ignored refl refl refl refl refl (λ x. refl) (λ x. refl)
+  idle Running (response id) e = idle_by Running (response id) ignored refl refl refl refl refl (λ x. refl) (λ x. refl)
+  idle Down (response id) e = idle_by Down (response id) ignored refl refl refl refl refl (λ x. refl) (λ x. refl)
+  idle Running (other_request id method) e =
+      idle_by Running (other_request id method) (reply (error_reply (Some id) MethodNotFound)) refl refl refl refl refl
+      (λ x. refl) (λ x. refl)
+  idle New (other_notification method) e =
+      idle_by New (other_notification method) dropped refl refl refl refl refl (λ x. refl) (λ x. refl)
+  idle Running (other_notification method) e =
+      idle_by Running (other_notification method) ignored refl refl refl refl refl (λ x. refl) (λ x. refl)
+  idle Down (other_notification method) e =
+      idle_by Down (other_notification method) dropped refl refl refl refl refl (λ x. refl) (λ x. refl)
   idle Ended (response id) e = wrong Ended (response id) e
-  idle Running (other_request id method) e = idle_request id method
-  idle New (other_request id method) e = wrong New (other_request id method) e
-  idle Down (other_request id method) e = wrong Down (other_request id method) e
-  idle Ended (other_request id method) e = wrong Ended (other_request id method) e
-  idle New (other_notification method) e = idle_notification New method dropped refl refl refl
-  idle Running (other_notification method) e = idle_notification Running method ignored refl refl refl
-  idle Down (other_notification method) e = idle_notification Down method dropped refl refl refl
-  idle Ended (other_notification method) e = wrong Ended (other_notification method) e
-  idle phase not_json e = wrong phase not_json e
   idle phase m e = wrong phase m e
+
+expects : {phase : Phase} {server : ServerData} {m : IncomingData} → IsIdle phase server m → (version : Version)
+    (expected : Option IdData) → expected_of version m expected ≡ expected
+expects is One expected = is.one expected
+expects is Two expected = is.two expected
 
 early : (a b c : Bool) → c ≡ false → (a && b && c) ≡ false
 early a b true e = absurd (cc)
@@ -126,7 +96,7 @@ module _ (s : Session) (version : Version) (m : IncomingData) (left_out : messag
         refusals = count_if (is_refused (as_sent here.answer)) s.refusals;
       }))
       (expects_on (is_new s.server.phase) (expected_of version m s.expected) s.expected
-      (here.expects version s.expected))
+      (expects here version s.expected))
       ∙ ap (λ (b : Bool). judged (answered (as_sent here.answer)) (record s {
         messages = one_more s.messages;
         refusals = count_if b s.refusals;

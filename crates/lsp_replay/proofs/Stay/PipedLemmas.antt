@@ -1,6 +1,6 @@
 -- What a command writes of the records that stay, a record at a time, and over all records.
-use Rattle.lsp_replay.proofs.Prelude.{◌≡◌, ◌⊎◌, inl, inr, ℕ, Bool, true, false, List, [], ◌∷◌, ◌++◌, Option, Some, None, refl, sym, ap, ◌∙◌, if◌then◌else◌, Result, Ok, Err, IfErr, IfOk, MatchOption, OnOk, Outcome, EngineFault, NoMemory, Ports, Head, Sender, Client, Server, Version, LogRules, Record, FirstLaw, VersionLaw, IdData, Kept, Selection, after_kept, after_left_out, is_due, kept_in, output_of_kept, record_stays, waiting_after, with_due, with_line, View, followed_by, output_in, IsEngineRun, RunOutput, stopped, written_first, Session, judge, BodyData, body_read, IsLoopRun, IsAdmitted, once_written, piped, written_due, IsRecordFault, after}
-use Rattle.lsp_replay.specs.inside.Reads.{IsKept, IsLeftOut, stays_read, waiting_read}
+use Rattle.lsp_replay.proofs.Prelude.{◌≡◌, ◌⊎◌, inl, inr, ℕ, Bool, true, false, List, [], ◌∷◌, ◌++◌, Option, Some, None, refl, sym, ap, ◌∙◌, cond, kept_first, Result, Ok, Err, IfErr, IfOk, OnOk, Outcome, EngineFault, NoMemory, Ports, Head, LogRules, Record, FirstLaw, VersionLaw, Kept, Selection, after_kept, after_left_out, kept_in, output_of_kept, record_stays, with_due, with_line, View, followed_by, output_in, IsEngineRun, RunOutput, stopped, written_first, Session, judge, IsLoopRun, IsAdmitted, piped, IsRecordFault, after}
+use Rattle.lsp_replay.specs.inside.Reads.{IsKept, IsLeftOut}
 use Rattle.lsp_replay.proofs.Stay.KeptLogLemmas.{kept_false, kept_true}
 use Rattle.lsp_replay.proofs.Runs.RunReportLemmas.{Grows, GrowsAll, NoneCut, Settles, grows, run_of, run_of_course, settled}
 
@@ -36,9 +36,6 @@ module _ (s : Session) (c d : Selection) (head : Head) (raw body : List ℕ) (wr
 
   its_is : its ≡ with_line c r
   its_is = ap (λ (h : Head). record { head = h; raw = raw; body = body }) stays.head_is
-
-  pub version_same : body_read written.version written.side body ≡ body_read head.version head.side body
-  version_same = ap (λ (h : Head). body_read h.version h.side body) stays.head_is
 
   abbrev later : List Record → Kept
   later more = kept_in (judge s r).session (after_kept c head body) more
@@ -139,30 +136,24 @@ same_outcome (Some c) output s = refl
 
 -- ---- all records
 
+abbrev IsLonger : Kept → Kept → Type 0
+IsLonger k j = (others : List Record) × (k.records ≡ j.records ++ others)
+
+longer_if : (b : Bool) (x y u v : Kept) → IsLonger x u → IsLonger y v → IsLonger (cond b x y) (cond b u v)
+longer_if true x y u v p q = p
+longer_if false x y u v p q = q
+
 -- More records, of which more stay.
-kept_more : (s : Session) (c : Selection) (rs more : List Record) → (others : List Record)
-    × ((kept_in s c (rs ++ more)).records ≡ (kept_in s c rs).records ++ others)
+kept_more : (s : Session) (c : Selection) (rs more : List Record) → IsLonger (kept_in s c (rs ++ more)) (kept_in s c rs)
 kept_more s c [] more = ((kept_in s c more).records, refl)
 kept_more s c (q ∷ rs) more =
-    by (record_stays s c.waiting q.head.side q.body) refl (kept_more (judge s q).session (after_kept c q.head q.body) rs
-    more) (kept_more s (after_left_out c q.head) rs more)
-  where
-    by : (b : Bool) → record_stays s c.waiting q.head.side q.body ≡ b
-        → (others : List Record) × ((kept_in (judge s q).session (after_kept c q.head q.body) (rs ++ more)).records
-        ≡ (kept_in (judge s q).session (after_kept c q.head q.body) rs).records ++ others)
-        → (others : List Record) × ((kept_in s (after_left_out c q.head) (rs ++ more)).records
-        ≡ (kept_in s (after_left_out c q.head) rs).records ++ others)
-        → (others : List Record) × ((kept_in s c (q ∷ rs ++ more)).records ≡ (kept_in s c (q ∷ rs)).records ++ others)
-    by true e inner left = (
-      inner.0,
-      ap (λ (k : Kept). k.records) (kept_true s c q (rs ++ more) e) ∙ ap (λ ks. with_line c q ∷ ks) inner.1
-          ∙ sym (ap (λ (k : Kept). k.records ++ inner.0) (kept_true s c q rs e)),
-    )
-    by false e stays inner = (
-      inner.0,
-      ap (λ (k : Kept). k.records) (kept_false s c q (rs ++ more) e) ∙ inner.1
-          ∙ sym (ap (λ (k : Kept). k.records ++ inner.0) (kept_false s c q rs e)),
-    )
+    let t = (judge s q).session in
+    let d = after_kept c q.head q.body in
+    let e = after_left_out c q.head in
+    let inner = kept_more t d rs more in
+    longer_if (record_stays s c.waiting q.head.side q.body) (kept_first (with_line c q) (kept_in t d (rs ++ more)))
+    (kept_in s e (rs ++ more)) (kept_first (with_line c q) (kept_in t d rs)) (kept_in s e rs)
+    (inner.0, ap (λ ks. with_line c q ∷ ks) inner.1) (kept_more s e rs more)
 
 -- After a record that ended the run nothing is due.
 abbrev IsEven : RunOutput → Type 0
