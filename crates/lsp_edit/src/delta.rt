@@ -64,7 +64,7 @@ pub struct Left<'a> {
 
 impl<'a> Put<'a> {
     /// Returns how many bytes the replacement leaves of a text.
-    fn len_on(&self, text: &IndexedText) -> usize
+    pub(crate) fn len_on(&self, text: &IndexedText) -> usize
         requires put { IsPut (units_in self.now.encoding) text.now self.now.start self.now.stop
             self.now.new.now }
         ensures { result

@@ -149,18 +149,20 @@ impl IndexedText {
             (alone range new.now)) }
         ensures memory { result ≢ Err NoMemory }
     {
-        let text = self.text();
-        let len = text.len();
-        let (start, stop) = ends(text, encoding, range, 0)?;
-        if len - (stop - start) + new.len() > max_len {
-            return Err(BatchFault::TooLong);
-        }
-        Ok(Delta::Put(Put {
+        // States that the text is UTF-8.
+        let _ = self.len();
+        let (start, stop) = ends(self.text(), encoding, range, 0)?;
+        let put = Put {
             encoding,
             start,
             stop,
             new,
-        }))
+        };
+        let len = put.len_on(self);
+        if len > max_len {
+            return Err(BatchFault::TooLong);
+        }
+        Ok(Delta::Put(put))
     }
 
     /// Resolves a batch on the text (LSP 3.17, DidChangeTextDocumentParams), if the result has at

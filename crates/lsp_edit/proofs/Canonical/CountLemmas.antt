@@ -122,15 +122,12 @@ hunks_are len low text (New character ∷ items) =
 pub no_more_changes : (units : ℕ → ℕ) (old : List ℕ) (batch : List ContentChange) (items : List Item)
     → meaning units old batch ≡ Ok items → length (canonical units old items) ≤ length batch
 no_more_changes units old batch items is =
-    let r : length (canonical units old items)
-    ≡ length (map (change_of_gap units old) (filter is_changed (gaps old items))) =
-    length-reverse (map (change_of_gap units old) (filter is_changed (gaps old items))) in
-    let m : length (map (change_of_gap units old) (filter is_changed (gaps old items)))
-    ≡ length (filter is_changed (gaps old items)) =
-    length-map (filter is_changed (gaps old items)) (change_of_gap units old) in
-    let h : length (filter is_changed (gaps old items)) ≡ hunks (length old) false 0 items =
-    hunks_are (length old) 0 [] items in
-    let z : hunks (length old) false 0 (plain old) ≡ 0 = none_at_first (length old) 0 (length old) (omega arith) in
-    let c : hunks (length old) false 0 items ≤ hunks (length old) false 0 (plain old) + length batch =
-    changes_add (length old) units old 0 (plain old) items batch is in
-    omega arith
+    let changed : List Gap = filter is_changed (gaps old items) in
+    omega (
+      arith,
+      length-reverse (map (change_of_gap units old) changed),
+      length-map changed (change_of_gap units old),
+      hunks_are (length old) 0 [] items,
+      none_at_first (length old) 0 (length old) (omega arith),
+      changes_add (length old) units old 0 (plain old) items batch is,
+    )

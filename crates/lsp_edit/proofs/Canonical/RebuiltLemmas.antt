@@ -146,14 +146,7 @@ module _ (units : ℕ → ℕ) (some : (c : ℕ) → 1 ≤ units c) (old : List 
       (cases_Bool (is_changed (gap_at low high text)))
     where
       same : is_changed (gap_at low high text) ≡ false → plain_to high ++ rest ≡ plain_to low ++ (map New text ++ rest)
-      same e =
-          let parts : (nat_lt low high ≡ false) × (nat_lt 0 (length text) ≡ false) =
-          or_parts (nat_lt low high) (nat_lt 0 (length text)) e in
-          let no_more : high ≤ low = ltb-false low high parts.0 in
-          let here : high ≡ low = omega arith in
-          let none : length text ≤ 0 = ltb-false 0 (length text) parts.1 in
-          let empty : text ≡ [] = nil_from_length text (omega arith) in
-          rw (here, empty) refl
+      same e = grind (arith, common_steps, or_parts, ltb-false, nil_from_length, nat_lt)
 
   -- The changes of the gaps from an old index on, made from the last to the first, leave the items behind the old text
   -- before it.

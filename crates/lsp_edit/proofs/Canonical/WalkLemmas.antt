@@ -1,7 +1,7 @@
 -- The canonical batch of parts, written in one pass over them.
 use Rattle.lsp_edit.proofs.Prelude.{inl, inr, gap_at, change_at, ℕ, suc, ◌≡◌, ◌+◌, ◌-◌, ◌<◌, ◌≤◌, ◌⊎◌, true, false, nat_lt, cond, List, [], ◌∷◌, ◌++◌, length, map, reverse, filter, drop, slice_index_or as get_or, refl, sym, ap, ap₂, ◌∙◌, subst, arith, append_assoc, append-nil, encode_utf8_all, IsCharBoundary, ⊎_elim, lt-ltb, le-ltb, zero, Some, String, string_bytes, string_len, ◌==◌, eqb-true, chars, IsUtf8, cases_Bool, or_left, or_right, or_from, cases_lt, eqb-false, drop_more, drop_all, map-append, nil_from_length, reverse-append, encodes-chars, chars-append, chars-nil, IsUtf8-string_bytes, IsCharBoundary-start, IsCharBoundary-end, place_of, numbers_from, splits_crlf, IsPlace, IsIndexAt, index_at, Position, exact_position, Change, content_change, Item, Old, New, ContentChange, Gap, gaps_from, gaps, is_changed, change_of_gap, gap_between, HasExactEnds, AllHaveExactEnds, Part, OldPart, NewPart, index_of, part_of, parts_of, items_in, items_of, IsPartOf, AreParts, Span, common_steps}
 use Rattle.lsp_edit.proofs.Composing.EditedLemmas.{index_first, index_last}
-use Rattle.lsp_edit.proofs.Parts.IndexLemmas.{index_of-place, index_rises, indexes_less}
+use Rattle.lsp_edit.proofs.Parts.IndexLemmas.{index_found, index_of-place, index_rises, indexes_less}
 
 -- the changes of gaps, from the first to the last
 abbrev pub changes_of : (ℕ → ℕ) → List ℕ → List Gap → List ContentChange
@@ -67,13 +67,7 @@ gap_some low high text some = grind (arith, common_steps, or_left, nat_lt, lt-lt
 
 some_chars : (bytes : List ℕ) → IsUtf8 bytes → 0 < length bytes → 0 < length (chars bytes)
 some_chars bytes utf8 some =
-    ⊎_elim
-    (λ (n : 0 < length (chars bytes)). n)
-    (λ (n : length (chars bytes) ≤ 0).
-    let e : chars bytes ≡ [] = nil_from_length (chars bytes) (omega arith) in
-    let b : length bytes ≡ 0 = ap length (sym (encodes-chars bytes utf8) ∙ ap encode_utf8_all e) in
-    absurd (omega arith))
-    (cases_lt 0 (length (chars bytes)))
+    grind (arith, common_steps, cases_lt, nil_from_length, encode_utf8_all, (encodes-chars bytes utf8))
 
 module _ (before : List ℕ) (utf8 : IsUtf8 before) where
   gap_changed : (low high : ℕ) (text : List ℕ) → IsUtf8 text → IsCharBoundary before low → IsCharBoundary before high
@@ -89,10 +83,9 @@ module _ (before : List ℕ) (utf8 : IsUtf8 before) where
       → ((k : ℕ) → k ≤ length (chars before) → place_of (chars before) k ≡ place
       → p ≡ exact_position units (chars before) k) → p ≡ exact_position units (chars before)
       (index_of (chars before) place)
-  position_exact units place p at exact = by_index (index_at before place utf8 at)
-    where
-      by_index : IsIndexAt before place → p ≡ exact_position units (chars before) (index_of (chars before) place)
-      by_index a = grind (arith, common_steps, index_of-place)
+  position_exact units place p at exact =
+      let a : IsIndexAt before place = index_at before place utf8 at in
+      exact a.index a.within a.place_is ∙ ap (exact_position units (chars before)) (sym (index_found before place a))
 
   -- What a gap adds to the changes.
   pub gap_put : (units : ℕ → ℕ) (low high : ℕ) (changes : List Change) (change : Change) (start stop : Position)

@@ -1,10 +1,12 @@
 -- Layers that are joined, and how they are folded into one row.
-use Rattle.lsp_edit.proofs.Prelude.{ℕ, ◌≡◌, ◌+◌, ◌<◌, List, [], ◌∷◌, ◌++◌, length, map, drop, slice_index_or as get_or, refl, sym, ap, ◌∙◌, subst, arith, nat_lt, encode_utf8_all, Ok, chars, IsUtf8, cases_Bool, drop_more, map-append, chars_from_encodes, IsUtf8-append, IsUtf8-between, IsUtf8-nil, IsUtf8-from_is_utf8, IsCharBoundary-start, Layer, Item, plain, text_of, ContentChange, meaning, then_items, AllOver, layer_parts, IsOver, items_over, IsLayer, bytes_left, text_within, IsJoined, IsReached, JoinedData, joined_text, Keeps, Part, OldPart, NewPart, AreParts, Ascend, IsPartOf, bytes_in, bytes_of, items_of, AreThrough, through_parts, whole_parts, common_steps}
+use Rattle.lsp_edit.proofs.Prelude.{Result, Fault, IsOn, meant_by, ℕ, ◌≡◌, ◌+◌, ◌<◌, List, [], ◌∷◌, ◌++◌, length, map, drop, slice_index_or as get_or, refl, sym, ap, ◌∙◌, subst, arith, nat_lt, encode_utf8_all, Ok, chars, IsUtf8, cases_Bool, drop_more, map-append, chars_from_encodes, IsUtf8-append, IsUtf8-between, IsUtf8-nil, IsUtf8-from_is_utf8, IsCharBoundary-start, Layer, Item, plain, text_of, ContentChange, meaning, then_items, AllOver, layer_parts, IsOver, items_over, IsLayer, bytes_left, text_within, IsJoined, IsReached, JoinedData, joined_text, Keeps, Part, OldPart, NewPart, AreParts, Ascend, IsPartOf, bytes_in, bytes_of, items_of, AreThrough, through_parts, whole_parts, common_steps}
+use Rattle.lsp_edit.specs.declared.delta.Delta.{Delta}
 use Rattle.lsp_edit.proofs.Batches.ComposeLemmas.{text_of-then, then_keeps}
 use Rattle.lsp_edit.proofs.Parts.CutPartsLemmas.{parts_bytes}
 use Rattle.lsp_edit.proofs.Composing.EditedLemmas.{index_first, plain_text, whole_is}
 use Rattle.lsp_edit.proofs.Canonical.KeepsLemmas.{meaning_keeps, plain_keeps}
 use Rattle.lsp_edit.proofs.Parts.ThroughLemmas.{are_through, ascending, through_items}
+use Rattle.lsp_edit.proofs.Deltas.DeltaLemmas.{HasBatch, has_batch}
 use Rattle.lsp_edit.proofs.Deltas.OwnedLemmas.{items_over-append, all_both, rows}
 
 -- what callers see of the fields
@@ -13,54 +15,6 @@ joined_seen before layers = record {
   before = before;
   items = items_over (chars before) (plain (chars before)) (map layer_parts layers);
 }
-
-module _ (before : List ℕ) (layers : List Layer)
-    (all : AllOver (chars before) (plain (chars before)) (map layer_parts layers)) (old : JoinedData)
-    (view : joined_seen before layers ≡ old)
-    (reached : List ℕ) (at : IsReached old reached) (units : ℕ → ℕ) (batch : List ContentChange) (layer : Layer)
-    (is : IsLayer (meaning units (chars reached) batch) reached (layer_parts layer))
-    (now : List Layer) (now_is : now ≡ layers ++ layer ∷ []) where
-  abbrev items_then : List Item
-  items_then = items_over (chars before) (plain (chars before)) (map layer_parts layers)
-
-  reached_then : chars reached ≡ text_of (chars before) items_then
-  reached_then = at.text_is ∙ sym (ap joined_text view)
-
-  more_over : IsOver (chars before) items_then (layer_parts layer)
-  more_over = record {
-    middle = reached;
-    utf8 = at.utf8;
-    text_is = reached_then;
-    are = is.are;
-    keeps = meaning_keeps (chars reached) units batch (items_of (chars reached) (layer_parts layer)) is.means;
-  }
-
-  rows_more : map layer_parts now ≡ map layer_parts layers ++ layer_parts layer ∷ []
-  rows_more = ap (map layer_parts) now_is ∙ map-append layer_parts layers (layer ∷ [])
-
-  pub more_all : AllOver (chars before) (plain (chars before)) (map layer_parts now)
-  more_all = grind (arith, common_steps, rows_more, all_both, more_over)
-
-  more_items : items_over (chars before) (plain (chars before)) (map layer_parts now)
-      ≡ then_items items_then (items_of (chars reached) (layer_parts layer))
-  more_items = grind (arith, common_steps, rows_more, items_over-append, reached_then)
-
-  pub more_is : joined_seen before now ≡ record old {
-    items = then_items old.items (items_of (chars reached) (layer_parts layer));
-  }
-  more_is = λ i. record {
-    before = (view i).before;
-    items = (more_items ∙ ap (λ (o : JoinedData). then_items o.items (items_of (chars reached) (layer_parts layer)))
-        view) i;
-  }
-
-  pub more_joined : IsJoined units old batch (joined_seen before now)
-  more_joined = record {
-    others = items_of (chars reached) (layer_parts layer);
-    means = subst (λ (t : List ℕ). meaning units t batch ≡ Ok (items_of (chars reached) (layer_parts layer))) at.text_is
-        is.means;
-    is = more_is;
-  }
 
 -- ---- the text before any batch, and that which a batch leaves
 
@@ -87,13 +41,12 @@ within_is : (max_len : ℕ) (reached : List ℕ) (items : List Item) (left : Lis
     → text_within max_len reached (Ok items) ≡ Ok left → bytes_left reached items ≡ left
 within_is max_len reached items left is = grind (arith, common_steps, nat_lt, cases_Bool)
 
-pub left_reached : (units : ℕ → ℕ) (old new : JoinedData) (batch : List ContentChange) (reached left : List ℕ)
-    (max_len : ℕ) (parts : List Part) → IsReached old reached
-    → (is : IsLayer (meaning units (chars reached) batch) reached parts) → new ≡ record old {
+left_reached : (old new : JoinedData) (meant : Result (List Item) (ℕ × Fault)) (reached left : List ℕ) (max_len : ℕ)
+    (parts : List Part) → IsReached old reached → IsLayer meant reached parts → new ≡ record old {
       items = then_items old.items (items_of (chars reached) parts);
     }
-    → text_within max_len reached (meaning units (chars reached) batch) ≡ Ok left → IsReached new left
-left_reached units old new batch reached left max_len parts at is new_is within =
+    → text_within max_len reached meant ≡ Ok left → IsReached new left
+left_reached old new meant reached left max_len parts at is new_is within =
     let text : List ℕ = text_of (chars reached) (items_of (chars reached) parts) in
     let bytes : encode_utf8_all text ≡ left =
     within_is max_len reached (items_of (chars reached) parts) left (rw is.means at within) in
@@ -106,6 +59,67 @@ left_reached units old new batch reached left max_len parts at is new_is within 
           ∙ (sym (text_of-then (chars old.before) old.items (items_of (chars reached) parts))
           ∙ sym (ap joined_text new_is)));
     }
+
+-- ---- a batch more
+
+module _ (before : List ℕ) (layers : List Layer)
+    (all : AllOver (chars before) (plain (chars before)) (map layer_parts layers)) (old : JoinedData)
+    (view : joined_seen before layers ≡ old)
+    (reached : List ℕ) (at : IsReached old reached) (delta : Delta) (on : IsOn reached delta) (layer : Layer)
+    (is : IsLayer (meant_by reached delta) reached (layer_parts layer))
+    (now : List Layer) (now_is : now ≡ layers ++ layer ∷ []) where
+  abbrev items_then : List Item
+  items_then = items_over (chars before) (plain (chars before)) (map layer_parts layers)
+
+  reached_then : chars reached ≡ text_of (chars before) items_then
+  reached_then = at.text_is ∙ sym (ap joined_text view)
+
+  some : HasBatch reached delta
+  some = has_batch reached delta on
+
+  more_over : IsOver (chars before) items_then (layer_parts layer)
+  more_over = record {
+    middle = reached;
+    utf8 = at.utf8;
+    text_is = reached_then;
+    are = is.are;
+    keeps = meaning_keeps (chars reached) some.units some.batch (items_of (chars reached) (layer_parts layer))
+        (some.means ∙ is.means);
+  }
+
+  rows_more : map layer_parts now ≡ map layer_parts layers ++ layer_parts layer ∷ []
+  rows_more = ap (map layer_parts) now_is ∙ map-append layer_parts layers (layer ∷ [])
+
+  pub more_all : AllOver (chars before) (plain (chars before)) (map layer_parts now)
+  more_all = grind (arith, common_steps, rows_more, all_both, more_over)
+
+  more_items : items_over (chars before) (plain (chars before)) (map layer_parts now)
+      ≡ then_items items_then (items_of (chars reached) (layer_parts layer))
+  more_items = grind (arith, common_steps, rows_more, items_over-append, reached_then)
+
+  more_is : joined_seen before now ≡ record old {
+    items = then_items old.items (items_of (chars reached) (layer_parts layer));
+  }
+  more_is = λ i. record {
+    before = (view i).before;
+    items = (more_items ∙ ap (λ (o : JoinedData). then_items o.items (items_of (chars reached) (layer_parts layer)))
+        view) i;
+  }
+
+  pub more_joined : (units : ℕ → ℕ) (batch : List ContentChange)
+      → meaning units (chars reached) batch ≡ meant_by reached delta → IsJoined units old batch (joined_seen before now)
+  more_joined units batch same = record {
+    others = items_of (chars reached) (layer_parts layer);
+    means = subst (λ (t : List ℕ). meaning units t batch ≡ Ok (items_of (chars reached) (layer_parts layer))) at.text_is
+        (same ∙ is.means);
+    is = more_is;
+  }
+
+  pub more_reached : (max_len : ℕ) (left : List ℕ) → text_within max_len reached (meant_by reached delta) ≡ Ok left
+      → IsReached (joined_seen before now) left
+  more_reached max_len left within =
+      left_reached old (joined_seen before now) (meant_by reached delta) reached left max_len (layer_parts layer) at is
+      more_is within
 
 -- ---- all layers told over the text before them
 

@@ -1,7 +1,7 @@
 -- Parts cut at the place of an index: their items are those before it and behind it.
 use Rattle.lsp_edit.proofs.Prelude.{ℕ, ◌≡◌, ◌+◌, ◌-◌, ◌<◌, ◌≤◌, List, [], ◌∷◌, length, map, take, drop, refl, sym, ap, ap₂, ◌∙◌, arith, take_at, drop_at, take-take, length-take-le, encode_utf8_all, IsCharBoundary, chars, IsUtf8, length-map, length-drop, take-map, drop-map, encodes-chars, IsUtf8-take, IsUtf8-drop, IsUtf8-from_is_utf8, is_utf8-from_IsUtf8, chars_from_encodes, place_of, numbers_from, place_end, place_rises, place_add, take_place, drop_place, part_place, place_boundary, place_within, IsIndexAt, index_at, Item, Old, New, character_of, text_of, Part, OldPart, NewPart, index_of, items_in, bytes_in, part_len, IsPartOf, front_part, back_part, IsOrdered, IsCutAt}
 use Rattle.lsp_edit.proofs.Canonical.RebuiltLemmas.{numbers-append, length-numbers, text_row}
-use Rattle.lsp_edit.proofs.Parts.IndexLemmas.{index_of-place, index_rises}
+use Rattle.lsp_edit.proofs.Parts.IndexLemmas.{index_found, index_of-place, index_rises}
 
 take_numbers : (low count more : ℕ) → take count (numbers_from low (count + more)) ≡ numbers_from low count
 take_numbers low count more = ap (take count) (numbers-append low count more) ∙ take_at (numbers_from low count)
@@ -48,33 +48,30 @@ module _ (old : List ℕ) (utf8 : IsUtf8 old) where
     text_is : text_of (chars old) (items_in (chars old) (OldPart from to)) ≡ take count (drop low (chars old))
 
   row_of : (from to : ℕ) → IsPartOf old (OldPart from to) → IsRow from to
-  row_of from to is = rows (index_at old from utf8 is.1) (index_at old to utf8 is.2)
-    where
-      rows : IsIndexAt old from → IsIndexAt old to → IsRow from to
-      rows a b =
-          let at_a : index_of (chars old) from ≡ a.index = ap (index_of (chars old)) (sym a.place_is)
-          ∙ index_of-place (chars old) a.index a.within in
-          let at_b : index_of (chars old) to ≡ b.index = ap (index_of (chars old)) (sym b.place_is)
-          ∙ index_of-place (chars old) b.index b.within in
-          let order : index_of (chars old) from ≤ index_of (chars old) to =
-          index_rises (chars old) from to (omega (arith, is.0)) in
-          let n : index_of (chars old) to - index_of (chars old) from ≡ b.index - a.index =
-          ap₂ (λ (x y : ℕ). x - y) at_b at_a in
-          let items : items_in (chars old) (OldPart from to) ≡ map Old (numbers_from a.index (b.index - a.index)) =
-          ap₂ (λ (x y : ℕ). map Old (numbers_from x y)) at_a n in
-          let there : a.index + (b.index - a.index) ≡ b.index = omega (arith, order, at_a, at_b) in
-          record {
-            low = a.index;
-            count = b.index - a.index;
-            within = omega (arith, b.within);
-            from_is = a.place_is;
-            to_is = ap (place_of (chars old)) there ∙ b.place_is;
-            low_is = at_a;
-            high_is = at_b ∙ sym there;
-            items_are = items;
-            text_is = ap (text_of (chars old)) items ∙ text_row (chars old) a.index (b.index - a.index)
-                (omega (arith, b.within));
-          }
+  row_of from to is =
+      let a : IsIndexAt old from = index_at old from utf8 is.1 in
+      let b : IsIndexAt old to = index_at old to utf8 is.2 in
+      let at_a : index_of (chars old) from ≡ a.index = index_found old from a in
+      let at_b : index_of (chars old) to ≡ b.index = index_found old to b in
+      let order : index_of (chars old) from ≤ index_of (chars old) to =
+      index_rises (chars old) from to (omega (arith, is.0)) in
+      let n : index_of (chars old) to - index_of (chars old) from ≡ b.index - a.index =
+      ap₂ (λ (x y : ℕ). x - y) at_b at_a in
+      let items : items_in (chars old) (OldPart from to) ≡ map Old (numbers_from a.index (b.index - a.index)) =
+      ap₂ (λ (x y : ℕ). map Old (numbers_from x y)) at_a n in
+      let there : a.index + (b.index - a.index) ≡ b.index = omega (arith, order, at_a, at_b) in
+      record {
+        low = a.index;
+        count = b.index - a.index;
+        within = omega (arith, b.within);
+        from_is = a.place_is;
+        to_is = ap (place_of (chars old)) there ∙ b.place_is;
+        low_is = at_a;
+        high_is = at_b ∙ sym there;
+        items_are = items;
+        text_is = ap (text_of (chars old)) items ∙ text_row (chars old) a.index (b.index - a.index)
+            (omega (arith, b.within));
+      }
 
   -- The bytes of a part are those of its items' characters.
   pub part_bytes : (part : Part) → IsPartOf old part → bytes_in old part

@@ -15,6 +15,10 @@ index_of-place (c ∷ text) zero within = refl
 index_of-place (c ∷ text) (suc k) within =
     grind (arith, common_steps, length-bytes, len_utf8_bounds, ne_eqb, (index_of-place text k (omega arith)))
 
+pub index_found : (bytes : List ℕ) (place : ℕ) (a : IsIndexAt bytes place) → index_of (chars bytes) place ≡ a.index
+index_found bytes place a =
+    ap (index_of (chars bytes)) (sym a.place_is) ∙ index_of-place (chars bytes) a.index a.within
+
 -- A later place has no lower index.
 pub index_rises : (text : List ℕ) (low high : ℕ) → low ≤ high → index_of text low ≤ index_of text high
 index_rises [] low high order = omega arith
@@ -31,18 +35,12 @@ index_rises (c ∷ text) low high order =
 pub indexes_less : (bytes : List ℕ) → IsUtf8 bytes → (low high : ℕ) → IsCharBoundary bytes low
     → IsCharBoundary bytes high → low < high → index_of (chars bytes) low < index_of (chars bytes) high
 indexes_less bytes utf8 low high at_low at_high less =
-    by_index (index_at bytes low utf8 at_low) (index_at bytes high utf8 at_high)
-  where
-    by_index : IsIndexAt bytes low → IsIndexAt bytes high → index_of (chars bytes) low < index_of (chars bytes) high
-    by_index a b =
-        let at_a : index_of (chars bytes) low ≡ a.index = ap (index_of (chars bytes)) (sym a.place_is)
-        ∙ index_of-place (chars bytes) a.index a.within in
-        let at_b : index_of (chars bytes) high ≡ b.index = ap (index_of (chars bytes)) (sym b.place_is)
-        ∙ index_of-place (chars bytes) b.index b.within in
-        ⊎_elim
-        (λ (l : a.index < b.index). omega arith)
-        (λ (l : b.index ≤ a.index).
-        let r : place_of (chars bytes) b.index + (a.index - b.index) ≤ place_of (chars bytes) a.index =
-        place_rises (chars bytes) b.index a.index l a.within in
-        absurd (omega (arith, a.place_is, b.place_is)))
-        (cases_lt a.index b.index)
+    let a : IsIndexAt bytes low = index_at bytes low utf8 at_low in
+    let b : IsIndexAt bytes high = index_at bytes high utf8 at_high in
+    let at_a = index_found bytes low a in
+    let at_b = index_found bytes high b in
+    ⊎_elim
+    (λ (l : a.index < b.index). omega (arith, at_a, at_b))
+    (λ (l : b.index ≤ a.index).
+    absurd (omega (arith, place_rises (chars bytes) b.index a.index l a.within, a.place_is, b.place_is)))
+    (cases_lt a.index b.index)

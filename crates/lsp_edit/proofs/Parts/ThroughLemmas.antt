@@ -3,7 +3,7 @@ use Rattle.lsp_edit.proofs.Prelude.{ℕ, zero, suc, ◌≡◌, ◌+◌, ◌-◌,
 use Rattle.lsp_edit.proofs.Batches.ComposeLemmas.{told_row, told_new}
 use Rattle.lsp_edit.proofs.Parts.CutLemmas.{text_long}
 use Rattle.lsp_edit.proofs.Parts.CutPartsLemmas.{AreCutAt, cut_parts}
-use Rattle.lsp_edit.proofs.Parts.IndexLemmas.{index_of-place, index_rises, indexes_less}
+use Rattle.lsp_edit.proofs.Parts.IndexLemmas.{index_found, index_rises, indexes_less}
 use Rattle.lsp_edit.proofs.Canonical.KeepsLemmas.{after, rest_keeps}
 use Rattle.lsp_edit.proofs.Parts.PutLemmas.{put_all_items}
 
@@ -22,46 +22,43 @@ module _ (old mid : List ℕ) (old_utf8 : IsUtf8 old) (mid_utf8 : IsUtf8 mid) (f
     parts = (is, tt);
     cut = tt;
   }
-  told_part (OldPart from to) is = by_indexes (index_at mid from mid_utf8 is.1) (index_at mid to mid_utf8 is.2)
-    where
-      by_indexes : IsIndexAt mid from → IsIndexAt mid to → IsTold (OldPart from to)
-      by_indexes a b =
-          let items : List Item = items_of (chars old) first in
-          let text : List ℕ = text_of (chars old) items in
-          let at_a : index_of (chars mid) from ≡ a.index = ap (index_of (chars mid)) (sym a.place_is)
-          ∙ index_of-place (chars mid) a.index a.within in
-          let at_b : index_of (chars mid) to ≡ b.index = ap (index_of (chars mid)) (sym b.place_is)
-          ∙ index_of-place (chars mid) b.index b.within in
-          let order : index_of (chars mid) from ≤ index_of (chars mid) to =
-          index_rises (chars mid) from to (omega (arith, is.0)) in
-          let long : length (chars mid) ≡ length items = ap length over ∙ text_long old old_utf8 items in
-          let start : place_of text a.index ≡ from = ap (λ (t : List ℕ). place_of t a.index) (sym over) ∙ a.place_is in
-          let cut_a : AreCutAt old old_utf8 first a.index from =
-          subst (AreCutAt old old_utf8 first a.index) start
-          (cut_parts old old_utf8 first a.index are (omega (arith, a.within, long))) in
-          let rest : List Part = back_parts first from in
-          let count : ℕ = b.index - a.index in
-          let there : a.index + count ≡ b.index = omega (arith, order, at_a, at_b) in
-          let rest_text : text_of (chars old) (items_of (chars old) rest) ≡ drop a.index text =
-          ap (text_of (chars old)) cut_a.back ∙ sym (drop-map (character_of (chars old)) a.index items) in
-          let add : place_of text (a.index + count) ≡ place_of text a.index + place_of (drop a.index text) count =
-          place_add text a.index count in
-          let stop : place_of text (a.index + count) ≡ to = ap₂ (λ (t : List ℕ) (k : ℕ). place_of t k) (sym over) there
-          ∙ b.place_is in
-          let span : place_of (text_of (chars old) (items_of (chars old) rest)) count ≡ to - from =
-          ap (λ (t : List ℕ). place_of t count) rest_text ∙ omega (arith, add, stop, start) in
-          let fits : count ≤ length (items_of (chars old) rest) =
-          omega (arith, ap length cut_a.back, length-drop a.index items, b.within, long, there) in
-          let cut_b : AreCutAt old old_utf8 rest count (to - from) =
-          subst (AreCutAt old old_utf8 rest count) span (cut_parts old old_utf8 rest count cut_a.back_are fits) in
-          let row : then_items items (items_in (chars mid) (OldPart from to)) ≡ take count (drop a.index items)
-          = ap₂ (λ (x y : ℕ). then_items items (map Old (numbers_from x y))) at_a (ap₂ (λ (x y : ℕ). x - y) at_b at_a)
-          ∙ told_row items a.index count (omega (arith, b.within, long, there)) in
-          record {
-            items = cut_b.front ∙ (ap (take count) cut_a.back ∙ sym row);
-            parts = cut_b.front_are;
-            cut = (omega (arith, is.0), cut_a.cut, cut_b.cut);
-          }
+  told_part (OldPart from to) is =
+      let a : IsIndexAt mid from = index_at mid from mid_utf8 is.1 in
+      let b : IsIndexAt mid to = index_at mid to mid_utf8 is.2 in
+      let items : List Item = items_of (chars old) first in
+      let text : List ℕ = text_of (chars old) items in
+      let at_a : index_of (chars mid) from ≡ a.index = index_found mid from a in
+      let at_b : index_of (chars mid) to ≡ b.index = index_found mid to b in
+      let order : index_of (chars mid) from ≤ index_of (chars mid) to =
+      index_rises (chars mid) from to (omega (arith, is.0)) in
+      let long : length (chars mid) ≡ length items = ap length over ∙ text_long old old_utf8 items in
+      let start : place_of text a.index ≡ from = ap (λ (t : List ℕ). place_of t a.index) (sym over) ∙ a.place_is in
+      let cut_a : AreCutAt old old_utf8 first a.index from =
+      subst (AreCutAt old old_utf8 first a.index) start
+      (cut_parts old old_utf8 first a.index are (omega (arith, a.within, long))) in
+      let rest : List Part = back_parts first from in
+      let count : ℕ = b.index - a.index in
+      let there : a.index + count ≡ b.index = omega (arith, order, at_a, at_b) in
+      let rest_text : text_of (chars old) (items_of (chars old) rest) ≡ drop a.index text =
+      ap (text_of (chars old)) cut_a.back ∙ sym (drop-map (character_of (chars old)) a.index items) in
+      let add : place_of text (a.index + count) ≡ place_of text a.index + place_of (drop a.index text) count =
+      place_add text a.index count in
+      let stop : place_of text (a.index + count) ≡ to = ap₂ (λ (t : List ℕ) (k : ℕ). place_of t k) (sym over) there
+      ∙ b.place_is in
+      let span : place_of (text_of (chars old) (items_of (chars old) rest)) count ≡ to - from =
+      ap (λ (t : List ℕ). place_of t count) rest_text ∙ omega (arith, add, stop, start) in
+      let fits : count ≤ length (items_of (chars old) rest) =
+      omega (arith, ap length cut_a.back, length-drop a.index items, b.within, long, there) in
+      let cut_b : AreCutAt old old_utf8 rest count (to - from) =
+      subst (AreCutAt old old_utf8 rest count) span (cut_parts old old_utf8 rest count cut_a.back_are fits) in
+      let row : then_items items (items_in (chars mid) (OldPart from to)) ≡ take count (drop a.index items)
+      = ap₂ (λ (x y : ℕ). then_items items (map Old (numbers_from x y))) at_a (ap₂ (λ (x y : ℕ). x - y) at_b at_a)
+      ∙ told_row items a.index count (omega (arith, b.within, long, there)) in
+      record {
+        items = cut_b.front ∙ (ap (take count) cut_a.back ∙ sym row);
+        parts = cut_b.front_are;
+        cut = (omega (arith, is.0), cut_a.cut, cut_b.cut);
+      }
 
   told_all : (made second : List Part) → AreParts old made → AreParts mid second
       → (items_of (chars old) (put_through first made second) ≡ items_of (chars old) made ++ then_items

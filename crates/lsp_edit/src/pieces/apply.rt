@@ -15,7 +15,7 @@ ghost use Rattle.lsp_text.specs.declared.position.Range.{Range};
 use crate::change::Change;
 use crate::ends::ends;
 use crate::fault::EditFault;
-use crate::pieces::current::{current_or_new, ends_in, replaced};
+use crate::pieces::current::{current_or_new, replaced};
 use crate::pieces::spans::Spans;
 use crate::pieces::{MAX_TEXT, Pieces};
 use lsp_text::{Encoding, Range};
@@ -41,7 +41,9 @@ impl<'a> Pieces<'a> {
             self.spans.as_slice(),
             self.len,
         )?;
-        let places = ends_in(&current, encoding, range, self.changes);
+        // States that the text is UTF-8.
+        let _ = current.len();
+        let places = ends(&current, encoding, range, self.changes);
         self.current = Some(current);
         places
     }

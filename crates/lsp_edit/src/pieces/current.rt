@@ -1,4 +1,4 @@
-//! The current text of spans, and the ends of a range in it.
+//! The current text of spans.
 //!
 //! The text that changes meet is built when the second of them is resolved. No clause says when
 //! it is made anew, nor how much room it is given: these are costs. Room for spans is reserved
@@ -6,17 +6,11 @@
 
 ghost use Rattle.std.specs.Prelude.{◌≡◌, ◌≤◌, IfOk, MatchOption, length, string_bytes};
 ghost use Rattle.std.specs.List.{replace_range};
-ghost use Rattle.std.specs.Str.{IsCharBoundary, IsUtf8, chars};
-ghost use Rattle.lsp_text.specs.Units.{units_in};
-ghost use Rattle.lsp_edit.specs.Faults.{places_at};
-ghost use Rattle.lsp_edit.specs.Batch.{ends_of};
+ghost use Rattle.std.specs.Str.{IsCharBoundary};
 ghost use Rattle.lsp_edit.specs.Parts.{AreParts, bytes_of, parts_of};
 
-use crate::ends::ends;
-use crate::fault::EditFault;
 use crate::pieces::span::Span;
 use lsp_buffer::TextBuffer;
-use lsp_text::{Encoding, Range};
 use std::alloc::{AllocError, Global};
 
 /// Returns the current text, if there is one already, or else the text of the spans in one block.
@@ -73,20 +67,4 @@ pub fn text_of_spans(
         span.push_to(before, &mut text)?;
     }
     Ok(text)
-}
-
-/// Returns the byte offsets of a range's two ends in the current text. `change` is the number of
-/// the change that a fault reports.
-pub fn ends_in(
-    text: &TextBuffer,
-    encoding: Encoding,
-    range: Range,
-    change: usize,
-) -> Result<(usize, usize), EditFault>
-    ensures utf8 { IsUtf8 text.now }
-    ensures value { result
-        ≡ places_at change (chars text.now) (ends_of (units_in encoding) (chars text.now) range) }
-{
-    let _ = text.len();
-    ends(text, encoding, range, change)
 }

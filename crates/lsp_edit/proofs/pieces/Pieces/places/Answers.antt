@@ -19,7 +19,7 @@ returns-clause-places c =
     c.self.inside.changes
     (sym (ap (λ (e : PlainData). e.changes) (same_edited c.self.view_is)))
     (sym (ap edited_text (same_edited c.self.view_is))
-    ∙ sym (now_chars _ _ _ _ c.in_ok-current.current c.self.invariant.0 c.ends_in-places.ensures.utf8
+    ∙ sym (now_chars _ _ _ _ c.in_ok-current.current c.self.invariant.0 c.len.ensures.utf8
     (c.in_ok-current.ensures
     ∙ ap₂ (λ (b : List ℕ) (s : List Span). bytes_of b (parts_of s)) c.get-2.ensures c.as_slice.ensures)))
-    c.ends_in-places.ensures.value
+    c.ends-places.ensures
