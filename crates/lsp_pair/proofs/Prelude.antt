@@ -4,10 +4,10 @@ pub use Rattle.std.proofs.lemmas.Bool.{and_parts, cases_Bool, cases_lt, leb-fals
 pub use Rattle.std.proofs.lemmas.Grind.{common_steps}
 pub use Rattle.std.proofs.lemmas.List.{append-nil, append_assoc, drop-append-le, length-append, length-drop, map-append, take-append-drop, take-append-le, take_all}
 pub use Rattle.std.proofs.lemmas.Str.{IsUtf8-string_bytes, encodes-chars, scalars-chars}
-pub use Rattle.std.specs.Prelude.{MatchOption, if◌then◌else◌, unwrap_or, ⊤, ◌&&◌, ◌||◌}
+pub use Rattle.std.specs.Prelude.{MatchOption, if◌then◌else◌, unwrap_or, ⊤, ◌||◌}
 pub use Rattle.std.specs.declared.alloc.Global.{Global}
 pub use Rattle.lsp_client.specs.Seen.{IsFaultOf, IsSent, delivered_view}
-pub use Rattle.lsp_client.specs.Step.{Call, ClientData, Delivery, Order, Sending, agreement, begin_as_announced, begin_if_agreed, begin_in, call_result, call_result_in, command_of, command_result, delivery_in, delivery_of, edits, exits, is_awaited, is_listening, orders, sending_unless, sent_batch, sent_body, sent_message, shuts_down, starts}
+pub use Rattle.lsp_client.specs.Step.{Call, ClientData, Delivery, Sending, begin_as_announced, begin_if_agreed, begin_in, call_result, delivery_in, delivery_of, is_awaited, is_listening, sent_body}
 pub use Rattle.lsp_client.specs.declared.agreed.Agreed.{Agreed}
 pub use Rattle.lsp_client.specs.declared.fault.ClientFault.{ClientFault}
 pub use Rattle.lsp_client.specs.declared.fault.ClientFault.TheVariants.{NoMemory, Store, WrongPhase}
@@ -44,7 +44,7 @@ pub use Rattle.lsp_pair.specs.laws.Steps.{IsStepAt}
 pub use Rattle.lsp_pair.specs.laws.Usual.{HaveOneEncoding, IsUsual, IsUsualBack, IsUsualTurn, agreed_of}
 pub use Rattle.lsp_pair.specs.laws.World.{AreProperEvents, ClientMessage, IsProperEdits, IsProperEvent, IsProperOrder, Turn, World, beginning, client_of, commands, commands_in, incoming_of_message, lifecycle, message_in, message_of_call, server_of, to_client_event, to_server_event, turn, turn_of_call, turn_of_delivery, turn_of_result, turn_of_step, world_from, world_of}
 pub use Rattle.lsp_server.specs.Choice.{announced_kind, encoding_chosen}
-pub use Rattle.lsp_server.specs.Step.{ServerData, Step, begin_step, command_step, content_change_from_data, result_step, session_encoding, step, step_in, step_on}
+pub use Rattle.lsp_server.specs.Step.{ServerData, Step, begin_step, command_step, result_step, session_encoding, step, step_in, step_on}
 pub use Rattle.lsp_server.specs.declared.phase.Phase.{Phase}
 pub use Rattle.lsp_server.specs.declared.phase.Phase.TheVariants.{Down, Ended, New, Running}
 pub use Rattle.lsp_store.proofs.Messages.MessageLemmas.{Accepts, accepted_parts, batch_at, proper, texts_held}
@@ -54,4 +54,4 @@ pub use Rattle.lsp_store.specs.Opened.{StoreData}
 pub use Rattle.lsp_store.specs.Table.{Command, Refusal, after_change, change_refusal, changed, changes, closes, command_refusal, opens, table_after, table_from, table_of, unless_refused}
 pub use Rattle.lsp_store.specs.laws.Tables.{AllWithin, HasTexts, IsReplacedBy, IsWithin}
 pub use Rattle.lsp_text.specs.declared.encoding.Encoding.{Encoding}
-pub use Rattle.lsp_text.specs.declared.encoding.Encoding.TheVariants.{Utf16, Utf32, Utf8}
+pub use Rattle.lsp_text.specs.declared.encoding.Encoding.TheVariants.{Utf16, Utf8}

@@ -27,7 +27,8 @@ use std::collections::VecDeque;
 fn framer_of(alloc: Global, limits: Limits, bytes: &[u8]) -> Result<Framer, AllocError>
     requires { IsFrame limits.max_body bytes.now }
     ensures { IfOk result (λ framer.
-        (framer.buffered ≡ bytes.now) × (framer.failed ≡ false) × (framer.limits ≡ limits)) }
+        (framer.buffered ≡ bytes.now) × (framer.failed ≡ false) × (framer.limits ≡ limits)
+        × IsFrame framer.limits.max_body framer.buffered) }
 {
     let mut framer = Framer::new(alloc, limits);
     match framer.feed(bytes) {

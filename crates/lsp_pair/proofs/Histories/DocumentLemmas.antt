@@ -1,8 +1,8 @@
 -- The documents of both ends of a pair at a world.
-use Rattle.lsp_pair.proofs.Prelude.{ℕ, ◌≡◌, ◌≤◌, nat_le, true, false, List, [], ◌∷◌, ◌++◌, length, map, take, slice_get, Option, Some, None, Result, Ok, Err, refl, sym, ap, ◌∙◌, arith, ⊎_elim, cases_Bool, leb-true, leb-false, append_assoc, append-nil, length-append, take-append-le, take_all, take-append-drop, SyncKind, OutgoingData, message, sent, DocumentItem, table_of, ClientFault, Setting, EventData, calls, to_server, to_client, messages_in, PairData, IsFitting, ClientMessage, lifecycle, World, commands_in, turn_of_call, to_server_event, to_client_event, turn_of_result, turn, world_from, world_of, beginning, client_of, IsAt, frames_from, waiting_out}
+use Rattle.lsp_pair.proofs.Prelude.{ℕ, ◌≡◌, ◌≤◌, nat_le, true, false, List, [], ◌∷◌, ◌++◌, length, take, refl, sym, ap, ◌∙◌, arith, ⊎_elim, cases_Bool, leb-true, leb-false, append_assoc, append-nil, length-append, take-append-le, take_all, take-append-drop, SyncKind, sent, DocumentItem, table_of, Setting, EventData, to_server, PairData, IsFitting, ClientMessage, World, commands_in, turn, world_from, world_of, beginning, IsAt, frames_from, waiting_out}
 use Rattle.lsp_pair.specs.laws.Commanded.{sent_messages, delivered_messages, HaveCommanded}
 use Rattle.lsp_pair.proofs.Worlds.WorldLemmas.{world_sound}
-use Rattle.lsp_client.specs.Step as client
+use Rattle.lsp_pair.proofs.Histories.HistoryLemmas.{turn_grows}
 
 -- ---- what waits
 
@@ -10,51 +10,6 @@ no_frames : (kind : SyncKind) (table : List DocumentItem) (waiting : List Client
     → frames_from kind table waiting ≡ [] → waiting ≡ []
 no_frames kind table [] e = refl
 no_frames kind table (first ∷ rest) e = absurd (cc)
-
--- ---- `out` grows by one message at most
-
-record Grows (old new : List ClientMessage) : Type 0 where
-  pub more : List ClientMessage
-  pub is : new ≡ old ++ more
-  pub few : length more ≤ 1
-
-same_out : (out : List ClientMessage) → Grows out out
-same_out out = record { more = []; is = sym (append-nil out); few = omega arith }
-
-call_grows : (w : World) (m : ClientMessage) (result : Result client.Sending ClientFault)
-    → Grows w.out (turn_of_call w m result).world.out
-call_grows w m (Ok sending) = record { more = m ∷ []; is = refl; few = omega arith }
-call_grows w m (Err refusal) = same_out w.out
-
-few_messages : (d : client.DeliveredData OutgoingData) → length (map lifecycle (messages_in d)) ≤ 1
-few_messages (client.sends m) = omega arith
-few_messages client.noted = omega arith
-few_messages client.ignored = omega arith
-few_messages (client.bad_server reason) = omega arith
-
-result_grows : (w : World) (result : Result client.Delivery ClientFault)
-    → Grows w.out (turn_of_result w result).world.out
-result_grows w (Ok delivery) = record {
-  more = map lifecycle (messages_in delivery.delivered);
-  is = refl;
-  few = few_messages delivery.delivered;
-}
-result_grows w (Err refusal) = same_out w.out
-
-server_grows : (setting : Setting) (w : World) (next : Option ClientMessage)
-    → Grows w.out (to_server_event setting w next).world.out
-server_grows setting w None = same_out w.out
-server_grows setting w (Some m) = same_out w.out
-
-client_grows : (setting : Setting) (w : World) (next : Option OutgoingData)
-    → Grows w.out (to_client_event setting w next).world.out
-client_grows setting w None = same_out w.out
-client_grows setting w (Some m) = result_grows w (client.delivery_result (client_of setting w) (message (sent m)))
-
-turn_grows : (setting : Setting) (w : World) (event : EventData) → Grows w.out (turn setting w event).world.out
-turn_grows setting w (calls call) = call_grows w _ (client.call_result (client_of setting w) call)
-turn_grows setting w to_server = server_grows setting w (slice_get w.out w.out_delivered)
-turn_grows setting w to_client = client_grows setting w (slice_get w.back w.back_delivered)
 
 -- what was sent before is sent still
 record Extends (old new : List ClientMessage) : Type 0 where

@@ -71,10 +71,12 @@ new_history setting sound = record { setting = setting; sound = sound; events = 
 
 -- ---- a step
 
--- what a turn adds to the history
-abbrev IsNextHistory : Setting → World → Turn → Type 0
-IsNextHistory setting w t =
-    history_after (history_of w) t.happened (client_of setting t.world).table ≡ history_of t.world
+-- what a turn adds to `out`, one message at most, and to the history
+pub record Grows (setting : Setting) (w : World) (t : Turn) : Type 0 where
+  pub more : List ClientMessage
+  pub is : t.world.out ≡ w.out ++ more
+  pub few : length more ≤ 1
+  pub told : history_after (history_of w) t.happened (client_of setting t.world).table ≡ history_of t.world
 
 one_more : (w : World) (said : ClientMessage)
     → record (history_of w) { sent = tables_from [] w.out ++ table_after_all [] (w.out ++ said ∷ []) ∷ [] }
@@ -84,44 +86,50 @@ one_more w said = λ i. record (history_of w) { sent = sym (tables-last [] w.out
 none_more : (w : World) → history_of w ≡ record (history_of w) { sent = tables_from [] (w.out ++ []) }
 none_more w = λ i. record (history_of w) { sent = tables_from [] (sym (append-nil w.out) i) }
 
-call_next : (setting : Setting) (w : World) (said : ClientMessage) (result : Result client.Sending ClientFault)
-    → IsNextHistory setting w (turn_of_call w said result)
-call_next setting w said (Ok sending) = one_more w said
-call_next setting w said (Err refusal) = refl
+same_out : (setting : Setting) (w : World) (t : Turn) → t.world.out ≡ w.out
+    → history_after (history_of w) t.happened (client_of setting t.world).table ≡ history_of t.world → Grows setting w t
+same_out setting w t is told = record { more = []; is = is ∙ sym (append-nil w.out); few = omega arith; told = told }
 
-delivery_next : (setting : Setting) (w : World) (d : client.DeliveredData OutgoingData) (s : client.ClientData)
-    → IsNextHistory setting w (turn_of_delivery w (record { delivered = d; state = s }))
-delivery_next setting w (client.sends m) s = one_more w (lifecycle m)
-delivery_next setting w client.noted s = none_more w
-delivery_next setting w client.ignored s = none_more w
-delivery_next setting w (client.bad_server reason) s = none_more w
+call_grows : (setting : Setting) (w : World) (said : ClientMessage) (result : Result client.Sending ClientFault)
+    → Grows setting w (turn_of_call w said result)
+call_grows setting w said (Ok sending) =
+    record { more = said ∷ []; is = refl; few = omega arith; told = one_more w said }
+call_grows setting w said (Err refusal) = same_out setting w _ refl refl
 
-result_next : (setting : Setting) (w : World) (result : Result client.Delivery ClientFault)
-    → IsNextHistory setting w (turn_of_result w result)
-result_next setting w (Ok delivery) = delivery_next setting w delivery.delivered delivery.state
-result_next setting w (Err refusal) = refl
+delivery_grows : (setting : Setting) (w : World) (d : client.DeliveredData OutgoingData) (s : client.ClientData)
+    → Grows setting w (turn_of_delivery w (record { delivered = d; state = s }))
+delivery_grows setting w (client.sends m) s =
+    record { more = lifecycle m ∷ []; is = refl; few = omega arith; told = one_more w (lifecycle m) }
+delivery_grows setting w _ s = record { more = []; is = refl; few = omega arith; told = none_more w }
 
-server_next : (setting : Setting) (w : World) (next : Option ClientMessage)
-    → IsNextHistory setting w (to_server_event setting w next)
-server_next setting w None = refl
-server_next setting w (Some said) = refl
+result_grows : (setting : Setting) (w : World) (result : Result client.Delivery ClientFault)
+    → Grows setting w (turn_of_result w result)
+result_grows setting w (Ok delivery) = delivery_grows setting w delivery.delivered delivery.state
+result_grows setting w (Err refusal) = same_out setting w _ refl refl
 
-client_next : (setting : Setting) (w : World) (next : Option OutgoingData)
-    → IsNextHistory setting w (to_client_event setting w next)
-client_next setting w None = refl
-client_next setting w (Some m) = result_next setting w (client.delivery_result (client_of setting w) (message (sent m)))
+server_grows : (setting : Setting) (w : World) (next : Option ClientMessage)
+    → Grows setting w (to_server_event setting w next)
+server_grows setting w None = same_out setting w _ refl refl
+server_grows setting w (Some said) = same_out setting w _ refl refl
 
-turn_next : (setting : Setting) (w : World) (event : EventData) → IsNextHistory setting w (turn setting w event)
-turn_next setting w (calls call) = call_next setting w _ (client.call_result (client_of setting w) call)
-turn_next setting w to_server = server_next setting w (slice_get w.out w.out_delivered)
-turn_next setting w to_client = client_next setting w (slice_get w.back w.back_delivered)
+client_grows : (setting : Setting) (w : World) (next : Option OutgoingData)
+    → Grows setting w (to_client_event setting w next)
+client_grows setting w None = same_out setting w _ refl refl
+client_grows setting w (Some m) =
+    result_grows setting w (client.delivery_result (client_of setting w) (message (sent m)))
+
+pub turn_grows : (setting : Setting) (w : World) (event : EventData) → Grows setting w (turn setting w event)
+turn_grows setting w (calls call) = call_grows setting w _ (client.call_result (client_of setting w) call)
+turn_grows setting w to_server = server_grows setting w (slice_get w.out w.out_delivered)
+turn_grows setting w to_client = client_grows setting w (slice_get w.back w.back_delivered)
 
 -- a pair at a world has its history, and after a step that of the next world
 pub next_history : (setting : Setting) (events : List EventData) (event : EventData) (h : History) (happened : Happened)
     (new : PairData)
     → IsFitting setting → h ≡ history_of (world_of setting events) → IsStepAt setting events event happened new
     → IsHistory (history_after h happened new.client.table) new
-next_history setting events event h happened new sound told steps = grind (arith, common_steps, world-last, turn_next)
+next_history setting events event h happened new sound told steps =
+    grind (arith, common_steps, world-last, (turn_grows setting (world_of setting events) event).told)
 
 -- after a step that leads to the world of the list with its event added
 pub history_if : {E : Type 0} (old new : PairData) (event : EventData) (result : Result Happened E)

@@ -1,18 +1,13 @@
 -- A call of a pair's client, over plain values.
-use Rattle.lsp_pair.proofs.Prelude.{ℕ, ◌≡◌, ◌≢◌, ◌⊎◌, List, [], ◌∷◌, ◌++◌, Result, Ok, Err, IfOk, IfErr, OnErr, Vec, refl, sym, ap, ◌∙◌, subst, ⊎_elim, Global, map-append, ClientFault, WrongPhase, Store, NoMemory, Sending, call_result, IsSent, IsFaultOf, Event, Start, Open, Edit, Close, Shutdown, Exit, ToServer, ToClient, Happened, Sent, Refused, Server, Client, Did, Heard, EventData, calls, to_server, to_client, PairData, IsCallStep, IsServerStep, IsClientStep, IsDeliveryStep, IsStep, event_view, frames, IsCall, HoldsOnCall, both_ends}
+use Rattle.lsp_pair.proofs.Prelude.{ℕ, ◌≡◌, ◌≢◌, ◌⊎◌, List, [], ◌∷◌, ◌++◌, Result, Ok, Err, IfOk, IfErr, OnErr, Vec, refl, sym, ap, ◌∙◌, subst, ⊎_elim, Global, map-append, ClientFault, WrongPhase, Store, NoMemory, Sending, call_result, IsSent, IsFaultOf, Event, ToServer, ToClient, Happened, Sent, Refused, EventData, calls, to_server, to_client, PairData, IsCallStep, IsServerStep, IsClientStep, IsDeliveryStep, IsStep, event_view, frames, IsCall, HoldsOnCall, both_ends}
 use Rattle.std.specs.declared.alloc.AllocError.{AllocError}
 use Rattle.lsp_server.specs.Step as server
 use Rattle.lsp_client.specs.Step as client
 
 pub is_call : (e : Event) → (e ≡ ToServer → ⊥) → (e ≡ ToClient → ⊥) → IsCall (event_view e)
-is_call Start p q = tt
-is_call (Open uri language version text) p q = tt
-is_call (Edit uri version changes) p q = tt
-is_call (Close uri) p q = tt
-is_call Shutdown p q = tt
-is_call Exit p q = tt
 is_call ToServer p q = absurd (p refl)
 is_call ToClient p q = absurd (q refl)
+is_call _ p q = tt
 
 -- A call is no delivery.
 pub no_delivery : {A E : Type 0} (e : EventData) (sent replies : List (List ℕ)) (r : Result A E) → IsCall e
@@ -58,8 +53,7 @@ module _ (s : server.ServerData) (c new : client.ClientData) (q next : List (Vec
       (λ (error : IsFaultOf (call_result c k) fault). refused_is (call_result c k) fault error refused.1.0 same
       refused.0) error)
   call_is (calls k) (Err fault) (Err e) is sends same error pushed refused = tt
-  call_is to_server sent result is sends same error pushed refused = absurd is
-  call_is to_client sent result is sends same error pushed refused = absurd is
+  call_is _ sent result is sends same error pushed refused = absurd is
 
   pub call_same : (sent : Result (Vec ℕ Global) ClientFault) (result : Result Happened AllocError)
       → OnErr sent (new ≡ c) → IfOk sent (λ bytes. (result ≡ Ok Sent) × (next ≡ q ++ bytes ∷ []))
@@ -73,18 +67,10 @@ module _ (s : server.ServerData) (c new : client.ClientData) (q next : List (Vec
 
 -- ---- a refused call changes nothing
 
-sent_apart : (fault : ClientFault) → Sent ≡ Refused fault → ⊥
-sent_apart fault e = cc
-
-served_apart : (did : Did) (fault : ClientFault) → Server did ≡ Refused fault → ⊥
-served_apart did fault e = cc
-
-heard_apart : (heard : Heard) (fault : ClientFault) → Client heard ≡ Refused fault → ⊥
-heard_apart heard fault e = cc
-
 refused_call : (old new : PairData) (result : Result Sending ClientFault) (happened : Happened) (fault : ClientFault)
     → happened ≡ Refused fault → IsCallStep old result happened new → new ≡ old
-refused_call old new (Ok sending) happened fault is steps = absurd (sent_apart fault (sym steps.0 ∙ is))
+refused_call old new (Ok sending) happened fault is steps = let e : Sent ≡ Refused fault = sym steps.0 ∙ is in
+    absurd (cc)
 refused_call old new (Err refusal) happened fault is steps = steps.1
 
 refused_delivery : (taken : List ℕ → List (List ℕ) → Type 0) (old new : PairData) (queue : List (List ℕ))
@@ -94,24 +80,16 @@ refused_delivery : (taken : List ℕ → List (List ℕ) → Type 0) (old new : 
 refused_delivery taken old new [] happened never steps = steps.1
 refused_delivery taken old new (first ∷ rest) happened never steps = absurd (never first rest steps)
 
-never_served : (old new : PairData) (happened : Happened) (fault : ClientFault) → happened ≡ Refused fault
-    → (first : List ℕ) (rest : List (List ℕ)) → IsServerStep old first rest happened new → ⊥
-never_served old new happened fault is first rest served = served_apart _ fault (sym served.happens ∙ is)
-
-never_heard : (old new : PairData) (happened : Happened) (fault : ClientFault) → happened ≡ Refused fault
-    → (first : List ℕ) (rest : List (List ℕ)) → IsClientStep old first rest happened new → ⊥
-never_heard old new happened fault is first rest hears = heard_apart _ fault (sym hears.happens ∙ is)
-
 refused_step : (old new : PairData) (event : EventData) (happened : Happened) (fault : ClientFault) → happened
     ≡ Refused fault → IsStep old event happened new → new ≡ old
 refused_step old new (calls call) happened fault is steps =
     refused_call old new (call_result old.client call) happened fault is steps
 refused_step old new to_server happened fault is steps =
     refused_delivery (λ first rest. IsServerStep old first rest happened new) old new old.to_server happened
-    (never_served old new happened fault is) steps
+    (λ first rest served. let e = sym served.happens ∙ is in cc) steps
 refused_step old new to_client happened fault is steps =
     refused_delivery (λ first rest. IsClientStep old first rest happened new) old new old.to_client happened
-    (never_heard old new happened fault is) steps
+    (λ first rest hears. let e = sym hears.happens ∙ is in cc) steps
 
 pub refused_if : {E : Type 0} (old new : PairData) (event : EventData) (result : Result Happened E)
     → IfOk result (λ happened. IsStep old event happened new)

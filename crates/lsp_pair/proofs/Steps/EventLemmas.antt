@@ -21,7 +21,4 @@ proper_event (Edit uri version changes) fits = record {
   texts = texts_held changes.items;
 }
 proper_event (Close uri) fits = IsUtf8-string_bytes uri
-proper_event Shutdown fits = tt
-proper_event Exit fits = tt
-proper_event ToServer fits = tt
-proper_event ToClient fits = tt
+proper_event _ fits = tt

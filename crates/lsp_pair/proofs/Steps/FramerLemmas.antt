@@ -1,11 +1,5 @@
 -- A whole frame that is fed is buffered whole.
-use Rattle.lsp_pair.proofs.Prelude.{ℕ, zero, suc, ◌≡◌, get_or, ◌≤◌, ◌<◌, List, [], ◌∷◌, length, take, drop, refl, sym, ap, subst, arith, ⊎_elim, cases_lt, take-append-drop, length-drop, IsFrameOf, IsFrame, one_frame_law}
-
-take_whole : {X : Type 0} (k : ℕ) (xs : List X) → length xs ≤ k → take k xs ≡ xs
-take_whole zero [] h = refl
-take_whole zero (x ∷ xs) h = absurd (omega arith)
-take_whole (suc k) [] h = refl
-take_whole (suc k) (x ∷ xs) h = ap (λ ys. x ∷ ys) (take_whole k xs (omega arith))
+use Rattle.lsp_pair.proofs.Prelude.{ℕ, ◌≡◌, get_or, ◌≤◌, ◌<◌, List, [], ◌∷◌, length, take, drop, sym, ap, subst, arith, ⊎_elim, cases_lt, take-append-drop, length-drop, IsFrameOf, IsFrame, one_frame_law, take_all}
 
 -- the first of a queue, and what is after it
 pub first_out : {X : Type 0} (items rest : List X) (first : X) → 0 < length items → first ≡ get_or items 0 first
@@ -23,5 +17,5 @@ whole_taken max_body bytes k whole within stops =
     (one_frame_law max_body (take k bytes) (drop k bytes) front.body whole.body front.is_frame_of
     (subst (λ (b : List ℕ). IsFrameOf max_body b whole.body) (sym (take-append-drop k bytes)) whole.is_frame_of)).0 in
     absurd (omega (arith, less, length-drop k bytes, ap length nothing)))
-    (λ (all : length bytes ≤ k). take_whole k bytes all)
+    (λ (all : length bytes ≤ k). take_all k bytes all)
     (cases_lt k (length bytes))

@@ -1,5 +1,5 @@
 -- A new pair.
-use Rattle.lsp_pair.proofs.Prelude.{◌≡◌, Bool, true, false, true≢false, not, IsTrue, [], nat_le, sym, ◌&&◌, ◌||◌, and_parts, leb-true, LimitsData, AreInRange, Offers, AreWithin, Setting, IsFitting, can_choose_utf16, are_within, new_pair, IsReached}
+use Rattle.lsp_pair.proofs.Prelude.{◌≡◌, Bool, true, false, true≢false, not, IsTrue, [], nat_le, sym, ◌||◌, and_parts, leb-true, LimitsData, AreInRange, Offers, AreWithin, Setting, IsFitting, can_choose_utf16, are_within, new_pair, IsReached, arith, common_steps}
 use Rattle.lsp_server.specs.declared.config.Config.{Config}
 use Rattle.lsp_pair.proofs.Steps.StepLemmas.{new_at}
 
@@ -8,22 +8,7 @@ lenient_from true great e is = e
 lenient_from false great e is = absurd (true≢false (sym is))
 
 pub within_from : (small great : LimitsData) → are_within small great ≡ true → AreWithin small great
-within_from small great e =
-    let four : Bool = nat_le small.max_body great.max_body && nat_le small.max_text great.max_text
-    && nat_le small.max_docs great.max_docs && nat_le small.max_changes great.max_changes in
-    let all = and_parts four (not small.lenient || great.lenient) e in
-    let a = and_parts (nat_le small.max_body great.max_body && nat_le small.max_text great.max_text
-    && nat_le small.max_docs great.max_docs) (nat_le small.max_changes great.max_changes) all.0 in
-    let b = and_parts (nat_le small.max_body great.max_body && nat_le small.max_text great.max_text)
-    (nat_le small.max_docs great.max_docs) a.0 in
-    let c = and_parts (nat_le small.max_body great.max_body) (nat_le small.max_text great.max_text) b.0 in
-    record {
-      body = leb-true small.max_body great.max_body c.0;
-      text = leb-true small.max_text great.max_text c.1;
-      docs = leb-true small.max_docs great.max_docs b.1;
-      changes = leb-true small.max_changes great.max_changes a.1;
-      lenient = lenient_from small.lenient great.lenient all.1;
-    }
+within_from small great e = grind (arith, common_steps, nat_le, and_parts, leb-true, lenient_from)
 
 pub sound_from : (limits : LimitsData) (offers : Offers) (config : Config) → AreInRange limits
     → AreInRange config.limits → are_within limits config.limits ≡ true → can_choose_utf16 config.choice ≡ true

@@ -17,12 +17,7 @@ never_ended (lifecycle (outgoing.initialize offers)) h = cc
 never_ended (lifecycle outgoing.initialized) h = cc
 never_ended (lifecycle outgoing.shutdown) h = cc
 never_ended (lifecycle outgoing.exit) h = cc
-never_ended (lifecycle (outgoing.did_open p)) h = h
-never_ended (lifecycle (outgoing.did_change p)) h = h
-never_ended (lifecycle (outgoing.did_close p)) h = h
-never_ended (lifecycle (outgoing.initialize_result id encoding kind)) h = h
-never_ended (lifecycle (outgoing.shutdown_result id)) h = h
-never_ended (lifecycle (outgoing.error_reply id error)) h = h
+never_ended _ h = h
 
 module _ (setting : Setting) (sound : IsFitting setting) (w : World) (ok : WorldSound setting w) where
   not_ended : (said : ClientMessage) (rest : List ClientMessage) → Arrives setting w said rest → w.server_phase ≢ Ended
@@ -83,23 +78,13 @@ pub same_at_server : {A E : Type 0} (c : client.ClientData) (s t : server.Server
     (result : Result A E) → OnErr result ((t ≡ s) × (p ≡ q) × (d ≡ b))
     → OnErr result (both_ends c t p d ≡ both_ends c s q b)
 same_at_server c s t q p b d (Ok a) same = tt
-same_at_server c s t q p b d (Err e) same = λ i. record {
-  client = c;
-  server = same.0 i;
-  to_server = same.1 i;
-  to_client = same.2 i;
-}
+same_at_server c s t q p b d (Err e) same = λ i. both_ends c (same.0 i) (same.1 i) (same.2 i)
 
 pub same_at_client : {A E : Type 0} (s : server.ServerData) (c k : client.ClientData) (q p b d : List (List ℕ))
     (result : Result A E) → OnErr result ((k ≡ c) × (p ≡ q) × (d ≡ b))
     → OnErr result (both_ends k s d p ≡ both_ends c s b q)
 same_at_client s c k q p b d (Ok a) same = tt
-same_at_client s c k q p b d (Err e) same = λ i. record {
-  client = same.0 i;
-  server = s;
-  to_server = same.2 i;
-  to_client = same.1 i;
-}
+same_at_client s c k q p b d (Err e) same = λ i. both_ends (same.0 i) s (same.2 i) (same.1 i)
 
 pub same_from : {A E : Type 0} (old now new : PairData) (result : Result A E) → old ≡ now → OnErr result (new ≡ old)
     → OnErr result (new ≡ now)

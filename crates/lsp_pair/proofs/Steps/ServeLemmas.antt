@@ -8,21 +8,11 @@ use Rattle.lsp_client.specs.Seen as seen
 
 did_same : (a : AnswerData OutgoingData) → did_of_sent (as_sent a) ≡ did_of a
 did_same (answer.reply m) = refl
-did_same answer.changed = refl
-did_same answer.dropped = refl
-did_same answer.ignored = refl
-did_same answer.already_ended = refl
-did_same (answer.refused refusal) = refl
-did_same (answer.exits status) = refl
+did_same _ = refl
 
 frames_same : (a : AnswerData OutgoingData) → frames_in_answer (as_sent a) ≡ map message_frame (replies_in a)
 frames_same (answer.reply m) = refl
-frames_same answer.changed = refl
-frames_same answer.dropped = refl
-frames_same answer.ignored = refl
-frames_same answer.already_ended = refl
-frames_same (answer.refused refusal) = refl
-frames_same (answer.exits status) = refl
+frames_same _ = refl
 
 pub first_there : (P : List ℕ → Type 0) (items : List (Vec ℕ Global)) (first : Vec ℕ Global) → 0 < length items
     → first ≡ get_or items 0 first → HoldsOfFirst (frames items) P → P first.items
@@ -46,16 +36,12 @@ serve_is c s new limits items rest back next first body buffered given result ou
 
 heard_same : (d : client.DeliveredData OutgoingData) → heard_of (seen.as_frame d) ≡ heard_of d
 heard_same (client.sends m) = refl
-heard_same client.noted = refl
-heard_same client.ignored = refl
-heard_same (client.bad_server reason) = refl
+heard_same _ = refl
 
 bytes_same : (d : client.DeliveredData OutgoingData) → frames_in_delivery (seen.as_frame d)
     ≡ map message_frame (messages_in d)
 bytes_same (client.sends m) = refl
-bytes_same client.noted = refl
-bytes_same client.ignored = refl
-bytes_same (client.bad_server reason) = refl
+bytes_same _ = refl
 
 listening : (b : Bool) → b ≡ true → (s : client.ClientData) (body : List ℕ) (given : client.DeliveredData (List ℕ))
     (new : client.ClientData) → seen.IsDelivered

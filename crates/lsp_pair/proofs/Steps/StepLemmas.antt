@@ -100,32 +100,7 @@ module _ (setting : Setting) (sound : IsFitting setting) (w : World) (ok : World
       }
       ≡ pair_of setting (turn_of_delivery w r.delivery_is).world
   heard_pair m rest e r =
-      let next : World = (turn_of_delivery w r.delivery_is).world in
-      let ms : List OutgoingData = messages_in r.delivery_is.delivered in
-      let i = next_is w.back w.back_delivered m rest e in
-      let client_is : r.delivery_is.state ≡ client_of setting next =
-      r.state ∙ (λ j. record (client_of setting w) {
-        phase = r.delivery_is.state.phase;
-        agreed = r.delivery_is.state.agreed;
-        table = sym (quiet [] w.out ms) j;
-      }) in
-      let server_is : server_of setting w ≡ server_of setting next =
-      λ j. record (server_of setting w) {
-        table = table_of (commands_in (sym (take-append-le w.out_delivered w.out (map lifecycle ms) ok.at.arrived) j));
-      } in
-      let queue : old.to_server ++ map message_frame ms ≡ frames_from kind (server_of setting next).table
-      (waiting_out next) =
-      ap (λ (fs : List (List ℕ)). old.to_server ++ fs)
-      (sym (frames_said kind (table_after_all (server_of setting w).table (waiting_out w)) ms))
-      ∙ (sym (frames-append kind (server_of setting w).table (waiting_out w) (map lifecycle ms))
-      ∙ (λ j. frames_from kind (server_is j).table
-      (sym (drop-append-le w.out_delivered w.out (map lifecycle ms) ok.at.arrived) j))) in
-      λ j. record {
-        client = client_is j;
-        server = server_is j;
-        to_server = queue j;
-        to_client = map message_frame (sym i.after j);
-      }
+      grind (arith, common_steps, next_is, quiet, frames_said, frames-append, take-append-le, drop-append-le)
 
   client_step : (q : List OutgoingData) → waiting_back w ≡ q → Returning setting w q → (happened : Happened)
       (new : PairData)

@@ -1,9 +1,9 @@
 -- What the server does at each message that waits for it.
-use Rattle.lsp_pair.proofs.Prelude.{ℕ, ◌≡◌, ◌≤◌, List, [], ◌∷◌, ◌++◌, length, take, Option, Some, refl, ap, ◌∙◌, subst, arith, pos, ⊤, append-nil, drop-append-le, Encoding, Offers, SyncKind, whole, reading, OutgoingData, body_of, IsProper, reading-body_of, is_read_back, DocumentItem, Command, table_after, AllWithin, Phase, New, Running, Down, Ended, ServerData, Step, step_on, step_in, step, begin_step, sent_body, Server, Setting, did_of, replies_in, IsFitting, ClientMessage, commands, lifecycle, World, incoming_of_message, server_of, turn_of_step, waiting_out, table_with, IsUsual}
+use Rattle.lsp_pair.proofs.Prelude.{ℕ, ◌≡◌, ◌≤◌, List, [], ◌∷◌, ◌++◌, length, take, Some, refl, ap, ◌∙◌, subst, pos, ⊤, append-nil, drop-append-le, Offers, SyncKind, whole, reading, OutgoingData, body_of, IsProper, reading-body_of, is_read_back, DocumentItem, table_after, Phase, New, Running, Down, Ended, ServerData, Step, step_on, step_in, step, begin_step, sent_body, Server, Setting, did_of, replies_in, IsFitting, ClientMessage, commands, lifecycle, World, incoming_of_message, server_of, turn_of_step, waiting_out, table_with, IsUsual}
 use Rattle.lsp_pair.proofs.Worlds.SaidLemmas.{sent_short, done_by, IsServedAs}
-use Rattle.lsp_pair.proofs.Worlds.LifeLemmas.{last_result, short_initialize, short_initialized, short_shutdown, short_exit}
+use Rattle.lsp_pair.proofs.Worlds.LifeLemmas.{last_result, short_initialize, short_initialized, short_shutdown, short_exit, least}
 use Rattle.lsp_pair.proofs.Worlds.ListLemmas.{next_is, length_more}
-use Rattle.lsp_pair.proofs.Worlds.Shapes.{the_encoding, the_kind, AreSaid, said_there, said_front, said_within, Shape, fresh, asking, answered, down, closed, leaving, left, working, closing, client_at, server_at, agreed_at, encoding_at, there_at, here_at, IsBusy, IsBusyShape, AtShape, WorldSound}
+use Rattle.lsp_pair.proofs.Worlds.Shapes.{the_encoding, the_kind, AreSaid, said_within, Shape, asking, answered, down, leaving, left, working, closing, client_at, server_at, agreed_at, encoding_at, there_at, here_at, IsBusy, IsBusyShape, AtShape, WorldSound, said_parts}
 use Rattle.lsp_message.specs.Outgoing as outgoing
 use Rattle.lsp_server.specs.Answer as answer
 use Rattle.lsp_server.specs.Incoming as incoming
@@ -62,52 +62,36 @@ advance setting w shape next said rest done at e busy client agreed phase encodi
 
 -- ---- messages beside commands
 
--- a server with another phase and encoding
-abbrev server_with : Setting → World → Phase → Option Encoding → ServerData
-server_with setting w phase encoding = record (server_of setting w) { phase = phase; encoding = encoding }
-
-known : (setting : Setting) (w : World) (shape : Shape) → AtShape setting w shape → server_of setting w
-    ≡ server_with setting w (server_at shape) (encoding_at setting shape)
-known setting w shape at = λ i. record (server_of setting w) { phase = at.server_is i; encoding = at.encoding_is i }
-
-life_written : (s : ServerData) (m : OutgoingData) → IsProper m → step s (reading (body_of m))
-    ≡ step_on s (incoming_of_message (lifecycle m))
-life_written s m proper = ap (step s) (reading-body_of m proper)
-
 begins_given : (s : ServerData) (offers : Offers)
     → step_in New s (incoming_of_message (lifecycle (outgoing.initialize offers))) ≡ begin_step s (whole (pos 1)) offers
 begins_given s offers =
     ap (λ o. step_in New s (incoming.initialize (whole (pos 1)) o)) (is_read_back (outgoing.initialize offers) tt)
 
-least : (setting : Setting) (n : ℕ) → IsFitting setting → n ≤ 4096 → n ≤ setting.limits.max_body
-least setting n sound h = let r = sound.ranges in omega (arith, r.least_body, h)
-
 -- ---- commands
 
 module _ (setting : Setting) (sound : IsFitting setting) (w : World) where
-  -- a command that is first of those that wait
-  command_done : (shape : Shape) (command : Command) (rest : List ClientMessage) → AtShape setting w shape
-      → waiting_out w ≡ commands command ∷ rest
-      → server_at shape ≡ Running → encoding_at setting shape ≡ Some (the_encoding setting)
-      → IsServedAs (server_of setting w) (the_kind setting) command
-  command_done shape command rest at e running counts =
-      let front : AreSaid setting [] (take w.out_delivered w.out) =
-      said_front setting [] w.out_delivered w.out at.said in
-      let kept : AllWithin setting.limits (server_of setting w).table =
-      said_within setting (take w.out_delivered w.out) front in
-      let all : AreSaid setting (server_of setting w).table (commands command ∷ rest) =
-      subst (AreSaid setting (server_of setting w).table) e (said_there setting [] w.out_delivered w.out at.said) in
-      lemmas.command_served setting.limits setting.config.limits (the_encoding setting) (the_kind setting)
-      (server_of setting w) sound.ranges sound.within refl (at.server_is ∙ running) (at.encoding_is ∙ counts) kept
-      command all.0
+  -- a message beside commands
+  life_arrives : (m : OutgoingData) (rest : List ClientMessage) (step_is : Step) → IsProper m
+      → length (body_of m) ≤ 4096 → step_on (server_of setting w) (incoming_of_message (lifecycle m)) ≡ step_is
+      → step_is.state ≡ record (server_of setting w) {
+        phase = step_is.state.phase;
+        encoding = step_is.state.encoding;
+      } → IsUsual (lifecycle m) (Server (did_of step_is.answer)) → WorldSound setting (turn_of_step w step_is).world
+      → Arrives setting w (lifecycle m) rest
+  life_arrives m rest step_is proper few given state usual next = record {
+    step_is = step_is;
+    given = given;
+    written = ap (step (server_of setting w)) (reading-body_of m proper) ∙ given;
+    short = least setting _ sound few;
+    state = state;
+    usual = usual;
+    next = next;
+  }
 
-  command_short : (shape : Shape) (command : Command) (rest : List ClientMessage) → AtShape setting w shape
-      → waiting_out w ≡ commands command ∷ rest
-      → length (sent_body (the_kind setting) (server_of setting w).table command) ≤ setting.limits.max_body
-  command_short shape command rest at e =
-      let all : AreSaid setting (server_of setting w).table (commands command ∷ rest) =
-      subst (AreSaid setting (server_of setting w).table) e (said_there setting [] w.out_delivered w.out at.said) in
-      sent_short setting.limits (the_kind setting) (server_of setting w).table command all.0.may
+  step_at : (shape : Shape) (m : ClientMessage) → AtShape setting w shape
+      → step_on (server_of setting w) (incoming_of_message m)
+      ≡ step_in (server_at shape) (server_of setting w) (incoming_of_message m)
+  step_at shape m at = ap (λ (p : Phase). step_in p (server_of setting w) (incoming_of_message m)) at.server_is
 
   -- what waits while documents are sent
   busy_arrives : (shape next : Shape) (said : ClientMessage) (rest : List ClientMessage) → AtShape setting w shape
@@ -118,110 +102,68 @@ module _ (setting : Setting) (sound : IsFitting setting) (w : World) where
       → rest ≡ there_at setting next → here_at setting shape ≡ here_at setting next → Arrives setting w said rest
   busy_arrives shape next (commands command) rest at is first running counts busy client agreed phase encoding there
       here =
+      let s : ServerData = server_of setting w in
       let e : waiting_out w ≡ commands command ∷ rest = at.there ∙ first in
-      let done : IsServedAs (server_of setting w) (the_kind setting) command =
-      command_done shape command rest at e running counts in
+      let parts = said_parts setting [] w.out_delivered w.out at.said in
+      let all : AreSaid setting s.table (commands command ∷ rest) = subst (AreSaid setting s.table) e parts.1 in
+      let done : IsServedAs s (the_kind setting) command =
+      lemmas.command_served setting.limits setting.config.limits (the_encoding setting) (the_kind setting) s
+      sound.ranges sound.within refl (at.server_is ∙ running) (at.encoding_is ∙ counts)
+      (said_within setting (take w.out_delivered w.out) parts.0) command all.0 in
       record {
-        step_is = done_by (server_of setting w) (table_after (server_of setting w).table command);
+        step_is = done_by s (table_after s.table command);
         given = done.given;
         written = done.written;
-        short = command_short shape command rest at e;
+        short = sent_short setting.limits (the_kind setting) s.table command all.0.may;
         state = refl;
         usual = refl;
         next =
-            advance setting w shape next (commands command) rest
-            (done_by (server_of setting w) (table_after (server_of setting w).table command)) at e busy client agreed
-            (at.server_is ∙ phase) (at.encoding_is ∙ encoding) there (append-nil (here_at setting shape) ∙ here);
+            advance setting w shape next (commands command) rest (done_by s (table_after s.table command)) at e busy
+            client agreed (at.server_is ∙ phase) (at.encoding_is ∙ encoding) there
+            (append-nil (here_at setting shape) ∙ here);
       }
   busy_arrives shape next (lifecycle outgoing.initialized) rest at is first running counts busy client agreed phase
       encoding there here =
-      let e : waiting_out w ≡ lifecycle outgoing.initialized ∷ rest = at.there ∙ first in
-      let step_is : Step = server.unchanged_step (server_of setting w) answer.ignored in
-      let given : step_on (server_of setting w) (incoming_of_message (lifecycle outgoing.initialized)) ≡ step_is =
-      ap (λ (p : Phase). step_in p (server_of setting w) (incoming_of_message (lifecycle outgoing.initialized)))
-      (at.server_is ∙ running) in
-      record {
-        step_is = step_is;
-        given = given;
-        written = life_written (server_of setting w) outgoing.initialized tt ∙ given;
-        short = least setting _ sound short_initialized;
-        state = refl;
-        usual = refl;
-        next =
-            advance setting w shape next (lifecycle outgoing.initialized) rest step_is at e busy client agreed
-            (at.server_is ∙ phase) (at.encoding_is ∙ encoding) there (append-nil (here_at setting shape) ∙ here);
-      }
+      let does : Step = server.unchanged_step (server_of setting w) answer.ignored in
+      life_arrives outgoing.initialized rest does tt short_initialized
+      (step_at shape (lifecycle outgoing.initialized) at ∙ ap (λ (p : Phase). step_in p (server_of setting w)
+      (incoming_of_message (lifecycle outgoing.initialized))) running) refl refl
+      (advance setting w shape next (lifecycle outgoing.initialized) rest does at (at.there ∙ first) busy client agreed
+      (at.server_is ∙ phase) (at.encoding_is ∙ encoding) there (append-nil (here_at setting shape) ∙ here))
   busy_arrives shape next (lifecycle m) rest at is first running counts busy client agreed phase encoding there here =
       absurd is
 
   asking_arrives : AtShape setting w asking → Arrives setting w (lifecycle (outgoing.initialize setting.offers)) []
   asking_arrives at =
-      let e : waiting_out w ≡ lifecycle (outgoing.initialize setting.offers) ∷ [] = at.there in
-      let step_is : Step = begin_step (server_of setting w) (whole (pos 1)) setting.offers in
-      let given : step_on (server_of setting w) (incoming_of_message (lifecycle (outgoing.initialize setting.offers)))
-      ≡ step_is =
-      ap (λ (p : Phase). step_in p (server_of setting w)
-      (incoming_of_message (lifecycle (outgoing.initialize setting.offers)))) at.server_is
-      ∙ begins_given (server_of setting w) setting.offers in
-      record {
-        step_is = step_is;
-        given = given;
-        written = life_written (server_of setting w) (outgoing.initialize setting.offers) tt ∙ given;
-        short = least setting _ sound (short_initialize setting.offers);
-        state = refl;
-        usual = refl;
-        next = advance setting w asking answered (lifecycle (outgoing.initialize setting.offers)) [] step_is at e tt
-            refl refl refl refl refl refl;
-      }
+      let m : OutgoingData = outgoing.initialize setting.offers in
+      let does : Step = begin_step (server_of setting w) (whole (pos 1)) setting.offers in
+      life_arrives m [] does tt (short_initialize setting.offers)
+      (step_at asking (lifecycle m) at ∙ begins_given (server_of setting w) setting.offers) refl refl
+      (advance setting w asking answered (lifecycle m) [] does at at.there tt refl refl refl refl refl refl)
 
   shutdown_arrives : AtShape setting w (closing []) → Arrives setting w (lifecycle outgoing.shutdown) []
   shutdown_arrives at =
-      let e : waiting_out w ≡ lifecycle outgoing.shutdown ∷ [] = at.there in
-      let step_is : Step = server.phase_step (server_of setting w) Down (answer.reply last_result) in
-      let given : step_on (server_of setting w) (incoming_of_message (lifecycle outgoing.shutdown)) ≡ step_is =
-      ap (λ (p : Phase). step_in p (server_of setting w) (incoming_of_message (lifecycle outgoing.shutdown)))
-      at.server_is in
-      record {
-        step_is = step_is;
-        given = given;
-        written = life_written (server_of setting w) outgoing.shutdown tt ∙ given;
-        short = least setting _ sound short_shutdown;
-        state = refl;
-        usual = refl;
-        next = advance setting w (closing []) down (lifecycle outgoing.shutdown) [] step_is at e tt refl refl refl
-            at.encoding_is refl refl;
-      }
+      let does : Step = server.phase_step (server_of setting w) Down (answer.reply last_result) in
+      life_arrives outgoing.shutdown [] does tt short_shutdown
+      (step_at (closing []) (lifecycle outgoing.shutdown) at) refl refl
+      (advance setting w (closing []) down (lifecycle outgoing.shutdown) [] does at at.there tt refl refl refl
+      at.encoding_is refl refl)
 
   exit_arrives : AtShape setting w leaving → Arrives setting w (lifecycle outgoing.exit) []
   exit_arrives at =
-      let e : waiting_out w ≡ lifecycle outgoing.exit ∷ [] = at.there in
-      let step_is : Step = server.phase_step (server_of setting w) Ended (answer.exits 0) in
-      let given : step_on (server_of setting w) (incoming_of_message (lifecycle outgoing.exit)) ≡ step_is =
-      ap (λ (p : Phase). step_in p (server_of setting w) (incoming_of_message (lifecycle outgoing.exit)))
-      at.server_is in
-      record {
-        step_is = step_is;
-        given = given;
-        written = life_written (server_of setting w) outgoing.exit tt ∙ given;
-        short = least setting _ sound short_exit;
-        state = refl;
-        usual = refl;
-        next = advance setting w leaving left (lifecycle outgoing.exit) [] step_is at e tt refl refl refl at.encoding_is
-            refl refl;
-      }
+      let does : Step = server.phase_step (server_of setting w) Ended (answer.exits 0) in
+      life_arrives outgoing.exit [] does tt short_exit
+      (step_at leaving (lifecycle outgoing.exit) at) refl refl
+      (advance setting w leaving left (lifecycle outgoing.exit) [] does at at.there tt refl refl refl at.encoding_is
+      refl refl)
 
   pub arrivals : (shape : Shape) → AtShape setting w shape → Arrivals setting w (there_at setting shape)
-  arrivals fresh at = tt
   arrivals asking at = asking_arrives at
-  arrivals answered at = tt
-  arrivals (working []) at = tt
   arrivals (working (said ∷ rest)) at = busy_arrives (working (said ∷ rest)) (working rest) said rest at at.busy.0 refl
       refl refl at.busy.1 refl refl refl refl refl refl
   arrivals (closing []) at = shutdown_arrives at
   arrivals (closing (said ∷ rest)) at =
       busy_arrives (closing (said ∷ rest)) (closing rest) said (rest ++ lifecycle outgoing.shutdown ∷ []) at at.busy.0
       refl refl refl at.busy.1 refl refl refl refl refl refl
-  arrivals down at = tt
-  arrivals closed at = tt
   arrivals leaving at = exit_arrives at
-  arrivals left at = tt
+  arrivals _ at = tt

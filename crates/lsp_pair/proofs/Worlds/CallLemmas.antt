@@ -1,10 +1,10 @@
 -- What a client's calls say.
 use Rattle.lsp_pair.proofs.Prelude.{◌≡◌, List, [], ◌∷◌, ◌++◌, Option, Some, None, Result, Ok, Err, refl, sym, ap, ◌∙◌, subst, ⊤, unwrap_or, drop-append-le, Encoding, Utf16, Incremental, OutgoingData, Command, table_after, table_of, ClientFault, Agreed, Asked, Closing, Done, order_refusal, order_result, Setting, calls, message_frame, ClientMessage, commands, lifecycle, World, commands_in, client_of, turn_of_call, message_of_call, IsProperOrder, IsProperEvent, frame_of, table_with, agreed_of}
 use Rattle.lsp_client.specs.declared.phase.Phase.{Phase}
-use Rattle.lsp_client.specs.Step.{Sending, Order, Call, opens, edits, closes, starts, shuts_down, exits, orders, call_result, call_result_in, command_result, command_of, sent_message, sending_unless, agreement}
+use Rattle.lsp_client.specs.Step.{Sending, Order, Call, edits, starts, shuts_down, exits, orders, call_result, call_result_in, command_result, command_of, sent_message, sending_unless, agreement}
 use Rattle.lsp_pair.proofs.Worlds.SaidLemmas.{IsProperCommand}
 use Rattle.lsp_pair.proofs.Worlds.ListLemmas.{length_more}
-use Rattle.lsp_pair.proofs.Worlds.Shapes.{the_encoding, the_kind, IsSaidOn, said-append, Shape, fresh, asking, answered, down, closed, leaving, left, working, closing, client_at, server_at, agreed_at, encoding_at, there_at, here_at, busy_last, IsBusyShape, AtShape, WorldSound}
+use Rattle.lsp_pair.proofs.Worlds.Shapes.{the_encoding, the_kind, IsSaidOn, said-append, Shape, fresh, asking, closed, leaving, working, closing, client_at, server_at, agreed_at, encoding_at, there_at, here_at, busy_last, IsBusyShape, AtShape, WorldSound}
 use Rattle.lsp_message.specs.Outgoing as outgoing
 use Rattle.lsp_store.specs.Table as documents
 use Rattle.lsp_client.specs.Step as client
@@ -50,9 +50,8 @@ push setting w shape next said sending at busy server encoding phase agreed here
 
 proper_command : (encoding : Encoding) (order : Order) → IsProperOrder order
     → IsProperCommand encoding (command_of encoding order)
-proper_command encoding (opens entry) p = p
 proper_command encoding (edits uri version batch) p = (p, refl)
-proper_command encoding (closes uri) p = p
+proper_command encoding _ p = p
 
 module _ (setting : Setting) (w : World) where
   commanded_sound : (busy : List ClientMessage) → AtShape setting w (working busy) → (command : Command)
@@ -115,42 +114,12 @@ module _ (setting : Setting) (w : World) where
       (call_result_in (client_at shape) (client_of setting w) call)
   called_at fresh at starts proper = life_sound fresh asking Asked (outgoing.initialize setting.offers) at tt refl refl
       refl refl refl refl
-  called_at fresh at shuts_down proper = tt
-  called_at fresh at exits proper = tt
-  called_at fresh at (orders order) proper = tt
-  called_at asking at starts proper = tt
-  called_at asking at shuts_down proper = tt
-  called_at asking at exits proper = tt
-  called_at asking at (orders order) proper = tt
-  called_at answered at starts proper = tt
-  called_at answered at shuts_down proper = tt
-  called_at answered at exits proper = tt
-  called_at answered at (orders order) proper = tt
-  called_at (working busy) at starts proper = tt
+  called_at shape at starts proper = tt
   called_at (working busy) at shuts_down proper = life_sound (working busy) (closing busy) Closing outgoing.shutdown at
       at.busy refl refl refl refl refl refl
-  called_at (working busy) at exits proper = tt
   called_at (working busy) at (orders order) proper = orders_sound busy at order proper
-  called_at (closing busy) at starts proper = tt
-  called_at (closing busy) at shuts_down proper = tt
-  called_at (closing busy) at exits proper = tt
-  called_at (closing busy) at (orders order) proper = tt
-  called_at down at starts proper = tt
-  called_at down at shuts_down proper = tt
-  called_at down at exits proper = tt
-  called_at down at (orders order) proper = tt
-  called_at closed at starts proper = tt
-  called_at closed at shuts_down proper = tt
   called_at closed at exits proper = life_sound closed leaving Done outgoing.exit at tt refl refl refl refl refl refl
-  called_at closed at (orders order) proper = tt
-  called_at leaving at starts proper = tt
-  called_at leaving at shuts_down proper = tt
-  called_at leaving at exits proper = tt
-  called_at leaving at (orders order) proper = tt
-  called_at left at starts proper = tt
-  called_at left at shuts_down proper = tt
-  called_at left at exits proper = tt
-  called_at left at (orders order) proper = tt
+  called_at shape at call proper = tt
 
   pub called_sound : (shape : Shape) → AtShape setting w shape → (call : Call) → IsProperEvent (calls call)
       → CallResult setting w (message_of_call (client_of setting w) call) (call_result (client_of setting w) call)

@@ -1,33 +1,28 @@
 -- What both ends make of the messages of the lifecycle, and how long these are.
-use Rattle.lsp_pair.proofs.Prelude.{ℕ, ◌≡◌, ◌≤◌, Bool, true, false, List, [], ◌++◌, length, refl, sym, ◌∙◌, subst, arith, pos, append-nil, frame, IsFrameOf, one_frame_law, written_is_frame, Encoding, Utf8, Utf16, Utf32, Offers, SyncKind, Off, Full, Incremental, whole, OutgoingData, initialize, initialized, shutdown, exit, initialize_result, shutdown_result, body_of}
+use Rattle.lsp_pair.proofs.Prelude.{ℕ, ◌≡◌, ◌≤◌, Bool, true, List, [], ◌++◌, length, refl, sym, ◌∙◌, subst, arith, pos, append-nil, frame, IsFrameOf, one_frame_law, written_is_frame, Encoding, Utf8, Offers, SyncKind, Off, whole, OutgoingData, initialize, initialized, shutdown, exit, initialize_result, shutdown_result, body_of, leb-true, Setting, IsFitting}
 use Rattle.json.specs.Print.{escape_byte}
 use Rattle.std.specs.Fmt.{digits}
 
 initialize_len : (utf8 utf32 : Bool) → length (body_of (initialize (record { utf8 = utf8; utf32 = utf32 }))) ≤ 4096
 unfolding escape_byte digits
-initialize_len true true = let e : length (body_of (initialize (record { utf8 = true; utf32 = true }))) ≡ 166 = refl in
-    omega (arith, e)
-initialize_len true false = let e : length (body_of (initialize (record { utf8 = true; utf32 = false }))) ≡ 157 =
-    refl in omega (arith, e)
-initialize_len false true = let e : length (body_of (initialize (record { utf8 = false; utf32 = true }))) ≡ 158 =
-    refl in omega (arith, e)
-initialize_len false false = let e : length (body_of (initialize (record { utf8 = false; utf32 = false }))) ≡ 149 =
-    refl in omega (arith, e)
+initialize_len true true = leb-true (length (body_of (initialize (record { utf8 = true; utf32 = true })))) 4096 refl
+initialize_len utf8 true = leb-true (length (body_of (initialize (record { utf8 = utf8; utf32 = true })))) 4096 refl
+initialize_len utf8 utf32 = leb-true (length (body_of (initialize (record { utf8 = utf8; utf32 = utf32 })))) 4096 refl
 
 pub short_initialize : (offers : Offers) → length (body_of (initialize offers)) ≤ 4096
 short_initialize offers = initialize_len offers.utf8 offers.utf32
 
 pub short_initialized : length (body_of initialized) ≤ 4096
 unfolding escape_byte digits
-short_initialized = let e : length (body_of initialized) ≡ 52 = refl in omega (arith, e)
+short_initialized = leb-true (length (body_of initialized)) 4096 refl
 
 pub short_shutdown : length (body_of shutdown) ≤ 4096
 unfolding escape_byte digits
-short_shutdown = let e : length (body_of shutdown) ≡ 44 = refl in omega (arith, e)
+short_shutdown = leb-true (length (body_of shutdown)) 4096 refl
 
 pub short_exit : length (body_of exit) ≤ 4096
 unfolding escape_byte digits
-short_exit = let e : length (body_of exit) ≡ 33 = refl in omega (arith, e)
+short_exit = leb-true (length (body_of exit)) 4096 refl
 
 -- the id that `initialize` has, and the one that `shutdown` has
 abbrev pub first_result : Encoding → SyncKind → OutgoingData
@@ -38,21 +33,16 @@ last_result = shutdown_result (whole (pos 2))
 
 pub short_first : (encoding : Encoding) (kind : SyncKind) → length (body_of (first_result encoding kind)) ≤ 4096
 unfolding escape_byte digits
-short_first Utf8 Off = let e : length (body_of (first_result Utf8 Off)) ≡ 128 = refl in omega (arith, e)
-short_first Utf8 Full = let e : length (body_of (first_result Utf8 Full)) ≡ 128 = refl in omega (arith, e)
-short_first Utf8 Incremental = let e : length (body_of (first_result Utf8 Incremental)) ≡ 128 = refl in omega (arith, e)
-short_first Utf16 Off = let e : length (body_of (first_result Utf16 Off)) ≡ 129 = refl in omega (arith, e)
-short_first Utf16 Full = let e : length (body_of (first_result Utf16 Full)) ≡ 129 = refl in omega (arith, e)
-short_first Utf16 Incremental = let e : length (body_of (first_result Utf16 Incremental)) ≡ 129 = refl in
-    omega (arith, e)
-short_first Utf32 Off = let e : length (body_of (first_result Utf32 Off)) ≡ 129 = refl in omega (arith, e)
-short_first Utf32 Full = let e : length (body_of (first_result Utf32 Full)) ≡ 129 = refl in omega (arith, e)
-short_first Utf32 Incremental = let e : length (body_of (first_result Utf32 Incremental)) ≡ 129 = refl in
-    omega (arith, e)
+short_first Utf8 Off = leb-true (length (body_of (first_result Utf8 Off))) 4096 refl
+short_first encoding Off = leb-true (length (body_of (first_result encoding Off))) 4096 refl
+short_first encoding kind = leb-true (length (body_of (first_result encoding kind))) 4096 refl
 
 pub short_last : length (body_of last_result) ≤ 4096
 unfolding escape_byte digits
-short_last = let e : length (body_of last_result) ≡ 38 = refl in omega (arith, e)
+short_last = leb-true (length (body_of last_result)) 4096 refl
+
+pub least : (setting : Setting) (n : ℕ) → IsFitting setting → n ≤ 4096 → n ≤ setting.limits.max_body
+least setting n sound few = let r = sound.ranges in omega (arith, r.least_body, few)
 
 -- ---- frames
 

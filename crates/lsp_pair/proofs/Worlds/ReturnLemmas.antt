@@ -1,5 +1,5 @@
 -- What the client makes of each message that waits for it.
-use Rattle.lsp_pair.proofs.Prelude.{ℕ, ◌≡◌, ◌≤◌, true, false, List, [], ◌∷◌, ◌++◌, length, map, Some, refl, ap, ◌∙◌, arith, ⊤, drop-append-le, Encoding, Utf8, Utf16, Utf32, Offers, reading, message, OutgoingData, body_of, sent, reading-body_of, is_read_back, encoding_chosen, announced_kind, Closed, ClientData, Delivery, delivery_of, delivery_in, is_awaited, begin_if_agreed, begin_as_announced, begin_in, is_listening, Client, Setting, heard_of, messages_in, IsFitting, can_choose_utf16, ClientMessage, lifecycle, World, client_of, turn_of_delivery, waiting_back, IsUsualBack, common_steps}
+use Rattle.lsp_pair.proofs.Prelude.{◌≡◌, ◌≤◌, true, false, List, [], ◌∷◌, ◌++◌, length, map, Some, refl, ap, ◌∙◌, arith, ⊤, drop-append-le, Encoding, Utf16, Offers, reading, message, OutgoingData, body_of, sent, reading-body_of, is_read_back, encoding_chosen, announced_kind, Closed, ClientData, Delivery, delivery_of, delivery_in, is_awaited, begin_if_agreed, begin_as_announced, begin_in, is_listening, Client, Setting, heard_of, messages_in, IsFitting, can_choose_utf16, ClientMessage, lifecycle, World, client_of, turn_of_delivery, waiting_back, IsUsualBack, common_steps, IsProper}
 use Rattle.lsp_message.specs.Agreement.{is_offered, announced_of}
 use Rattle.lsp_message.specs.Written.{initialize_value}
 use Rattle.lsp_server.specs.declared.config.EncodingChoice.{EncodingChoice}
@@ -8,9 +8,9 @@ use Rattle.lsp_server.specs.declared.config.ChangeForm.{ChangeForm}
 use Rattle.lsp_server.specs.declared.config.ChangeForm.TheVariants.{Incremental, Full}
 use Rattle.lsp_server.proofs.LawLemmas.{offered_if}
 use Rattle.lsp_client.specs.declared.phase.Phase.{Phase}
-use Rattle.lsp_pair.proofs.Worlds.LifeLemmas.{first_result, last_result, short_first, short_last}
+use Rattle.lsp_pair.proofs.Worlds.LifeLemmas.{first_result, last_result, short_first, short_last, least}
 use Rattle.lsp_pair.proofs.Worlds.ListLemmas.{table_after_all, next_is, length_more}
-use Rattle.lsp_pair.proofs.Worlds.Shapes.{the_encoding, the_kind, said-append, said_quiet, Shape, fresh, asking, answered, down, closed, leaving, left, working, closing, client_at, server_at, agreed_at, encoding_at, there_at, here_at, IsBusyShape, AtShape, WorldSound}
+use Rattle.lsp_pair.proofs.Worlds.Shapes.{the_encoding, the_kind, said-append, said_quiet, Shape, answered, down, closed, working, client_at, server_at, agreed_at, encoding_at, there_at, here_at, IsBusyShape, AtShape, WorldSound}
 use Rattle.lsp_message.specs.Outgoing as outgoing
 use Rattle.lsp_client.specs.Step as client
 
@@ -63,10 +63,9 @@ return setting w shape next m rest delivery at e busy server encoding phase agre
 
 pub offered_is : (choice : EncodingChoice) (offers : Offers) → can_choose_utf16 choice ≡ true
     → is_offered offers (encoding_chosen choice offers) ≡ true
-offered_is (Fixed Utf8) offers e = absurd (let bad : false ≡ true = e in cc)
 offered_is (Fixed Utf16) offers e = refl
-offered_is (Fixed Utf32) offers e = absurd (let bad : false ≡ true = e in cc)
 offered_is (Negotiated prefer) offers e = offered_if prefer offers (is_offered offers prefer) refl
+offered_is _ offers e = absurd (let bad : false ≡ true = e in cc)
 
 agrees_on : (s : ClientData) (encoding : Encoding) (sync : ChangeForm) → is_offered s.offers encoding ≡ true
     → begin_if_agreed s true (announced_kind sync) (Some encoding) ≡ begin_in s encoding (announced_kind sync)
@@ -78,61 +77,52 @@ begins_given : (s : ClientData) (encoding : Encoding) (sync : ChangeForm) → is
     ≡ begin_in s encoding (announced_kind sync)
 begins_given s encoding sync e = grind (arith, common_steps, is_read_back, first_result, agrees_on)
 
-least : (setting : Setting) (n : ℕ) → IsFitting setting → n ≤ 4096 → n ≤ setting.limits.max_body
-least setting n sound h = let r = sound.ranges in omega (arith, r.least_body, h)
-
 module _ (setting : Setting) (sound : IsFitting setting) (w : World) where
+  -- a message that waits, and what the client makes of it in this shape
+  life_returns : (shape : Shape) (m : OutgoingData) (delivery_is : Delivery) → AtShape setting w shape → IsProper m
+      → length (body_of m) ≤ 4096 → is_listening (client_at shape) ≡ true
+      → delivery_in (client_at shape) (is_awaited (client_at shape) (message (sent m))) (client_of setting w)
+      (message (sent m)) ≡ delivery_is
+      → delivery_is.state ≡ record (client_of setting w) {
+        phase = delivery_is.state.phase;
+        agreed = delivery_is.state.agreed;
+      } → IsUsualBack m (Client (heard_of delivery_is.delivered))
+      → WorldSound setting (turn_of_delivery w delivery_is).world → Returns setting w m []
+  life_returns shape m delivery_is at proper few listens does state usual next =
+      let s : ClientData = client_of setting w in
+      let given : delivery_of s (message (sent m)) ≡ delivery_is =
+      ap (λ (p : Phase). delivery_in p (is_awaited p (message (sent m))) s (message (sent m))) at.client_is ∙ does in
+      record {
+        delivery_is = delivery_is;
+        listening = ap is_listening at.client_is ∙ listens;
+        given = given;
+        written = ap (delivery_of s) (reading-body_of m proper) ∙ given;
+        short = least setting _ sound few;
+        state = state;
+        usual = usual;
+        next = next;
+      }
+
   answered_returns : AtShape setting w answered
       → Returns setting w (first_result (the_encoding setting) (the_kind setting)) []
   answered_returns at =
-      let e : waiting_back w ≡ first_result (the_encoding setting) (the_kind setting) ∷ [] = at.here in
-      let s : ClientData = client_of setting w in
       let m : OutgoingData = first_result (the_encoding setting) (the_kind setting) in
-      let delivery_is : Delivery = begin_in s (the_encoding setting) (the_kind setting) in
-      let answer : delivery_of s (message (sent m)) ≡ delivery_is =
-      ap (λ (p : Phase). delivery_in p (is_awaited p (message (sent m))) s (message (sent m))) at.client_is
-      ∙ begins_given s (the_encoding setting) setting.config.sync (offered_is setting.config.choice setting.offers
-      sound.choice) in
-      record {
-        delivery_is = delivery_is;
-        listening = ap is_listening at.client_is;
-        given = answer;
-        written = ap (delivery_of s) (reading-body_of m (record { sfits = omega arith })) ∙ answer;
-        short = least setting _ sound (short_first (the_encoding setting) (the_kind setting));
-        state = refl;
-        usual = refl;
-        next = return setting w answered (working (lifecycle outgoing.initialized ∷ [])) m [] delivery_is at e (
-          tt,
-          tt,
-        ) refl refl refl refl refl refl;
-      }
+      let does : Delivery = begin_in (client_of setting w) (the_encoding setting) (the_kind setting) in
+      life_returns answered m does at (record { sfits = omega arith })
+      (short_first (the_encoding setting) (the_kind setting)) refl
+      (begins_given (client_of setting w) (the_encoding setting) setting.config.sync
+      (offered_is setting.config.choice setting.offers sound.choice)) refl refl
+      (return setting w answered (working (lifecycle outgoing.initialized ∷ [])) m [] does at at.here (tt, tt) refl refl
+      refl refl refl refl)
 
   down_returns : AtShape setting w down → Returns setting w last_result []
   down_returns at =
-      let e : waiting_back w ≡ last_result ∷ [] = at.here in
       let s : ClientData = client_of setting w in
-      let delivery_is : Delivery = record { delivered = client.noted; state = record s { phase = Closed } } in
-      let answer : delivery_of s (message (sent last_result)) ≡ delivery_is =
-      ap (λ (p : Phase). delivery_in p (is_awaited p (message (sent last_result))) s (message (sent last_result)))
-      at.client_is in
-      record {
-        delivery_is = delivery_is;
-        listening = ap is_listening at.client_is;
-        given = answer;
-        written = ap (delivery_of s) (reading-body_of last_result (record { sfits = omega arith })) ∙ answer;
-        short = least setting _ sound short_last;
-        state = refl;
-        usual = refl;
-        next = return setting w down closed last_result [] delivery_is at e tt refl refl refl at.agreed_is refl refl;
-      }
+      let does : Delivery = record { delivered = client.noted; state = record s { phase = Closed } } in
+      life_returns down last_result does at (record { sfits = omega arith }) short_last refl refl refl refl
+      (return setting w down closed last_result [] does at at.here tt refl refl refl at.agreed_is refl refl)
 
   pub returning : (shape : Shape) → AtShape setting w shape → Returning setting w (here_at setting shape)
   returning answered at = answered_returns at
   returning down at = down_returns at
-  returning fresh at = tt
-  returning asking at = tt
-  returning closed at = tt
-  returning leaving at = tt
-  returning left at = tt
-  returning (working busy) at = tt
-  returning (closing busy) at = tt
+  returning _ at = tt

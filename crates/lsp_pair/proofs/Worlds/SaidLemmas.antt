@@ -1,5 +1,5 @@
 -- What a server makes of the messages of commands.
-use Rattle.lsp_pair.proofs.Prelude.{ℕ, ℤ, ◌≡◌, ◌≤◌, List, [], ◌∷◌, length, map, FitsSigned, IsUtf8, encode_utf8_all, Option, Some, None, Ok, refl, sym, ap, ◌∙◌, subst, arith, nat_lt, w32, cases_Bool, ltb-false, encodes-chars, scalars-chars, LimitsData, AreInRange, Encoding, SyncKind, Off, Full, Incremental, reading, did_open, did_change, did_close, body_of, DocumentItem, ChangeData, CloseData, IsProper, IsProperDocument, IsProperChange, reading-body_of, is_read_back, body_of-unique, Refusal, Command, opens, changes, closes, change_refusal, after_change, changed, command_refusal, table_after, unless_refused, AllWithin, IsWithin, IsReplacedBy, AreWithin, Accepts, accepted_parts, batch_at, proper, within_at, within_changed, Phase, Running, ServerData, Step, content_change_from_data, result_step, command_step, step_on, step, step_in, session_encoding, order_refusal, commands, incoming_of_message, IsProperEdits, common_steps}
+use Rattle.lsp_pair.proofs.Prelude.{ℕ, ℤ, ◌≡◌, ◌≤◌, List, [], ◌∷◌, length, map, FitsSigned, IsUtf8, encode_utf8_all, Option, Some, None, Ok, refl, sym, ap, ◌∙◌, subst, arith, nat_lt, w32, cases_Bool, ltb-false, encodes-chars, scalars-chars, LimitsData, AreInRange, Encoding, SyncKind, Off, Full, reading, did_open, did_change, did_close, body_of, DocumentItem, ChangeData, CloseData, IsProper, IsProperDocument, IsProperChange, reading-body_of, is_read_back, body_of-unique, Refusal, Command, opens, changes, closes, change_refusal, after_change, changed, command_refusal, table_after, unless_refused, AllWithin, IsWithin, IsReplacedBy, AreWithin, Accepts, accepted_parts, batch_at, proper, within_at, within_changed, Phase, Running, ServerData, Step, result_step, command_step, step_on, step, step_in, session_encoding, order_refusal, commands, incoming_of_message, IsProperEdits, common_steps}
 use Rattle.std.specs.Str.{chars}
 use Rattle.lsp_text.specs.Units.{units_in}
 use Rattle.lsp_edit.specs.Items.{Item}
@@ -16,6 +16,7 @@ use Rattle.lsp_server.proofs.EditLemmas.{edits_back}
 use Rattle.lsp_client.specs.Step.{sent_batch, sent_body}
 use Rattle.lsp_server.specs.Answer as answer
 use Rattle.lsp_server.specs.Incoming as incoming
+use Rattle.lsp_server.specs.Incoming.{IncomingData}
 
 -- ---- commands as the types hold them
 
@@ -46,7 +47,7 @@ sent_short limits kind table command e = grind (arith, common_steps, body_short,
 -- ---- the batch that is sent
 
 -- what is true of the batch that is sent in place of one that was accepted
-pub record IsSentBatch (small great : LimitsData) (encoding : Encoding) (table : List DocumentItem) (uri : List ℕ)
+pub record IsSentBatch (great : LimitsData) (encoding : Encoding) (table : List DocumentItem) (uri : List ℕ)
     (version : ℤ) (batch other_batch : List ContentChange) : Type 0 where
   pub done : IsReplacedBy great (units_in encoding) table uri version batch other_batch
   pub texts : AreTexts other_batch
@@ -60,34 +61,36 @@ module _ (small great : LimitsData) (encoding : Encoding) (table : List Document
     (batch : List ContentChange) (ranges : AreInRange small) (within : AreWithin small great)
     (kept : AllWithin small table) (edits : IsProperEdits uri version batch)
     (may : change_refusal small (units_in encoding) table uri version batch ≡ None) where
-  parts : MayChange small (units_in encoding) table uri version batch
-  parts = change_parts small (units_in encoding) table uri version batch may
+  abbrev units : ℕ → ℕ
+  units = units_in encoding
+
+  parts : MayChange small units table uri version batch
+  parts = change_parts small units table uri version batch may
+
+  abbrev text : List ℕ
+  text = chars parts.entry.text
 
   entry_within : IsWithin small parts.entry
   entry_within = within_at small table uri parts.entry kept parts.is_open
 
-  laws : (some : List ContentChange) (items : List Item) → meaning (units_in encoding)
-      (chars parts.entry.text) some ≡ Ok items → IsCanonical (units_in encoding) (chars parts.entry.text) some items
-  laws some items means = canonical_law (units_in encoding) (units_some encoding) (chars parts.entry.text) some items
-      means
+  laws : (some : List ContentChange) (items : List Item) → meaning units text some ≡ Ok items
+      → IsCanonical units text some items
+  laws = canonical_law units (units_some encoding) text
 
-  parts_accepts : Accepts small (units_in encoding) parts.entry version batch
-  parts_accepts = accepted_parts small (units_in encoding) parts.entry version batch parts.may
+  parts_accepts : Accepts small units parts.entry version batch
+  parts_accepts = accepted_parts small units parts.entry version batch parts.may
 
-  canonical_is : canonical_batch (units_in encoding) table uri batch ≡ canonical (units_in encoding)
-      (chars parts.entry.text) parts_accepts.items
+  canonical_is : canonical_batch units table uri batch ≡ canonical units text parts_accepts.items
   canonical_is = batch_at small encoding table uri version parts.entry parts.is_open laws batch parts_accepts.items
       parts_accepts.means
 
-  canonical_sent : IsSentBatch small great encoding table uri version batch
-      (canonical_batch (units_in encoding) table uri batch)
+  canonical_sent : IsSentBatch great encoding table uri version batch (canonical_batch units table uri batch)
   canonical_sent = record {
     done = canonical_batch_law small great encoding table uri version batch ranges within may;
     texts =
         subst AreTexts (sym canonical_is)
-        (canonical_texts (units_in encoding) (chars parts.entry.text) batch parts_accepts.items
-        (laws batch parts_accepts.items parts_accepts.means) (scalars-chars parts.entry.text entry_within.utf8)
-        edits.texts parts_accepts.means);
+        (canonical_texts units text batch parts_accepts.items (laws batch parts_accepts.items parts_accepts.means)
+        (scalars-chars parts.entry.text entry_within.utf8) edits.texts parts_accepts.means);
     proper_message =
         subst (λ (b : List ContentChange). IsProper (change_message uri version b)) (sym canonical_is)
         (proper small encoding table uri version parts.entry parts.is_open laws edits.name edits.fits entry_within.utf8
@@ -95,34 +98,27 @@ module _ (small great : LimitsData) (encoding : Encoding) (table : List Document
         parts_accepts.means);
   }
 
-  left : IsWithin small (changed (units_in encoding) parts.entry version batch)
-  left = within_changed small (units_in encoding) parts.entry version batch edits.texts entry_within parts.may
+  left : IsWithin small (changed units parts.entry version batch)
+  left = within_changed small units parts.entry version batch edits.texts entry_within parts.may
 
-  whole_is : whole_batch (units_in encoding) table uri version batch ≡ record {
-    range = None;
-    text = chars (changed (units_in encoding) parts.entry version batch).text;
-  } ∷ []
-  whole_is = ap whole_text (found_changed (units_in encoding) table uri version batch parts.entry parts.is_open)
+  whole_is : whole_batch units table uri version batch
+      ≡ record { range = None; text = chars (changed units parts.entry version batch).text } ∷ []
+  whole_is = ap whole_text (found_changed units table uri version batch parts.entry parts.is_open)
 
-  whole_sent : IsSentBatch small great encoding table uri version batch
-      (whole_batch (units_in encoding) table uri version batch)
+  whole_sent : IsSentBatch great encoding table uri version batch (whole_batch units table uri version batch)
   whole_sent = record {
     done = whole_text_law small great encoding table uri version batch ranges within kept edits.texts may;
-    texts = subst AreTexts (sym whole_is) (
-      scalars-chars (changed (units_in encoding) parts.entry version batch).text left.utf8,
-      tt,
-    );
+    texts = subst AreTexts (sym whole_is) (scalars-chars (changed units parts.entry version batch).text left.utf8, tt);
     proper_message =
         subst (λ (b : List ContentChange). IsProper (change_message uri version b)) (sym whole_is)
-        (whole_proper uri version (changed (units_in encoding) parts.entry version batch).text edits.name edits.fits
-        left.utf8);
+        (whole_proper uri version (changed units parts.entry version batch).text edits.name edits.fits left.utf8);
   }
 
-  pub batch_sent : (kind : SyncKind) → IsSentBatch small great encoding table uri version batch
-      (sent_batch kind (units_in encoding) table uri version batch)
+  pub batch_sent : (kind : SyncKind) → IsSentBatch great encoding table uri version batch
+      (sent_batch kind units table uri version batch)
   batch_sent Off = canonical_sent
   batch_sent Full = whole_sent
-  batch_sent Incremental = canonical_sent
+  batch_sent _ = canonical_sent
 
 -- ---- what a server does at a command
 
@@ -135,17 +131,8 @@ obeys_done : (s : ServerData) (command : Command) → command_refusal s.config.l
 obeys_done s command may =
     ap (λ (r : Option Refusal). result_step s (unless_refused r (table_after s.table command))) may
 
-run_open : (s : ServerData) (p : DocumentItem) → s.phase ≡ Running → step_on s (incoming.did_open (Some p))
-    ≡ command_step s (opens p)
-run_open s p running = ap (λ (phase : Phase). step_in phase s (incoming.did_open (Some p))) running
-
-run_change : (s : ServerData) (p : ChangeData) → s.phase ≡ Running → step_on s (incoming.did_change (Some p))
-    ≡ command_step s (changes p.uri p.version (session_encoding s) (map content_change_from_data p.changes))
-run_change s p running = ap (λ (phase : Phase). step_in phase s (incoming.did_change (Some p))) running
-
-run_close : (s : ServerData) (p : CloseData) → s.phase ≡ Running → step_on s (incoming.did_close (Some p))
-    ≡ command_step s (closes p.uri)
-run_close s p running = ap (λ (phase : Phase). step_in phase s (incoming.did_close (Some p))) running
+run_in : (s : ServerData) (m : IncomingData) → s.phase ≡ Running → step_on s m ≡ step_in Running s m
+run_in s m running = ap (λ (phase : Phase). step_in phase s m) running
 
 -- ---- what is read
 
@@ -186,7 +173,7 @@ module _ (small great : LimitsData) (encoding : Encoding) (kind : SyncKind) (s :
       → IsServedAs s kind (opens entry)
   unfolding sent_body
   open_served entry is may =
-      grind (arith, common_steps, run_open, obeys_done, accepted_here, greater_limits_law, may_command, read_open)
+      grind (arith, common_steps, run_in, obeys_done, accepted_here, greater_limits_law, may_command, read_open)
 
   close_served : (uri : List ℕ) → IsUtf8 uri → order_refusal small kind s.table (closes uri) ≡ None
       → IsServedAs s kind (closes uri)
@@ -194,7 +181,7 @@ module _ (small great : LimitsData) (encoding : Encoding) (kind : SyncKind) (s :
   close_served uri is may =
       let p : CloseData = record { uri = uri } in
       let done : step_on s (incoming.did_close (Some p)) ≡ done_by s (table_after s.table (closes uri))
-      = run_close s p running ∙ obeys_done s (closes uri)
+      = run_in s (incoming.did_close (Some p)) running ∙ obeys_done s (closes uri)
       (accepted_here (closes uri) (greater_limits_law small great s.table (closes uri) within
       (may_command small kind s.table (closes uri) may))) in
       record { written = ap (step_on s) (read_close p is) ∙ done; given = done }
@@ -205,7 +192,7 @@ module _ (small great : LimitsData) (encoding : Encoding) (kind : SyncKind) (s :
       (Some (record { uri = uri; version = version; changes = map written_content_change other })))
       ≡ done_by s (after_change (units_in encoding) s.table uri version batch)
   change_done uri version batch other texts is =
-      grind (arith, common_steps, run_change, edits_back, encoding_is, obeys_done, accepted_here)
+      grind (arith, common_steps, run_in, edits_back, encoding_is, obeys_done, accepted_here)
 
   change_served : (uri : List ℕ) (version : ℤ) (batch : List ContentChange) → IsProperEdits uri version batch
       → order_refusal small kind s.table (changes uri version encoding batch) ≡ None

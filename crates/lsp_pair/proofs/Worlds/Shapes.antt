@@ -38,27 +38,19 @@ pub said_quiet : (setting : Setting) (table : List DocumentItem) (ms : List Outg
 said_quiet setting table [] = tt
 said_quiet setting table (m ∷ ms) = (tt, said_quiet setting table ms)
 
-pub said_there : (setting : Setting) (table : List DocumentItem) (n : ℕ) (xs : List ClientMessage)
-    → AreSaid setting table xs → AreSaid setting (table_after_all table (take n xs)) (drop n xs)
-said_there setting table n xs p =
+-- what was said is said up to each message, and after it
+pub said_parts : (setting : Setting) (table : List DocumentItem) (n : ℕ) (xs : List ClientMessage)
+    → AreSaid setting table xs
+    → AreSaid setting table (take n xs) × AreSaid setting (table_after_all table (take n xs)) (drop n xs)
+said_parts setting table n xs p =
     by table (take n xs) (drop n xs) (subst (AreSaid setting table) (sym (take-append-drop n xs)) p)
   where
     by : (table : List DocumentItem) (front back : List ClientMessage) → AreSaid setting table (front ++ back)
-        → AreSaid setting (table_after_all table front) back
-    by table [] back p = p
-    by table (commands command ∷ front) back p = by (table_after table command) front back p.1
-    by table (lifecycle m ∷ front) back p = by table front back p.1
-
-pub said_front : (setting : Setting) (table : List DocumentItem) (n : ℕ) (xs : List ClientMessage)
-    → AreSaid setting table xs → AreSaid setting table (take n xs)
-said_front setting table n xs p =
-    by table (take n xs) (drop n xs) (subst (AreSaid setting table) (sym (take-append-drop n xs)) p)
-  where
-    by : (table : List DocumentItem) (front back : List ClientMessage) → AreSaid setting table (front ++ back)
-        → AreSaid setting table front
-    by table [] back p = tt
-    by table (commands command ∷ front) back p = (p.0, by (table_after table command) front back p.1)
-    by table (lifecycle m ∷ front) back p = (p.0, by table front back p.1)
+        → AreSaid setting table front × AreSaid setting (table_after_all table front) back
+    by table [] back p = (tt, p)
+    by table (commands command ∷ front) back p = let rest = by (table_after table command) front back p.1 in
+        ((p.0, rest.0), rest.1)
+    by table (lifecycle m ∷ front) back p = let rest = by table front back p.1 in ((p.0, rest.0), rest.1)
 
 has_texts : (encoding : Encoding) (command : Command) → IsProperCommand encoding command → HasTexts command
 has_texts encoding (opens entry) p = p.text

@@ -11,10 +11,9 @@ returns-in-Ok c =
     let limits : c.feed.new.self.limits ≡ c.args.limits = ap (λ (f : FramerData). f.limits) c.in-Ok.ensures.buffered
     ∙ ap (λ (f : FramerData). f.limits) c.new-framer.ensures in
     let failed = ap (λ (f : FramerData). f.failed) c.in-Ok.ensures.buffered ∙ ap (λ (f : FramerData). f.failed)
-    c.new-framer.ensures in (
-      kept ∙ whole_taken c.args.limits.max_body c.args.bytes.now k c.requires c.in-Ok.ensures.taken
-          (λ less. subst (λ (xs : List _). IsFrame c.args.limits.max_body xs) kept
-          (subst (λ l. IsFrame l.max_body c.feed.new.self.buffered) limits (c.in-Ok.ensures.stops less))),
-      failed,
-      limits,
-    )
+    c.new-framer.ensures in
+    let same : c.feed.new.self.buffered ≡ c.args.bytes.now =
+    kept ∙ whole_taken c.args.limits.max_body c.args.bytes.now k c.requires c.in-Ok.ensures.taken
+    (λ less. subst (λ (xs : List _). IsFrame c.args.limits.max_body xs) kept
+    (subst (λ l. IsFrame l.max_body c.feed.new.self.buffered) limits (c.in-Ok.ensures.stops less))) in
+    (same, failed, limits, rw (same, limits) c.requires)

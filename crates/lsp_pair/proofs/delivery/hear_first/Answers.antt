@@ -1,19 +1,12 @@
-use Rattle.lsp_pair.proofs.Prelude.{◌≡◌, ◌++◌, List, ap, ◌∙◌, IsFrame, IsFrameOf, true, is_listening, StoreData, LimitsData, subst, sym, ℕ, frames, frames_in_delivery, delivered_view}
+use Rattle.lsp_pair.proofs.Prelude.{◌≡◌, ◌++◌, ap, ◌∙◌, IsFrame, true, is_listening, StoreData, frames, frames_in_delivery, delivered_view}
 use Rattle.lsp_pair.proofs.Steps.FramerLemmas.{first_out}
 use Rattle.lsp_pair.proofs.Steps.ServeLemmas.{first_there, hear_is}
 use Rattle.lsp_pair.proofs.delivery.hear_first.Goals as goal
 
 pub unreachable-requires : goal.unreachable-requires
 unreachable-requires c =
-    let whole = first_there (λ first. IsFrame c.args.client.now.limits.max_body first
-    × (is_listening c.args.client.now.phase ≡ true)) c.args.replies.now.items c.in-Some.first.now
-    c.in-Some.ensures.item.3.0 c.in-Some.ensures.lookup c.requires in
-    let limits : c.in_ok-framer.framer.limits ≡ c.args.client.now.limits =
-    c.in_ok-framer.ensures.2 ∙ (c.limits.ensures ∙ ap (λ (d : StoreData). d.limits) c.store.ensures) in
-    let kept = c.in_ok-framer.ensures.0 ∙ c.deref.ensures.value in
-    c.in_default-body.ensures c.in_ok-framer.ensures.1 whole.0.body
-    (subst (λ (l : LimitsData). IsFrameOf l.max_body c.in_ok-framer.framer.buffered whole.0.body) (sym limits)
-    (subst (λ (b : List ℕ). IsFrameOf c.args.client.now.limits.max_body b whole.0.body) (sym kept) whole.0.is_frame_of))
+    let whole = c.in_ok-framer.ensures.3 in
+    c.in_default-body.ensures c.in_ok-framer.ensures.1 whole.body whole.is_frame_of
 
 pub returns-clause-step : goal.returns-clause-step
 returns-clause-step c other =

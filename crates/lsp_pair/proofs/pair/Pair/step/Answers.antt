@@ -12,15 +12,13 @@ hear_first-requires c = reached_hears _ c.self.invariant
 
 pub invariant_of-self : goal.invariant_of-self
 invariant_of-self c =
-    reach_or_same (both_ends c.self.inside.client c.self.inside.server (frames c.self.inside.to_server.items)
-    (frames c.self.inside.to_client.items)) _ to_server c.serve_first.result tt c.self.invariant
+    reach_or_same _ _ to_server c.serve_first.result tt c.self.invariant
     (c.serve_first.ensures.step c.self.inside.client) (same_at_server c.self.inside.client _ _ _ _ _ _
     c.serve_first.result c.serve_first.ensures.unchanged)
 
 pub invariant_of-self-in-ToClient : goal.invariant_of-self-in-ToClient
 invariant_of-self-in-ToClient c =
-    reach_or_same (both_ends c.self.inside.client c.self.inside.server (frames c.self.inside.to_server.items)
-    (frames c.self.inside.to_client.items)) _ to_client c.hear_first.result tt c.self.invariant
+    reach_or_same _ _ to_client c.hear_first.result tt c.self.invariant
     (c.hear_first.ensures.step c.self.inside.server) (same_at_client c.self.inside.server _ _ _ _ _ _
     c.hear_first.result c.hear_first.ensures.unchanged)
 
