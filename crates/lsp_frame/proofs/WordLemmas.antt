@@ -67,7 +67,8 @@ split_some hay k first = grind (arith, common_steps, first_place, slice_split_fi
 pub split_none : (hay : List ℕ) → IsFirstByte (is_byte 59) hay None → slice_split is_semicolon hay ≡ hay ∷ []
 split_none hay first =
     slice_split_none is_semicolon hay
-    (λ k d below. false_from_ne_true _ (λ e. first k (omega arith) below (ap is_semicolon (get_or_default hay k 0 d below) ∙ e)))
+    (λ k d below. false_from_ne_true _ (λ e. first k (omega arith) below (ap is_semicolon (get_or_default hay k 0 d
+    below) ∙ e)))
 
 pub all_split_some : (hay : List ℕ) (k : ℕ) → IsFirstByte (is_byte 59) hay (Some k)
     → list_all is_good_parameter (slice_split is_semicolon hay)

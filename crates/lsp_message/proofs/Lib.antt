@@ -1,8 +1,8 @@
--- Where to begin: `lsp_message::read.ok` is over `Readings`. `write.body` is `body_is` of `BodyLemmas`: the bytes
--- are the compact text of the message's value, which the writers' own proofs put together, over `Tokens`. `write.read_back` and `unique` are `is_read_back` and
--- `body_of-unique` of `ReadBack`, over `Sound`: which values are read back as themselves. `message_laws` is in
--- `MessageLemmas`, the rows of the table of messages, and in `RefusalLemmas`. `MemberLemmas` leads from `message_of` to
--- the private contracts of `src/message.rt`.
+-- Where to begin: `lsp_message::read.ok` is over `Readings`. `write.body` is `body_is` of `BodyLemmas`: the bytes are
+-- the compact text of the message's value, which the writers' own proofs put together, over `Tokens`.
+-- `write.read_back` and `unique` are `is_read_back` and `body_of-unique` of `ReadBack`, over `Sound`: which values are
+-- read back as themselves. `message_laws` is in `MessageLemmas`, the rows of the table of messages, and in
+-- `RefusalLemmas`. `MemberLemmas` leads from `message_of` to the private contracts of `src/message.rt`.
 --
 -- `Incoming::read.ok` has two main ways. By tokens, each object is read a member at a time: `Grammar` says what
 -- one more token or member makes of the value (`members_at-more`), `Openings` what the first token does, `Puts` what

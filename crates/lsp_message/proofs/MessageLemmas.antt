@@ -48,7 +48,8 @@ message_rows = record {
   notifications = λ ms name is named none.
       rw (message_of_object ms, is, named_is (method_of ms) name named, none) refl;
   requests = λ ms name id is named found.
-      rw (message_of_object ms, is, named_is (method_of ms) name named) (called (id_of ms) (params_of ms) name id found);
+      rw (message_of_object ms, is, named_is (method_of ms) name named) (called (id_of ms) (params_of ms) name id
+      found);
   failures = λ ms id is none names there.
       rw (message_of_object ms, is, none, answer_to (id_of ms) (error_of ms) (result_of ms) id names, there) refl;
   results = λ ms id result is none names missing there.

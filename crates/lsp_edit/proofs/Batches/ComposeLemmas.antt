@@ -57,8 +57,8 @@ module _ (units : ℕ → ℕ) (old : List ℕ) (first : List Item) where
       map-append (item_through first) (take a items) (map New characters ++ drop b items) in
       rw (front, back, outer, inner, told_new first characters) refl
 
-  pub then-changed : (items next : List Item) (change : ContentChange) → items_after units (text_of old first) items change
-      ≡ Ok next → items_after units old (then_items first items) change ≡ Ok (then_items first next)
+  pub then-changed : (items next : List Item) (change : ContentChange) → items_after units (text_of old first) items
+      change ≡ Ok next → items_after units old (then_items first items) change ≡ Ok (then_items first next)
   then-changed items next change is = by_range change.range is
     where
       at_indexes : (start stop : Option ℕ) → replaced items change.text start stop ≡ Ok next

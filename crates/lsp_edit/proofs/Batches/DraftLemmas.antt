@@ -65,8 +65,8 @@ pub range_faulted : (units : ℕ → ℕ) (number : ℕ) (before : List ℕ) (ra
     → change.range ≡ Some range → Err fault ≡ places_at number (chars before) (ends_of units (chars before) range)
     → IsFaultOfChange number (items_after units (chars before) (plain (chars before)) (content_change change)) fault
 range_faulted units number before range change fault is found =
-    subst (λ (c : ContentChange). IsFaultOfChange number (items_after units (chars before) (plain (chars before)) c) fault)
-    (edit_is change (Some range) (string_bytes change.text) is refl)
+    subst (λ (c : ContentChange). IsFaultOfChange number (items_after units (chars before) (plain (chars before)) c)
+    fault) (edit_is change (Some range) (string_bytes change.text) is refl)
     (fault_told units (chars before) (plain (chars before)) (chars (string_bytes change.text)) range number fault
     (inr (subst (λ (t : List ℕ). ◌≡◌ {A = Result (ℕ × ℕ) EditFault} (Err fault)
     (places_at number t (ends_of units t range))) (sym (plain_text (chars before))) found)))
@@ -135,8 +135,8 @@ drafting_begins units before changes draft utf8 begun size fits =
       items = [];
       is = anew.0;
       same = any_items units (chars before) [] (plain (chars before)) (map content_change changes) anew.1;
-      ends = λ more are. any_ends units (chars before) [] (plain (chars before)) (map content_change changes) more anew.1
-          are;
+      ends = λ more are. any_ends units (chars before) [] (plain (chars before)) (map content_change changes) more
+          anew.1 are;
       room = omega (arith, ap length anew.0);
     })
     begun
@@ -201,8 +201,8 @@ module _ (units : ℕ → ℕ) (before : List ℕ) (batch : List ContentChange) 
       (λ (t : (why : Fault) × (items_after units (chars draft) (plain (chars draft)) (content_change change) ≡ Err why)
       × (fault ≡ fault_at number why)).
       let gone : items_after units (chars before) drafting.items (content_change change) ≡ Err t.0 =
-      same_fault units (chars draft) (chars before) (plain (chars draft)) drafting.items (content_change change) t.0 text
-      t.1 in
+      same_fault units (chars draft) (chars before) (plain (chars draft)) drafting.items (content_change change) t.0
+      text t.1 in
       let meant : Err (number, t.0) ≡ meaning units (chars before) batch = rw gone at same_here in
       inr (ap (text_within max_len before) (sym meant)
       ∙ ap (λ (f : BatchFault). Err f) (fault_edit number t.0 ∙ ap batch_fault_of (sym t.2))))

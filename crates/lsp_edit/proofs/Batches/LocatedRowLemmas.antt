@@ -1,5 +1,5 @@
--- Text edits by indexes, each behind the one before it: they don't overlap, and what they leave at each index is the row
--- of what each leaves.
+-- Text edits by indexes, each behind the one before it: they don't overlap, and what they leave at each index is the
+-- row of what each leaves.
 use Rattle.lsp_edit.proofs.Prelude.{ℕ, zero, suc, ◌≡◌, ◌+◌, ◌-◌, ◌<◌, ◌≤◌, Bool, true, false, if◌then◌else◌, List, [], ◌∷◌, ◌++◌, length, map, flat_map, slice_index_or as get_or, refl, sym, ap, ap₂, ◌∙◌, subst, arith, ⊎_elim, inl, append_assoc, append-nil, lt-ltb, le-ltb, le-leb, ne_eqb, eq-eqb, Contains, AllByRecursion, All-from_recursion, cases_lt, lt-leb, map-append, flat_map-append, flat_map_single, numbers_from, splits_crlf, Item, Old, New, Keeps, LocatedEdit, new_at, is_taken_out, left_at, ComesBefore, NoneOverlap, common_steps}
 use Rattle.std.specs.List.{AllPairs}
 use Rattle.std.proofs.lemmas.List.{get_or_default}
@@ -120,7 +120,8 @@ split_row : (f : ℕ → List Item) (low a rest all : ℕ) → all ≡ a + rest 
     ≡ flat_map f (numbers_from low a) ++ flat_map f (numbers_from (low + a) rest)
 split_row f low a rest all is =
     ap (λ (n : ℕ). flat_map f (numbers_from low n)) is
-    ∙ (ap (flat_map f) (numbers-append low a rest) ∙ flat_map-append f (numbers_from low a) (numbers_from (low + a) rest))
+    ∙ (ap (flat_map f) (numbers-append low a rest) ∙ flat_map-append f (numbers_from low a) (numbers_from
+    (low + a) rest))
 
 run_keeps : (old : List ℕ) (low count : ℕ) (items : List Item) → low + count ≤ length old
     → Keeps old (low + count) items → Keeps old low (map Old (numbers_from low count) ++ items)
@@ -211,8 +212,8 @@ module _ (old : List ℕ) where
       agree (left_at (e ∷ es)) (λ (i : ℕ). Old i ∷ []) low (e.start - low) (λ i from to. alone i (omega arith))
       ∙ flat_map_single Old row in
       let rest : run (e ∷ es) e.start (length old - e.start) ≡ map New e.text ++ left_from (length old) e.stop es =
-      from_start e es (length old - e.start) (length old - e.stop) (omega (arith, stand.1)) (omega arith) stand.1 stand.4
-      ∙ ap (λ (r : List Item). map New e.text ++ r)
+      from_start e es (length old - e.start) (length old - e.stop) (omega (arith, stand.1)) (omega arith) stand.1
+      stand.4 ∙ ap (λ (r : List Item). map New e.text ++ r)
       (runs_through e.stop (length old - e.stop) es stand.4 (omega arith)) in
       ap (λ (r : List Item). r ++ map New (new_at (e ∷ es) (length old)))
       (split_row (left_at (e ∷ es)) low (e.start - low) (length old - e.start) count (omega (arith, stand.1)))

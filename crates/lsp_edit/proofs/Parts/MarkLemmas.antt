@@ -41,5 +41,5 @@ pub span_ordered : (spans : List Span) (index : ℕ) (default : Span) → index 
     → IsOrdered (part_of (get_or spans index default))
 span_ordered spans index default within ordered =
     first_ordered (parts_of (drop index spans)) (part_of (get_or spans index default))
-    (parts_of (drop (index + 1) spans)) (rest_is part_of spans index default (part_of (get_or spans index default)) within refl)
-    (drop_ordered spans index ordered)
+    (parts_of (drop (index + 1) spans)) (rest_is part_of spans index default (part_of (get_or spans index default))
+    within refl) (drop_ordered spans index ordered)

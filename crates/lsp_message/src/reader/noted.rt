@@ -16,8 +16,8 @@ use std::alloc::{AllocError, Global};
 /// How many bytes at a body's ends are searched for the name of a method.
 const NEAR: usize = 128;
 
-/// How the methods of a change and a `didSave` go on after `textDocument`.
-const NOTED: [&[u8]; 2] = [b"/didC", b"/didS"];
+/// How the methods of a change and a `didSave` go on, from the last letter of `textDocument`.
+const NOTED: [&[u8]; 2] = [b"t/didCh", b"t/didSa"];
 
 /// What notes of a body go by, beside what the body asks.
 #[derive(Debug, PartialEq, Drop)]
@@ -61,7 +61,9 @@ pub(crate) fn may_be_noted(body: &[u8]) -> bool {
 }
 
 fn names_noted(bytes: &[u8]) -> bool {
-    bytes.windows(NOTED[0].len()).any(|name| name.first() == Some(&b'/') && NOTED.contains(&name))
+    bytes
+        .windows(NOTED[0].len())
+        .any(|name| name.get(1) == Some(&b'/') && NOTED.contains(&name))
 }
 
 /// Returns the `rangeLength` of each change in a notification's params.

@@ -79,8 +79,8 @@ kept_stop s t c (r ∷ rs) like =
     same_end : (single t.server (with_line c r) (judge t r).verdict).end ≡ (single s.server r (judge s r).verdict).end
     same_end =
         line_end t.server c r (judge t r).verdict
-        ∙ ap (λ (server : ServerData). (single server r (judge t r).verdict).end) (ap (λ (u : Session). u.server) like.2)
-        ∙ ap (λ (v : Verdict). (single s.server r v).end) (judged_alike s t r like).0
+        ∙ ap (λ (server : ServerData). (single server r (judge t r).verdict).end) (ap (λ (u : Session). u.server)
+        like.2) ∙ ap (λ (v : Verdict). (single s.server r v).end) (judged_alike s t r like).0
 
 -- ---- records at other places
 

@@ -8,7 +8,8 @@ returns-in_err-start-clause-error c =
     let number = c.len-number.ensures ∙ c.loop-edit.placed.ok.0 in
     rw (p.1, p.2)
     (inr
-    (locating_stops (units_in c.args.encoding) (chars c.args.text.now) c.args.edits.now (length c.loop-edit.placed.items)
+    (locating_stops (units_in c.args.encoding) (chars c.args.text.now) c.args.edits.now
+    (length c.loop-edit.placed.items)
     c.edit-item.result _ _ (next_is c.args.edits.now c.loop-edit.edit-index c.edit-item.result c.loop-edit-test.true
     c.edit-item.is) (record {
       front = map (located_of (chars c.args.text.now)) c.loop-edit.placed.items;

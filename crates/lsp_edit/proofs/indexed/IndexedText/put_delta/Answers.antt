@@ -8,7 +8,8 @@ returns-in_err-start-clause-error c =
     let p = err_from_is_err_and c.from_residual.result c.from_residual.ensures.1 in
     rw (p.1, p.2)
     (range_fault (units_in c.args.encoding) c.args.self.now c.len.ensures.utf8 c.args.range c.args.new.now c.utf8.new
-    c.args.max_len _ (places_seen (units_in c.args.encoding) 0 c.args.range _ _ _ c.text.ensures c.in_err-start.ensures))
+    c.args.max_len _ (places_seen (units_in c.args.encoding) 0 c.args.range _ _ _ c.text.ensures
+    c.in_err-start.ensures))
 
 pub returns-then-len-max_len-clause-error : goal.returns-then-len-max_len-clause-error
 returns-then-len-max_len-clause-error c =

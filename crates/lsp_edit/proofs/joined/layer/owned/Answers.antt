@@ -16,8 +16,8 @@ loop-span-preserved c =
           )
           (same_old_on (parts_of c.args.spans.now) c.loop-span.owned.items _ (string_bytes c.loop-span.text) _
           w.in-Old.from w.in-Old.to _ _ c.loop-span.invariant
-          (rest_is part_of c.args.spans.now c.loop-span.span-index _ (OldPart w.in-Old.from w.in-Old.to) c.loop-span-test.true
-          (ap part_of w.in-Old.is))
+          (rest_is part_of c.args.spans.now c.loop-span.span-index _ (OldPart w.in-Old.from w.in-Old.to)
+          c.loop-span-test.true (ap part_of w.in-Old.is))
           w.in_ok-push_new-in-Old.ensures
           (ap string_bytes w.replace-filled.ensures.value))
       | in-New+in_ok-push_str-in-New w ↦

@@ -33,8 +33,8 @@ loop-span-preserved c =
           )
           (walk_old (units_in c.args.encoding) c.args.before.now c.len-end.ensures.utf8 _ _ _ _
           (IsUtf8-string_bytes c.loop-span.text) _ c.loop-span.invariant w.in-Old.from w.in-Old.to _
-          (rest_is part_of c.args.spans.now c.loop-span.span-index _ (OldPart w.in-Old.from w.in-Old.to) c.loop-span-test.true
-          (ap part_of w.in-Old.is)))
+          (rest_is part_of c.args.spans.now c.loop-span.span-index _ (OldPart w.in-Old.from w.in-Old.to)
+          c.loop-span-test.true (ap part_of w.in-Old.is)))
       | in-New+in_ok-push_str-in-New w ↦
           rw (w.changes-is, w.low-is, w.text-is, w.in_ok-push_str-in-New.ensures.bytes)
           (walk_new (units_in c.args.encoding) c.args.before.now c.len-end.ensures.utf8 _ _ _ _
@@ -47,8 +47,8 @@ pub put_gap-requires-2-clause-ends : goal.put_gap-requires-2-clause-ends
 put_gap-requires-2-clause-ends c =
     rw c.len-end.ensures.len
     (walk_end_ends (units_in c.args.encoding) c.args.before.now c.len-end.ensures.utf8 _ _ _ _
-    (IsUtf8-string_bytes c.loop-span.text) _ c.loop-span.invariant (rest_none part_of c.args.spans.now c.loop-span.span-index
-    c.loop-span-test.false))
+    (IsUtf8-string_bytes c.loop-span.text) _ c.loop-span.invariant (rest_none part_of c.args.spans.now
+    c.loop-span.span-index c.loop-span-test.false))
 
 pub returns : goal.returns
 returns c =
@@ -56,7 +56,7 @@ returns c =
     (walk_turned c.put_gap-2.new.changes.items
     ∙ ap reverse (c.in_ok-put_gap.ensures
     ∙ (ap (λ (high : ℕ). map content_change c.loop-span.changes.items ++ change_at (units_in c.args.encoding)
-    (chars c.args.before.now) (gap_between c.args.before.now c.loop-span.low high (string_bytes c.loop-span.text))) c.len-end.ensures.len
-    ∙ walk_end (units_in c.args.encoding) c.args.before.now c.len-end.ensures.utf8 _ _ _ _
-    (IsUtf8-string_bytes c.loop-span.text) _ c.loop-span.invariant (rest_none part_of c.args.spans.now c.loop-span.span-index
-    c.loop-span-test.false))))
+    (chars c.args.before.now) (gap_between c.args.before.now c.loop-span.low high (string_bytes c.loop-span.text)))
+    c.len-end.ensures.len ∙ walk_end (units_in c.args.encoding) c.args.before.now c.len-end.ensures.utf8 _ _ _ _
+    (IsUtf8-string_bytes c.loop-span.text) _ c.loop-span.invariant (rest_none part_of c.args.spans.now
+    c.loop-span.span-index c.loop-span-test.false))))

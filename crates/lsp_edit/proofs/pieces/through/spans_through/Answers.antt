@@ -27,7 +27,7 @@ loop-span-preserved c =
             c.loop-span.invariant.0,
             walk_new (parts_of c.args.first.now) (parts_of c.args.second.now) _ _ _ _ c.loop-span.invariant.1
                 w.in-New.field-0.now _
-                (rest_is part_of c.args.second.now c.loop-span.span-index _ (NewPart w.in-New.field-0.now) c.loop-span-test.true
-                (ap part_of w.in-New.is)),
+                (rest_is part_of c.args.second.now c.loop-span.span-index _ (NewPart w.in-New.field-0.now)
+                c.loop-span-test.true (ap part_of w.in-New.is)),
           )
     ]
