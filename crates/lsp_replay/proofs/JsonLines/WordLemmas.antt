@@ -127,8 +127,8 @@ cut : (text : List ℕ) (o : Option (List ℕ)) → Leaves text o → IsPrintabl
 cut text None h p = absurd p
 cut text (Some rest) h p = grind (arith, common_steps, length-append, take_at, unless_bad)
 
-named : (text : List ℕ) (t : Token) → is_word t ≡ true → are_visible (token_text t) ≡ true → IsPrintable (literal (token_text t) t text)
-    → Word text (literal (token_text t) t text)
+named : (text : List ℕ) (t : Token) → is_word t ≡ true → are_visible (token_text t) ≡ true
+    → IsPrintable (literal (token_text t) t text) → Word text (literal (token_text t) t text)
 named text t is visible =
     let name : List ℕ = token_text t in
     unless_bad text (starts_with nat_eq text name && ends_word (drop (length name) text)) t

@@ -34,7 +34,8 @@ module _ (limits : LimitsData) (ranges : AreInRange limits) (at : ℕ) (version 
     (of_version : r.head.version ≡ version) (same_due : r.head.line_due ≡ due) where
   set : IsSettled s.server p
   set = settled s.server p (subst AreInRange (sym received.limit) ranges)
-      (subst (λ (l : LimitsData). IsHeldState l s.server) (sym received.limit) received) (proper_change r p a.asks) a.may
+      (subst (λ (l : LimitsData). IsHeldState l s.server) (sym received.limit) received) (proper_change r p a.asks)
+      a.may
 
   abbrev again : ChangeData
   again = canonical_change s.server p.uri p.version set.entry set.items

@@ -133,8 +133,9 @@ module _ (limits : LimitsData) (ranges : AreInRange limits) where
           let b : IsSeriesStep limits.max_body next_at version (due_after due e.us) s series r (end_bytes series) e.last
           e.last_series =
           subst (λ (u : Session). IsSeriesStep limits.max_body next_at version (due_after due e.us) s series r
-          (end_bytes series) u e.last_series) (sym e.like.2) (begun_series limits ranges next_at version (due_after due e.us) s series e.like.0
-          e.like.1 e.last_series r p is.of_version apart (e.apart p.uri apart) received accepted kind.3 due_r) in
+          (end_bytes series) u e.last_series) (sym e.like.2)
+          (begun_series limits ranges next_at version (due_after due e.us) s series e.like.0 e.like.1 e.last_series r p
+          is.of_version apart (e.apart p.uri apart) received accepted kind.3 due_r) in
           begins_next limits.max_body at version due s series t before e r rs (Some b.next) b.writes not_bad
           (any_some b.next rs)
           (rest next_at place (due_after due e.us) (Some b.next) e.last e.last_series held_last (b.pending, refl)

@@ -1,5 +1,5 @@
 -- The records that stay, as a log of their own.
-use Rattle.lsp_replay.proofs.Prelude.{common_steps, cases_Bool, arith, ◌≡◌, ◌≢◌, ℕ, ◌+◌, Bool, true, false, ◌||◌, List, [], ◌∷◌, length, Option, Some, None, refl, sym, ap, ◌∙◌, subst, ⊎_elim, cond_both, Result, Err, place_after, frame, reading, ChangeData, incoming_of, ServerData, EngineFault, BadLog, Version, One, Record, AreRecords, is_line_due, record_bytes, Outcome, Kept, Selection, after_kept, after_left_out, is_due, kept_first, kept_in, record_stays, with_line, RecordOutput, canonical_change_body, canonical_if, change_in, followed_by, front_of, normalising, replaying, unless_bad, written, run_output_in, IsChange, Session, Verdict, answered, bad, judge, recorded, OpenSeries, Step, squash_step, squashed_in}
+use Rattle.lsp_replay.proofs.Prelude.{common_steps, cases_Bool, arith, ◌≡◌, ◌≢◌, ℕ, ◌+◌, Bool, true, false, ◌||◌, List, [], ◌∷◌, length, Option, Some, None, refl, sym, ap, ◌∙◌, subst, ⊎_elim, cond_both, Result, Err, place_after, frame, reading, ChangeData, incoming_of, ServerData, EngineFault, BadLog, Version, One, Record, AreRecords, is_line_due, record_bytes, Outcome, Kept, Selection, after_kept, after_left_out, is_due, kept_first, kept_in, record_stays, with_line, RecordOutput, canonical_change_body, canonical_if, change_in, followed_by, front_of, normalising, replaying, unless_bad, written, run_output_in, IsChange, Session, Verdict, bad, judge, OpenSeries, Step, squash_step, squashed_in}
 use Rattle.lsp_replay.proofs.Records.ChangeLemmas.{IsChangeKind, IsOtherKind, kind_of}
 use Rattle.lsp_replay.proofs.Stay.LeftOutLemmas.{harmless, stays_alike}
 use Rattle.lsp_replay.proofs.Canonical.NormalisedLemmas.{went_on}
@@ -73,7 +73,7 @@ kept_stop s t c (r ∷ rs) like =
     same_end : (single t.server (with_line c r) (judge t r).verdict).end ≡ (single s.server r (judge s r).verdict).end
     same_end =
         line_end t.server c r (judge t r).verdict
-        ∙ ap (λ (server : ServerData). (single server r (judge t r).verdict).end) (ap (λ (u : Session). u.server) like.2)
+        ∙ ap (λ (u : Session). (single u.server r (judge t r).verdict).end) like.2
         ∙ ap (λ (v : Verdict). (single s.server r v).end) (judged_alike s t r like).0
 
 -- ---- records at other places
@@ -216,8 +216,7 @@ squash_located s series (r ∷ rs) at version goes =
 
 verdict_not_bad : (r : Record) (v : Verdict) (g : RecordOutput) → (unless_bad r v g).end ≡ None → v ≢ bad
 verdict_not_bad r bad g e = absurd (let wrong : Some (Err (BadLog r.head.place)) ≡ None = e in cc)
-verdict_not_bad r recorded g e = λ (wrong : recorded ≡ bad). cc
-verdict_not_bad r (answered a) g e = λ (wrong : answered a ≡ bad). cc
+verdict_not_bad r v g e = λ (wrong : v ≡ bad). cc
 
 -- `replay` reports the same documents of the records that stay, the same status and as many refusals.
 pub reported : (version : Version) (rs : List Record) (s t : Session) (c : Selection) (at : ℕ) → IsAlike s t

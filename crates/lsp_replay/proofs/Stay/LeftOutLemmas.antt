@@ -100,15 +100,12 @@ module _ (s : Session) (version : Version) (m : IncomingData) (left_out : messag
         refusals = count_if b s.refusals;
       })) here.accepted
 
-  not_bad : answered (as_sent here.answer) ≢ bad
-  not_bad e = cc
-
   client_harmless : IsHarmless s (change_in m) (judge_client s version m)
   client_harmless =
       subst (IsHarmless s (change_in m)) (sym is_quiet)
       (record {
         alike = (s.records, one_more s.messages, refl);
-        not_bad = not_bad;
+        not_bad = λ (wrong : answered (as_sent here.answer) ≡ bad). cc;
         none = ap (λ (c : Option ChangeData). canonical_if s.server c (answered (as_sent here.answer))) here.nothing;
       })
 
@@ -125,15 +122,16 @@ no_answer s None body e = refl
 no_answer s (Some id) body e = ap (λ (r : Option Data). judge_server s (option_map encoding_in r))
     (no_result id (reading body) e)
 
-not_recorded : recorded ≢ bad
-not_recorded e = cc
-
 server_harmless : (s : Session) (waiting : Option IdData) (change : Option ChangeData) (body : List ℕ)
     → record_stays s waiting Server body ≡ false
     → IsHarmless s change (judge_server s (encoding_for s.expected (reading body)))
 server_harmless s waiting change body e =
     subst (IsHarmless s change) (sym (no_answer s s.expected body (or_parts _ _ e).0))
-    (record { alike = (s.records, s.messages, refl); not_bad = not_recorded; none = heard_has_none s.server change s None })
+    (record {
+      alike = (s.records, s.messages, refl);
+      not_bad = λ (wrong : recorded ≡ bad). cc;
+      none = heard_has_none s.server change s None;
+    })
 
 -- ---- any record
 
