@@ -38,10 +38,6 @@ same_id_is : (id : IdData) → same_id id id ≡ true
 same_id_is (whole n) = (Decides-int_eq n n).1 refl
 same_id_is (text s) = (bytes_eq-Decides s s).1 refl
 
-if_true : {A : Type 0} (b : Bool) (x y : A) → b ≡ true → (if b then x else y) ≡ x
-if_true true x y e = refl
-if_true false x y e = absurd (let wrong : false ≡ true = e in cc)
-
 hears_result : (u : Session) (id : IdData) (encoding : Encoding) (kind : SyncKind) → IsProperId id
     → judge_server u (encoding_for (Some id) (reading (body_of (initialize_result id encoding kind))))
     ≡ judged recorded (record u { server = with_encoding u.server encoding; expected = None })
@@ -49,7 +45,7 @@ hears_result u id encoding kind proper =
     ap (λ (r : Reading). judge_server u (encoding_for (Some id) r))
     (reading-body_of (initialize_result id encoding kind) proper)
     ∙ ap (λ (r : Option Data). judge_server u (option_map encoding_in r))
-    (if_true (same_id id id) (Some (initialize_value encoding kind)) None (same_id_is id))
+    (ap (λ b. if b then Some (initialize_value encoding kind) else None) (same_id_is id))
     ∙ ap (λ (a : Option Announced). judge_server u (Some (option_and_then (λ (b : Announced). b.encoding) a)))
     (is_read_back (initialize_result id encoding kind) proper)
 

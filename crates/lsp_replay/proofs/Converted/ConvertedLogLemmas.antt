@@ -133,7 +133,7 @@ module _ (limits : LimitsData) (ranges : AreInRange limits) where
               record {
                 is_frame_of =
                     written_is_frame limits.max_body (body_of o) fits (omega (arith, fits, ranges.greatest_body));
-                side = λ x. refl_or_not x;
+                side = λ (wrong : Two ≡ One). absurd (cc);
                 of_version = refl;
                 placed = refl;
                 due = refl;
@@ -155,9 +155,6 @@ module _ (limits : LimitsData) (ranges : AreInRange limits) where
               (judged recorded (twin (next_of s server answer) (one_more (one_more n)))) [] heard refl)
               ∙ ap (written_first []) m.same ∙ sym error;
         }
-      where
-        refl_or_not : Two ≡ One → Server ≡ Client
-        refl_or_not x = absurd (cc)
 
     extend : (server : ServerData) (answer : AnswerData OutgoingData) (e : Option IdData)
         → IsReplyWithin limits.max_body (answered (as_sent answer))

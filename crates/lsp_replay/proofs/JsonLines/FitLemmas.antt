@@ -1,5 +1,5 @@
 -- The numbers of a session fit their types: counts 64 bits, versions 32 bits. A canonical message is JSON.
-use Rattle.lsp_replay.proofs.Prelude.{◌≡◌, ℕ, ℤ, suc, ◌^◌, ◌<◌, ◌≤◌, Bool, true, false, List, [], ◌∷◌, ◌++◌, length, map, Option, Some, None, refl, sym, ap, ◌∙◌, subst, arith, take, bytes_eq, FitsSigned, IsUtf8, ⊤, codes, if◌then◌else◌, option_and_then, option_map, option_map_or, is_utf8, cases_Bool, ltb-false, IsUtf8-from_is_utf8, Json, IsUtf8-are_ascii, are_ascii, Data, null, number, string, Members, get, get_member, read, LimitsData, AreInRange, units_in, ContentChange, IdData, MessageData, OutcomeData, Reading, id_in, json_of, message_of, reading, ChangeData, CloseData, close_by, close_of, DocumentItem, change_of, document_in, open_by, open_of, version_in, text_in, value_of, IsProperId, AllWithin, Refusal, after_change, after_close, after_open, change_refusal, close_refusal, entry_at, open_refusal, unless_refused, changed, refused, Phase, New, Running, Down, IncomingData, not_json, not_a_message, response, initialize, shutdown, other_request, exit, did_open, did_change, did_close, other_notification, incoming_of, ServerData, content_change_from_data, result_step, session_encoding, step_in, one_more, Sender, Client, Server, Version, Record, canonical_change_body, canonical_if, canonical_of_record, change_in, Known, known_after, last_in, uri_of, Mention, is_mention, last_for, last_record, mentioned, most_mentions, without, Session, Verdict, answered, encoding_for, has_changed, is_change, judge, judge_from, id_of, is_json, method_of, within, common_steps}
+use Rattle.lsp_replay.proofs.Prelude.{◌≡◌, ℕ, ℤ, suc, ◌^◌, ◌<◌, ◌≤◌, Bool, true, false, List, [], ◌∷◌, ◌++◌, length, map, Option, Some, None, refl, sym, ap, ◌∙◌, subst, arith, take, bytes_eq, FitsSigned, IsUtf8, ⊤, codes, if◌then◌else◌, option_and_then, option_map, option_map_or, is_utf8, cases_Bool, ltb-false, IsUtf8-from_is_utf8, Json, IsUtf8-are_ascii, Data, null, number, string, Members, get, get_member, read, LimitsData, AreInRange, units_in, ContentChange, IdData, MessageData, OutcomeData, Reading, id_in, json_of, message_of, reading, ChangeData, CloseData, close_by, close_of, DocumentItem, change_of, document_in, open_by, open_of, version_in, text_in, value_of, IsProperId, AllWithin, Refusal, after_change, after_close, after_open, change_refusal, close_refusal, entry_at, open_refusal, unless_refused, changed, refused, Phase, New, Running, Down, IncomingData, not_json, not_a_message, response, initialize, shutdown, other_request, exit, did_open, did_change, did_close, other_notification, incoming_of, ServerData, content_change_from_data, result_step, session_encoding, step_in, Sender, Client, Server, Version, Record, canonical_change_body, canonical_if, canonical_of_record, change_in, Known, known_after, last_in, uri_of, Mention, is_mention, last_for, last_record, mentioned, most_mentions, without, Session, Verdict, answered, encoding_for, has_changed, is_change, judge, judge_from, id_of, is_json, method_of, within, common_steps}
 use Rattle.std.specs.Int.{w32}
 use Rattle.lsp_message.specs.Agreement.{offers_of}
 use Rattle.lsp_message.proofs.BodyLemmas.{body_is}
@@ -80,47 +80,36 @@ HasCloseUri p = IsUtf8 p.uri
 close_uri : (ms : Members) → MembersAreHeld ms → OnSome HasCloseUri (close_by ms)
 close_uri ms held = grind (arith, common_steps, on_map, held_text, held_member)
 
-plain_method : (method : List ℕ) → are_ascii method ≡ true → OnSome IsUtf8 (Some method)
-plain_method method h = IsUtf8-are_ascii method h
+only : (m : IncomingData) → OnSome IsProperId (id_of m) → OnSome IsUtf8 (method_of m) → OnSome IsUtf8 (uri_of Client m)
+    → HasVersion m → IsAsked m
+only m id method uri version = record { id = id; method = method; uri = uri; version = version }
 
 asked_open : (params : Option DocumentItem) → OnSome IsOpened params → IsAsked (did_open params)
-asked_open None is =
-    record { id = tt; method = plain_method (codes "textDocument/didOpen") refl; uri = tt; version = tt }
-asked_open (Some p) is = record {
-  id = tt;
-  method = plain_method (codes "textDocument/didOpen") refl;
-  uri = is.uri;
-  version = is.version;
-}
+asked_open None is = only (did_open None) tt (IsUtf8-are_ascii (codes "textDocument/didOpen") refl) tt tt
+asked_open (Some p) is =
+    only (did_open (Some p)) tt (IsUtf8-are_ascii (codes "textDocument/didOpen") refl) is.uri is.version
 
 asked_change : (params : Option ChangeData) → OnSome IsProperAsked params → IsAsked (did_change params)
-asked_change None is =
-    record { id = tt; method = plain_method (codes "textDocument/didChange") refl; uri = tt; version = tt }
-asked_change (Some p) is = record {
-  id = tt;
-  method = plain_method (codes "textDocument/didChange") refl;
-  uri = is.uri;
-  version = is.version;
-}
+asked_change None is = only (did_change None) tt (IsUtf8-are_ascii (codes "textDocument/didChange") refl) tt tt
+asked_change (Some p) is =
+    only (did_change (Some p)) tt (IsUtf8-are_ascii (codes "textDocument/didChange") refl) is.uri is.version
 
 asked_close : (params : Option CloseData) → OnSome HasCloseUri params → IsAsked (did_close params)
-asked_close None is =
-    record { id = tt; method = plain_method (codes "textDocument/didClose") refl; uri = tt; version = tt }
-asked_close (Some p) is =
-    record { id = tt; method = plain_method (codes "textDocument/didClose") refl; uri = is; version = tt }
+asked_close None is = only (did_close None) tt (IsUtf8-are_ascii (codes "textDocument/didClose") refl) tt tt
+asked_close (Some p) is = only (did_close (Some p)) tt (IsUtf8-are_ascii (codes "textDocument/didClose") refl) is tt
 
 asked_by : (r : Reading) → IdRead r → IsAsked (incoming_of r)
 asked_by msg.not_json is = record { id = tt; method = tt; uri = tt; version = tt }
 asked_by (msg.not_a_message id) is = record { id = is; method = tt; uri = tt; version = tt }
 asked_by (msg.message (msg.request id method params)) is =
     either_asked (bytes_eq method (codes "initialize")) (initialize id (offers_of params)) _
-    (record { id = is.0; method = plain_method (codes "initialize") refl; uri = tt; version = tt })
+    (record { id = is.0; method = IsUtf8-are_ascii (codes "initialize") refl; uri = tt; version = tt })
     (either_asked (bytes_eq method (codes "shutdown")) (shutdown id) (other_request id method)
-    (record { id = is.0; method = plain_method (codes "shutdown") refl; uri = tt; version = tt })
+    (record { id = is.0; method = IsUtf8-are_ascii (codes "shutdown") refl; uri = tt; version = tt })
     (record { id = is.0; method = is.1; uri = tt; version = tt }))
 asked_by (msg.message (msg.notification method params)) is =
     either_asked (bytes_eq method (codes "exit")) exit _
-    (record { id = tt; method = plain_method (codes "exit") refl; uri = tt; version = tt })
+    (record { id = tt; method = IsUtf8-are_ascii (codes "exit") refl; uri = tt; version = tt })
     (either_asked (bytes_eq method (codes "textDocument/didOpen")) (did_open (open_of params)) _
     (asked_open (open_of params) (on_then MembersAreHeld IsOpened open_by opened (document_in params)
     (document_held params is.1)))
@@ -300,14 +289,11 @@ from_versions s version Server body kept =
     of_server (λ j. AreVersions j.session.server.table) s kept kept (λ encoding. kept)
     (encoding_for s.expected (reading body))
 
-one_more_fits : (n : ℕ) → IsCount n → IsCount (one_more n)
-one_more_fits n is = omega arith
-
 pub judged_fits : (limits : LimitsData) (known : Known) (s : Session) (r : Record) → IsFit limits known s
     → IsFit limits (known_after known s r.head r.body (judge s r)) (judge s r).session
 judged_fits limits known s r fit =
     let records : IsCount (judge s r).session.records =
-    subst IsCount (sym (one_more_record s r)) (one_more_fits s.records fit.records) in
+    subst IsCount (sym (one_more_record s r)) (let few = fit.records in omega arith) in
     record {
       held = judged_held limits s r fit.held;
       versions = from_versions s r.head.version r.head.side r.body fit.versions;

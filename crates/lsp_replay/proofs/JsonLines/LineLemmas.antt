@@ -27,9 +27,6 @@ a_json_string : (s : List ℕ) → IsUtf8 s → IsValue (json_string s) (json.st
 unfolding json_string
 a_json_string s u = a_string s u
 
-strings_if : (o : Option (List ℕ)) → OnSome IsUtf8 o → IsValueIf (option_map json_string o) (option_map json.string o)
-strings_if = values_if IsUtf8 json_string json.string a_json_string
-
 an_id : (id : IdData) → IsProperId id → IsValue (id_json id) (id_value id)
 an_id (whole z) is = an_integer z is
 an_id (text s) is = a_json_string s is
@@ -191,12 +188,14 @@ module _ (limits : LimitsData) (ranges : AreInRange limits) (details : Details) 
       let word = a_quoted (codes ",\"word\":") (codes "word") (verdict_word j.verdict) _ _ (refl, refl)
       (plain_verdict j.verdict) reason in
       let with_uri = a_member_if (codes ",\"uri\":") (codes "uri") _ (option_map json_string uri)
-      (option_map json.string uri) _ (refl, refl) (strings_if uri (uri_utf8 r.head.side r.body)) word in
+      (option_map json.string uri) _ (refl, refl)
+      (values_if IsUtf8 json_string json.string a_json_string uri (uri_utf8 r.head.side r.body)) word in
       let id = a_member_if (codes ",\"id\":") (codes "id") _ (option_map id_json (id_of m))
       (option_map id_value (id_of m)) _ (refl, refl)
       (values_if IsProperId id_json id_value an_id (id_of m) (id_fits r.body)) with_uri in
       let method = a_member_if (codes ",\"method\":") (codes "method") _ (option_map json_string (method_of m))
-      (option_map json.string (method_of m)) _ (refl, refl) (strings_if (method_of m) (method_utf8 r.body)) id in
+      (option_map json.string (method_of m)) _ (refl, refl)
+      (values_if IsUtf8 json_string json.string a_json_string (method_of m) (method_utf8 r.body)) id in
       let from = a_quoted (codes ",\"from\":") (codes "from") (side_word r.head.side) _ _ (refl, refl)
       (plain_side r.head.side) method in
       let offset = a_member (codes ",\"offset\":") (codes "offset") (decimal r.head.place) _ (natural r.head.place) _

@@ -257,8 +257,8 @@ module _ (r : List ℕ) where
           (λ ys. rw high (prepend_none (content (after_high u) ys)))) (pair u)
       by u e is (inr high) (inl low) = absurd (let no : None ≡ Some s = rw (high, low) at is in cc)
       by u e is (inr high) (inr low) =
-          goes_on (a ∷ b ∷ c ∷ d ∷ []) (encode_utf8 u) xs after_u plain (unit_step a b c d u plain (encode_utf8 u) e
-          refl (λ ys. rw (high, low) refl)) next
+          goes_on (a ∷ b ∷ c ∷ d ∷ []) (encode_utf8 u) xs after_u plain
+          (unit_step a b c d u plain (encode_utf8 u) e refl (λ ys. rw (high, low) refl)) next
 
   pub pair : (high x u a b c d : ℕ) (xs : List ℕ) → Closes plain xs
       → Closes (after_high high) (x ∷ u ∷ a ∷ b ∷ c ∷ d ∷ xs)

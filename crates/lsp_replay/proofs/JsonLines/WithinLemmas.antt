@@ -1,5 +1,5 @@
 -- JSON within a longer text: on one line its lexemes and its tokens are there what they are alone.
-use Rattle.lsp_replay.proofs.Prelude.{◌≡◌, ◌⊎◌, inl, inr, ℕ, Bool, true, false, cond, ◌||◌, ◌==◌, List, [], ◌∷◌, ◌++◌, Option, Some, None, refl, sym, ap, ap₂, ◌∙◌, subst, append_assoc, fold, cases_Bool, eqb-true, or_cases, one_line}
+use Rattle.lsp_replay.proofs.Prelude.{⊎_elim, ◌≡◌, ◌⊎◌, inl, inr, ℕ, Bool, true, false, cond, ◌||◌, ◌==◌, List, [], ◌∷◌, ◌++◌, Option, Some, None, refl, sym, ap, ap₂, ◌∙◌, subst, append_assoc, fold, cases_Bool, eqb-true, or_cases, one_line}
 use Rattle.json.specs.Token.{Token, begin_object, end_object, begin_array, end_array, key, string, number, boolean, null, bad}
 use Rattle.json.specs.Text.{Within, content, plain, after_backslash, after_u, after_high}
 use Rattle.json.specs.Word.{ends_word, is_operator, is_space, word}
@@ -117,12 +117,15 @@ ends_by false false _ _ x xs k h = refl
 abbrev is_break : ℕ → Bool
 is_break x = (x == 10) || (x == 13)
 
-at_break : (P : ℕ → Type 0) → P 10 → P 13 → (x : ℕ) → is_break x ≡ true → P x
-at_break P feed return x e = by (or_cases (x == 10) (x == 13) e)
+-- what holds of the line breaks and of any other byte holds of each
+by_break : (P : ℕ → Type 0) (x : ℕ) → P 10 → P 13 → (is_break x ≡ false → P x) → P x
+by_break P x feed return rest = by (cases_Bool (is_break x))
   where
-    by : ((x == 10) ≡ true) ⊎ ((x == 13) ≡ true) → P x
-    by (inl is) = subst P (sym (eqb-true x 10 is)) feed
-    by (inr is) = subst P (sym (eqb-true x 13 is)) return
+    by : (is_break x ≡ true) ⊎ (is_break x ≡ false) → P x
+    by (inl is) =
+        ⊎_elim (λ (e : (x == 10) ≡ true). subst P (sym (eqb-true x 10 e)) feed)
+        (λ (e : (x == 13) ≡ true). subst P (sym (eqb-true x 13 e)) return) (or_cases (x == 10) (x == 13) is)
+    by (inr is) = rest is
 
 -- ---- the same lexemes
 
@@ -135,13 +138,11 @@ module _ (r : List ℕ) (word_ends : ends_word r ≡ true) where
 
   ends_next : (xs : List ℕ) → Ends xs
   unfolding lex
-  ends_next [] h = word_ends
-  ends_next (x ∷ xs) h = by (cases_Bool (is_break x)) (ends_next xs)
-    where
-      by : (is_break x ≡ true) ⊎ (is_break x ≡ false) → Ends xs → ends_word (on r (x ∷ xs)) ≡ true
-      by (inl is) next = at_break (λ y. Ends (y ∷ xs)) next next x is h
-      by (inr is) next = ap ends_word (before x xs is)
-          ∙ ends_by (x == 34) (x == 92) (is_operator x) (is_space x) x xs (λ m. lex m xs) h
+  ends_next [] = λ h. word_ends
+  ends_next (x ∷ xs) =
+      by_break (λ y. Ends (y ∷ xs)) x (ends_next xs) (ends_next xs)
+      (λ d h. ap ends_word (before x xs d)
+      ∙ ends_by (x == 34) (x == 92) (is_operator x) (is_space x) x xs (λ m. lex m xs) h)
 
   -- in a word
   abbrev InWord : List ℕ → Type 0
@@ -226,22 +227,16 @@ module _ (r : List ℕ) (word_ends : ends_word r ≡ true) where
 
   outside_any : (x : ℕ) (xs : List ℕ) → Same r between xs → InWord xs → Closes r plain xs → Same r between (x ∷ xs)
   unfolding lex
-  outside_any x xs next within quoted = by (cases_Bool (is_break x))
-    where
-      by : (is_break x ≡ true) ⊎ (is_break x ≡ false) → Same r between (x ∷ xs)
-      by (inl is) = at_break (λ y. Same r between (y ∷ xs)) next next x is
-      by (inr is) = outside_byte x xs (class x) refl is next within quoted
+  outside_any x xs next within quoted =
+      by_break (λ y. Same r between (y ∷ xs)) x next next
+      (λ d. outside_byte x xs (class x) refl d next within quoted)
 
   word_any : (x : ℕ) (xs : List ℕ) → Same r between xs → InWord xs → InWord (x ∷ xs)
   unfolding lex
-  word_any x xs next within = by (cases_Bool (is_break x))
-    where
-      broken : SameAt r after_value between xs → SameAt r after_value in_word (10 ∷ xs)
-      broken same h = in_word-ended (on r xs) (ends_next xs h) ∙ same h
-
-      by : (is_break x ≡ true) ⊎ (is_break x ≡ false) → InWord (x ∷ xs)
-      by (inl is) = at_break (λ y. InWord (y ∷ xs)) (broken (next after_value)) (broken (next after_value)) x is
-      by (inr is) = word_byte x xs (class x) refl is next within
+  word_any x xs next within =
+      let broken : SameAt r after_value in_word (10 ∷ xs) =
+      λ h. in_word-ended (on r xs) (ends_next xs h) ∙ next after_value h in
+      by_break (λ y. InWord (y ∷ xs)) x broken broken (λ d. word_byte x xs (class x) refl d next within)
 
   mutual
     unfolding lex content

@@ -38,13 +38,8 @@ stays_closed (x ∷ table) other uri differ e =
 
 stays_open : (table : List DocumentItem) (entry : DocumentItem) (uri : List ℕ) → Stays table (after_open table entry)
     uri
-stays_open table entry uri = by (bytes_eq entry.uri uri) refl
-  where
-    by : (b : Bool) → bytes_eq entry.uri uri ≡ b → Stays table (after_open table entry) uri
-    by true is e =
-        absurd (last_found (after_close table entry.uri) entry uri
-        ((bytes_eq-Decides uri entry.uri).1 (sym ((bytes_eq-Decides entry.uri uri).0 is))) e)
-    by false differ e = stays_closed table entry.uri uri differ (stays_last (after_close table entry.uri) entry uri e)
+stays_open table entry uri e =
+    grind (arith, common_steps, cases_Bool, bytes_eq-Decides, last_found, stays_closed, stays_last)
 
 obeyed_stays : (s : ServerData) (refusal : Option Refusal) (next : List DocumentItem) (uri : List ℕ)
     → Stays s.table next uri → Stays s.table (result_step s (unless_refused refusal next)).state.table uri

@@ -18,21 +18,17 @@ three_words (Ok x) new old one two a b c first second is =
     is ∙ ap (λ z. z ++ c) (second ∙ ap (λ z. z ++ b) first ∙ append_assoc old a b) ∙ append_assoc old (a ++ b) c
 three_words (Err e) new old one two a b c first second is = tt
 
-parts : (old a b c d e f g : List ℕ) → old ++ a ++ b ++ c ++ d ++ e ++ f ++ g ≡ old ++ (a ++ b ++ c ++ d ++ e ++ f ++ g)
-parts old a b c d e f g = simp append_assoc
-
 -- seven words
 pub seven_words : {A E : Type 0} (r : Result A E) (new old a b c d e f g : List ℕ)
     → OnOk r (new ≡ old ++ a ++ b ++ c ++ d ++ e ++ f ++ g) → OnOk r (new ≡ old ++ (a ++ b ++ c ++ d ++ e ++ f ++ g))
-seven_words (Ok x) new old a b c d e f g is = is ∙ parts old a b c d e f g
+seven_words (Ok x) new old a b c d e f g is = is ∙ simp append_assoc
 seven_words (Err x) new old a b c d e f g is = tt
 
 -- eight words
 pub eight_words : {A E : Type 0} (r : Result A E) (new old a b c d e f g h : List ℕ)
     → OnOk r (new ≡ old ++ a ++ b ++ c ++ d ++ e ++ f ++ g ++ h)
     → OnOk r (new ≡ old ++ (a ++ b ++ c ++ d ++ e ++ f ++ g ++ h))
-eight_words (Ok x) new old a b c d e f g h is =
-    is ∙ ap (λ z. z ++ h) (parts old a b c d e f g) ∙ append_assoc old (a ++ b ++ c ++ d ++ e ++ f ++ g) h
+eight_words (Ok x) new old a b c d e f g h is = is ∙ simp append_assoc
 eight_words (Err x) new old a b c d e f g h is = tt
 
 -- ---- the first members

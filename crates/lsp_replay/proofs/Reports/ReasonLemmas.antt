@@ -1,5 +1,5 @@
 -- The reason of a record, by the change that a running server received: a change that isn't received isn't refused.
-use Rattle.lsp_replay.proofs.Prelude.{◌≡◌, ◌⊎◌, inl, inr, ℕ, Bool, true, false, List, Option, Some, None, refl, sym, ap, ◌∙◌, subst, ⊎_elim, ⊤, ◌&&◌, is_none, if◌then◌else◌, LimitsData, IdData, reading, ChangeData, Phase, New, Running, Down, Ended, dropped, IncomingData, did_change, incoming_of, Head, Sender, Client, Server, Version, change_in, Listing, Note, Seen, listed_line, is_strict_refusal, Session, Verdict, answered, recorded, bad, encoding_for, is_running, judge_client, judge_from, judge_server, reason_json, body_read, reason_of, judge_at, received_of}
+use Rattle.lsp_replay.proofs.Prelude.{cond_both, ◌≡◌, ◌⊎◌, inl, inr, ℕ, Bool, List, Option, Some, None, refl, sym, ap, ◌∙◌, subst, ⊎_elim, ⊤, ◌&&◌, is_none, LimitsData, IdData, reading, ChangeData, Phase, New, Running, Down, Ended, dropped, IncomingData, did_change, incoming_of, Head, Sender, Client, Server, Version, change_in, Listing, Note, Seen, listed_line, is_strict_refusal, Session, Verdict, answered, recorded, bad, encoding_for, is_running, judge_client, judge_from, judge_server, reason_json, body_read, reason_of, judge_at, received_of}
 use Rattle.lsp_replay.proofs.Canonical.CanonicalLogLemmas.{heard_as}
 use Rattle.lsp_replay.proofs.Records.JudgeLemmas.{asks_change}
 
@@ -25,10 +25,6 @@ module _ (s : Session) (version : Version) (p : ChangeData) where
   quiet_in Ended is expected waits = inr (rw is tt)
   quiet_in _ is _ it = inr (rw (is, it) tt)
 
-if_none : (change : Option ChangeData) (b : Bool) → change ≡ None → (if b then change else None) ≡ None
-if_none change true e = e
-if_none change false e = refl
-
 module _ (s : Session) (body : List ℕ) where
   abbrev m : IncomingData
   m = incoming_of (reading body)
@@ -51,7 +47,8 @@ module _ (s : Session) (body : List ℕ) where
           inr (subst (λ (x : IncomingData). IsQuiet (judge_client s version x).verdict) (sym asks) q)
 
       by : (change : Option ChangeData) → change_in m ≡ change → Received version Client
-      by None is = inl (if_none (change_in m) (is_running s.server.phase && is_none s.expected) is ∙ sym is)
+      by None is = inl (cond_both (is_running s.server.phase && is_none s.expected) (change_in m) None (λ c. c ≡ None)
+          (λ e. is) (λ e. refl) ∙ sym is)
       by (Some p) is = state p (asks_change m p is) (quiet_in s version p s.server.phase refl s.expected refl)
 
 -- What goes by the change only where a verdict has a reason goes by the change that was received.

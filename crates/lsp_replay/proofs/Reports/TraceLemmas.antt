@@ -10,8 +10,8 @@ of_body : (s : Session) (version : Version) (side : Sender) (body : List ℕ)
 of_body s version Client body =
     of_incoming (λ j. j.session.records ≡ s.records) s version (incoming_of (reading body)) refl refl
 of_body s version Server body =
-    of_server (λ j. j.session.records ≡ s.records) s refl refl (λ encoding. refl) (encoding_for s.expected
-    (reading body))
+    of_server (λ j. j.session.records ≡ s.records) s refl refl (λ encoding. refl)
+    (encoding_for s.expected (reading body))
 
 pub one_more_record : (s : Session) (r : Record) → (judge s r).session.records ≡ one_more s.records
 one_more_record s r = ap one_more (of_body s r.head.version r.head.side r.body)

@@ -72,21 +72,6 @@ module _ (limits : LimitsData) (ranges : AreInRange limits) (at : ℕ) (version 
   found_out : entry_at t.server.table single.again.uri ≡ Some its_entry
   found_out = ap (entry_at t.server.table) single.same_uri ∙ may_in.is_open
 
-  step_in : squash_step s series r (judge s r) ≡ record {
-    out = end_bytes series;
-    end = None;
-    series = Some (series_at s r p its_entry);
-  }
-  step_in = begun_step s series r p a done_in fits its_entry may_in.is_open apart_in
-
-  step_out : squash_step t before q (judge t q) ≡ record {
-    out = end_bytes before;
-    end = None;
-    series = Some (series_at t q single.again its_entry);
-  }
-  step_out = begun_step t before q single.again single.accepted done_out single.within its_entry found_out
-      (subst (IsApart before) (sym single.same_uri) apart)
-
   front_in : front_of r.head ≡ line_if due ++ mark_of version Client
   front_in = front_is s series r p a done_in fits version of_version ∙ ap (λ b. line_if b ++ mark_of version Client)
       same_due
@@ -127,7 +112,7 @@ module _ (limits : LimitsData) (ranges : AreInRange limits) (at : ℕ) (version 
   pub begun_series : IsSeriesStep limits.max_body at version due s series r (end_bytes series) t before
   begun_series = record {
     next = series_at s r p its_entry;
-    writes = step_in;
+    writes = begun_step s series r p a done_in fits its_entry may_in.is_open apart_in;
     pending = record {
       from = from_here;
       running = a.running;
@@ -153,8 +138,11 @@ module _ (limits : LimitsData) (ranges : AreInRange limits) (at : ℕ) (version 
       last = (judge t q).session;
       last_like = alike_both (session_after s p) (judge s r).session (judge t q).session done_in.leaves
           (after_out n m s p single.again (judge t q).session single.leaves done_out.leaves);
-      run_output = λ more. step_on t before q more (end_bytes before) (Some (series_at s r p its_entry))
-          (step_out ∙ ap (λ o. record { out = end_bytes before; end = None; series = Some o }) same_series);
+      run_output = λ more.
+          step_on t before q more (end_bytes before) (Some (series_at s r p its_entry))
+          (begun_step t before q single.again single.accepted done_out single.within its_entry found_out
+          (subst (IsApart before) (sym single.same_uri) apart)
+          ∙ ap (λ o. record { out = end_bytes before; end = None; series = Some o }) same_series);
       replay = λ more. report_on t q more (not_bad t before q single.again single.accepted done_out single.within);
     };
   }

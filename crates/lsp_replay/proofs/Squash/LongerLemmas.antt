@@ -2,7 +2,7 @@
 use Rattle.lsp_replay.proofs.Prelude.{◌≡◌, ℕ, ◌+◌, ◌≤◌, Bool, true, false, List, [], ◌∷◌, ◌++◌, length, Option, Some, None, refl, sym, ap, ap₂, ◌∙◌, subst, append_assoc, append-nil, bytes_eq, frame, LimitsData, AreInRange, ChangeData, Version, Client, Record, IsRecord, together, record_bytes, mark_of, are_push, together_push, bytes_eq-Decides, written_first, replaying, front_of, line_if, canonical_change_body, run_output_in, server_after, Session, judge, OpenSeries, end_bytes, joined_by, longer, squash_step, squashed_in}
 use Rattle.lsp_replay.proofs.Squash.SingleLemmas.{IsSingle, is_single, single_record}
 use Rattle.lsp_replay.proofs.Records.ChangeLemmas.{IsAccepted, IsDone, is_done, proper_change, session_after}
-use Rattle.lsp_replay.proofs.Records.NumberedLemmas.{IsAlike, alike_both, numbered}
+use Rattle.lsp_replay.proofs.Records.NumberedLemmas.{alike_both, numbered}
 use Rattle.lsp_replay.proofs.Squash.OpenSeriesLemmas.{IsOpenFrom, goes_on_from, same_encoding, same_text}
 use Rattle.lsp_replay.proofs.Canonical.NormalisedLemmas.{first_line}
 use Rattle.lsp_replay.proofs.Squash.SquashLawLemmas.{NonEmpty, report_on, some_behind, step_on, together_split}
@@ -41,9 +41,6 @@ module _ (limits : LimitsData) (ranges : AreInRange limits) (at : ℕ) (version 
   done_last : IsDone last more_q another.again
   done_last = is_done last more_q another.again another.accepted
 
-  uri_is : p.uri ≡ series.squash.uri
-  uri_is = (bytes_eq-Decides p.uri series.squash.uri).0 same
-
   abbrev next_series : OpenSeries
   next_series = longer series p (front_of r.head ++ frame (canonical_change_body s.server p))
 
@@ -59,7 +56,8 @@ module _ (limits : LimitsData) (ranges : AreInRange limits) (at : ℕ) (version 
   joins_same : joined_by another.again series.squash ≡ joined_by p series.squash
   joins_same =
       another.joins series.squash (same_encoding t.server series.squash s.server open_series.from)
-      (λ entry found. same_text t.server series.squash s.server open_series.from p.uri entry uri_is found)
+      (λ entry found. same_text t.server series.squash s.server open_series.from p.uri entry
+      ((bytes_eq-Decides p.uri series.squash.uri).0 same) found)
 
   gives_last : squash_step last (Some series) more_q (judge last more_q) ≡ record {
     out = [];
@@ -86,31 +84,6 @@ module _ (limits : LimitsData) (ranges : AreInRange limits) (at : ℕ) (version 
   same_line [] q some = absurd some
   same_line (x ∷ rs) q some = refl
 
-  pushed : series.singles ++ (front_of r.head ++ frame (canonical_change_body s.server p))
-      ≡ first_line due (open_series.ss ++ more_q ∷ []) ++ together version (open_series.ss ++ more_q ∷ []) []
-  pushed =
-      ap₂ (λ (x y : List ℕ). x ++ y) open_series.singles
-      (ap (λ (f : List ℕ). f ++ frame (canonical_change_body s.server p)) front_here)
-      ∙ append_assoc (first_line due open_series.ss) (together version open_series.ss [])
-      (mark_of version Client ++ frame (canonical_change_body last.server p))
-      ∙ ap₂ (λ (x y : List ℕ). x ++ y) (sym (same_line open_series.ss more_q open_series.some))
-      (ap (λ side. together version open_series.ss []
-      ++ (mark_of version side ++ frame (canonical_change_body last.server p))) (sym a.side)
-      ∙ sym (together_split version open_series.ss (record_bytes version more_q))
-      ∙ ap (together version open_series.ss) (sym (append-nil (record_bytes version more_q)))
-      ∙ sym (together_push version open_series.ss more_q []))
-
-  like_on : IsAlike (record t { server = (judge s r).session.server }) (judge s r).session
-  like_on = (
-    done_here.leaves.0,
-    done_here.leaves.1,
-    done_here.leaves.2
-        ∙ ap (λ (u : Session). numbered done_here.leaves.0 done_here.leaves.1 (record u {
-          server = server_after s.server p;
-        })) open_series.like.2
-        ∙ ap (λ server. numbered done_here.leaves.0 done_here.leaves.1 (record t { server = server })) next_is,
-  )
-
   pub longer_series : IsSeriesStep limits.max_body at version due s (Some series) r [] t before
   longer_series = record {
     next = next_series;
@@ -120,7 +93,15 @@ module _ (limits : LimitsData) (ranges : AreInRange limits) (at : ℕ) (version 
           (goes_on_from t.server series.squash s.server open_series.from p same (proper_change r p a.asks) a.may);
       running = open_series.running;
       waits = open_series.waits;
-      like = like_on;
+      like = (
+        done_here.leaves.0,
+        done_here.leaves.1,
+        done_here.leaves.2
+            ∙ ap (λ (u : Session). numbered done_here.leaves.0 done_here.leaves.1 (record u {
+              server = server_after s.server p;
+            })) open_series.like.2
+            ∙ ap (λ server. numbered done_here.leaves.0 done_here.leaves.1 (record t { server = server })) next_is,
+      );
       apart = open_series.apart;
       front = open_series.front;
       ss = open_series.ss ++ more_q ∷ [];
@@ -128,7 +109,17 @@ module _ (limits : LimitsData) (ranges : AreInRange limits) (at : ℕ) (version 
       are = are_push limits.max_body version at due open_series.ss more_q open_series.are
           (subst (λ b. IsRecord limits.max_body version place b more_q)
           (sym (behind_some due open_series.ss open_series.some)) another.is);
-      singles = pushed;
+      singles =
+          ap₂ (λ (x y : List ℕ). x ++ y) open_series.singles
+          (ap (λ (f : List ℕ). f ++ frame (canonical_change_body s.server p)) front_here)
+          ∙ append_assoc (first_line due open_series.ss) (together version open_series.ss [])
+          (mark_of version Client ++ frame (canonical_change_body last.server p))
+          ∙ ap₂ (λ (x y : List ℕ). x ++ y) (sym (same_line open_series.ss more_q open_series.some))
+          (ap (λ side. together version open_series.ss []
+          ++ (mark_of version side ++ frame (canonical_change_body last.server p))) (sym a.side)
+          ∙ sym (together_split version open_series.ss (record_bytes version more_q))
+          ∙ ap (together version open_series.ss) (sym (append-nil (record_bytes version more_q)))
+          ∙ sym (together_push version open_series.ss more_q []));
       last = (judge last more_q).session;
       last_like =
           alike_both (session_after s p) (judge s r).session (judge last more_q).session done_here.leaves

@@ -6,7 +6,7 @@ use Rattle.lsp_edit.proofs.Batches.ComposeLemmas.{text_of-then, then_means}
 use Rattle.lsp_replay.proofs.Records.AskedLemmas.{IsProperAsked}
 use Rattle.lsp_replay.proofs.Squash.JoiningLemmas.{uri_at}
 use Rattle.lsp_replay.proofs.Records.PutLemmas.{put, change_puts, put_at, put_twice}
-use Rattle.lsp_replay.proofs.Canonical.CanonicalChangeLemmas.{IsProperAt, IsCanonicalChange, canonical_change, is_canonical_change, joins_as}
+use Rattle.lsp_replay.proofs.Canonical.CanonicalChangeLemmas.{IsCanonicalChange, canonical_change, is_canonical_change, joins_as}
 
 -- the squash with other items and another version
 abbrev pub with_items : SquashData → List Item → ℤ → SquashData
@@ -205,22 +205,20 @@ module _ (t : ServerData) (squash : SquashData) (now : ServerData) (from : IsOpe
   pub one_batch : squash_batch squash ≡ canonical (units_in (session_encoding t)) (chars from.entry.text) squash.items
   one_batch = ap squash_batch from.is
 
-  proper_at : IsProperAt t squash.uri squash.version from.entry from.batch squash.items
-  proper_at = record {
-    found = from.found;
-    utf8 = from.received.utf8;
-    received = from.received.short;
-    uri_utf8 = from.uri;
-    version_fits = from.version;
-    means = from.means;
-    texts = from.texts;
-    newer = from.newer;
-    short = from.short;
-    few = subst (λ (b : List ContentChange). nat_lt t.config.limits.max_changes (length b) ≡ false) one_batch few;
-  }
-
   pub one_message : IsCanonicalChange t squash.uri squash.version from.entry squash.items
-  one_message = is_canonical_change t squash.uri squash.version from.entry from.batch squash.items ranges proper_at
+  one_message =
+      is_canonical_change t squash.uri squash.version from.entry from.batch squash.items ranges (record {
+        found = from.found;
+        utf8 = from.received.utf8;
+        received = from.received.short;
+        uri_utf8 = from.uri;
+        version_fits = from.version;
+        means = from.means;
+        texts = from.texts;
+        newer = from.newer;
+        short = from.short;
+        few = subst (λ (b : List ContentChange). nat_lt t.config.limits.max_changes (length b) ≡ false) one_batch few;
+      })
 
   -- Read again, it begins a run that means the same.
   pub one_joins : joined_by (canonical_change t squash.uri squash.version from.entry squash.items)

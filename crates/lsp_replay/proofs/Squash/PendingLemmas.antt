@@ -194,13 +194,11 @@ module _ (limits : LimitsData) (ranges : AreInRange limits) (at : ℕ) (version 
     joins : one_series.squash ≡ series.squash
     joins = one_joins t.server series.squash s.server p.from here few
 
-    same_front : front ≡ series.front
-    same_front = front_is t before one change accepted done short version refl ∙ sym p.front
-
     same_end : end_bytes (Some one_series) ≡ open_bytes series
     same_end =
         ap (λ (k : SquashData). open_bytes (record { front = front; singles = one_series.singles; squash = k })) joins
-        ∙ ap (λ f. open_bytes (record { front = f; singles = one_series.singles; squash = series.squash })) same_front
+        ∙ ap (λ f. open_bytes (record { front = f; singles = one_series.singles; squash = series.squash }))
+        (front_is t before one change accepted done short version refl ∙ sym p.front)
         ∙ rw is refl
 
     as_one : IsEnded limits.max_body at version due s (Some series) t before

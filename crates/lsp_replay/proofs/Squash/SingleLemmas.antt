@@ -43,9 +43,6 @@ module _ (limits : LimitsData) (ranges : AreInRange limits) (at : ℕ) (version 
   own : canonical_change_body s.server again ≡ canonical_change_body s.server p
   own = set.message.own ∙ sym set.body
 
-  within : length (canonical_change_body s.server p) ≤ limits.max_body
-  within = subst (λ (l : LimitsData). length (canonical_change_body s.server p) ≤ l.max_body) received.limit fits
-
   pub is_single : IsSingle limits.max_body at version due s p (single_record at s r p)
   is_single = record {
     again = again;

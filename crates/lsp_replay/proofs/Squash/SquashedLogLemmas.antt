@@ -96,19 +96,6 @@ module _ (limits : LimitsData) (ranges : AreInRange limits) where
       gives_other = step_other s.server r (front_of r.head) series (change_in (incoming_of (reading r.body)))
           (judge s r).verdict kind.0 kind.1
 
-      gives_last : squash_step e.last e.last_series q (judge e.last q) ≡ record {
-        out = end_bytes e.last_series ++ (front_of r.head ++ q.raw);
-        end = None;
-        series = None;
-      }
-      gives_last = step_other e.last.server q (front_of q.head) e.last_series (change_in (incoming_of (reading q.body)))
-          (judge e.last q).verdict not_bad_last none_last
-
-      front_at : front_of r.head ≡ line_if (due_after due e.us) ++ mark_of version q.head.side
-      front_at =
-          ap (λ v. line_if r.head.line_due ++ mark_of v r.head.side) is.of_version
-          ∙ ap (λ b. line_if b ++ mark_of version r.head.side) due_r
-
       others : IsSquashedAs limits.max_body at version due s series (r ∷ rs) t before
       others =
           others_next limits.max_body at version due s series t before e r q rs (front_of r.head)
@@ -118,7 +105,11 @@ module _ (limits : LimitsData) (ranges : AreInRange limits) where
             of_version = is.of_version;
             placed = refl;
             due = due_r;
-          }) gives_other kind.0 front_at gives_last not_bad_last
+          }) gives_other kind.0
+          (ap (λ v. line_if r.head.line_due ++ mark_of v r.head.side) is.of_version
+          ∙ ap (λ b. line_if b ++ mark_of version r.head.side) due_r)
+          (step_other e.last.server q (front_of q.head) e.last_series (change_in (incoming_of (reading q.body)))
+          (judge e.last q).verdict not_bad_last none_last) not_bad_last
           (rest (next_at + length (record_bytes version q)) place false None (judge e.last q).session None
           (held_alike (judge s r).session (judge e.last q).session alike.1 (judged_held limits s r received)) (
             refl,
@@ -142,9 +133,9 @@ module _ (limits : LimitsData) (ranges : AreInRange limits) where
           let b : IsSeriesStep limits.max_body next_at version (due_after due e.us) s series r (end_bytes series) e.last
           e.last_series =
           subst (λ (u : Session). IsSeriesStep limits.max_body next_at version (due_after due e.us) s series r
-          (end_bytes series) u e.last_series) (sym e.like.2) (begun_series limits ranges next_at version
-          (due_after due e.us) s series e.like.0
-          e.like.1 e.last_series r p is.of_version apart (e.apart p.uri apart) received accepted kind.3 due_r) in
+          (end_bytes series) u e.last_series) (sym e.like.2)
+          (begun_series limits ranges next_at version (due_after due e.us) s series e.like.0 e.like.1 e.last_series r p
+          is.of_version apart (e.apart p.uri apart) received accepted kind.3 due_r) in
           begins_next limits.max_body at version due s series t before e r rs (Some b.next) b.writes not_bad
           (any_some b.next rs)
           (rest next_at place (due_after due e.us) (Some b.next) e.last e.last_series held_last (b.pending, refl)

@@ -1,5 +1,5 @@
 -- The records that stay, as a log of their own.
-use Rattle.lsp_replay.proofs.Prelude.{common_steps, cases_Bool, arith, ◌≡◌, ◌≢◌, ℕ, ◌+◌, Bool, true, false, ◌||◌, List, [], ◌∷◌, length, Option, Some, None, refl, sym, ap, ◌∙◌, subst, ⊎_elim, cond_both, Result, Err, place_after, frame, reading, ChangeData, incoming_of, ServerData, EngineFault, BadLog, Version, One, Record, AreRecords, is_line_due, record_bytes, Outcome, Kept, Selection, after_kept, after_left_out, is_due, kept_first, kept_in, record_stays, with_line, RecordOutput, canonical_change_body, canonical_if, change_in, followed_by, front_of, normalising, replaying, unless_bad, written, run_output_in, IsChange, RunOutput, Session, Verdict, answered, bad, judge, recorded, OpenSeries, Step, squash_step, squashed_in}
+use Rattle.lsp_replay.proofs.Prelude.{common_steps, cases_Bool, arith, ◌≡◌, ◌≢◌, ℕ, ◌+◌, Bool, true, false, ◌||◌, List, [], ◌∷◌, length, Option, Some, None, refl, sym, ap, ◌∙◌, subst, ⊎_elim, cond_both, Result, Err, place_after, frame, reading, ChangeData, incoming_of, ServerData, EngineFault, BadLog, Version, One, Record, AreRecords, is_line_due, record_bytes, Outcome, Kept, Selection, after_kept, after_left_out, is_due, kept_first, kept_in, record_stays, with_line, RecordOutput, canonical_change_body, canonical_if, change_in, followed_by, front_of, normalising, replaying, unless_bad, written, run_output_in, IsChange, Session, Verdict, bad, judge, OpenSeries, Step, squash_step, squashed_in}
 use Rattle.lsp_replay.proofs.Records.ChangeLemmas.{IsChangeKind, IsOtherKind, kind_of}
 use Rattle.lsp_replay.proofs.Stay.LeftOutLemmas.{harmless, stays_alike}
 use Rattle.lsp_replay.proofs.Canonical.NormalisedLemmas.{went_on}
@@ -49,18 +49,11 @@ line_end server c r v = written_end server.config.limits.max_body r (front_of (w
 
 -- ---- where the run ends
 
-written_none : (max_body : ℕ) (r : Record) (front : List ℕ) (c : Option (List ℕ)) → c ≡ None
-    → (written max_body r front c).end ≡ None
-written_none max_body r front c e = ap (λ o. (written max_body r front o).end) e
-
 single_none : (server : ServerData) (r : Record) (v : Verdict) → v ≢ bad
     → canonical_if server (change_in (incoming_of (reading r.body))) v ≡ None → (single server r v).end ≡ None
 single_none server r bad not_bad none = absurd (not_bad refl)
-single_none server r _ not_bad none = written_none server.config.limits.max_body r (front_of r.head) _ none
-
-goes_on_after : (out : List ℕ) (end : Option (Result Outcome EngineFault)) (c : RunOutput) → end ≡ None
-    → (followed_by out end c).stop ≡ c.stop
-goes_on_after out end c e = ap (λ (o : Option (Result Outcome EngineFault)). (followed_by out o c).stop) e
+single_none server r _ not_bad none =
+    ap (λ c. (written server.config.limits.max_body r (front_of r.head) c).end) none
 
 pub kept_stop : (s t : Session) (c : Selection) (rs : List Record) → IsAlike s t
     → (run_output_in normalising t (kept_in t c rs).records).stop ≡ (run_output_in normalising s rs).stop
@@ -73,14 +66,15 @@ kept_stop s t c (r ∷ rs) like =
     (λ e.
     let h = harmless s c.waiting r (sym (stays_alike s t c.waiting r.head.side r.body like) ∙ e) in
     kept_stop (judge s r).session t (after_left_out c r.head) rs (alike_both s (judge s r).session t h.alike like)
-    ∙ sym (goes_on_after _ (single s.server r (judge s r).verdict).end
-    (run_output_in normalising (judge s r).session rs) (single_none s.server r (judge s r).verdict h.not_bad h.none)))
+    ∙ sym (ap (λ (o : Option (Result Outcome EngineFault)). (followed_by (single s.server r (judge s r).verdict).out o
+    (run_output_in normalising (judge s r).session rs)).stop) (single_none s.server r (judge s r).verdict h.not_bad
+    h.none)))
   where
     same_end : (single t.server (with_line c r) (judge t r).verdict).end ≡ (single s.server r (judge s r).verdict).end
     same_end =
         line_end t.server c r (judge t r).verdict
-        ∙ ap (λ (server : ServerData). (single server r (judge t r).verdict).end) (ap (λ (u : Session). u.server)
-        like.2) ∙ ap (λ (v : Verdict). (single s.server r v).end) (judged_alike s t r like).0
+        ∙ ap (λ (u : Session). (single u.server r (judge t r).verdict).end) like.2
+        ∙ ap (λ (v : Verdict). (single s.server r v).end) (judged_alike s t r like).0
 
 -- ---- records at other places
 
@@ -222,8 +216,7 @@ squash_located s series (r ∷ rs) at version goes =
 
 verdict_not_bad : (r : Record) (v : Verdict) (g : RecordOutput) → (unless_bad r v g).end ≡ None → v ≢ bad
 verdict_not_bad r bad g e = absurd (let wrong : Some (Err (BadLog r.head.place)) ≡ None = e in cc)
-verdict_not_bad r recorded g e = λ (wrong : recorded ≡ bad). cc
-verdict_not_bad r (answered a) g e = λ (wrong : answered a ≡ bad). cc
+verdict_not_bad r v g e = λ (wrong : v ≡ bad). cc
 
 -- `replay` reports the same documents of the records that stay, the same status and as many refusals.
 pub reported : (version : Version) (rs : List Record) (s t : Session) (c : Selection) (at : ℕ) → IsAlike s t

@@ -1,6 +1,8 @@
 -- A record that is left out changes nothing of a session but its counts.
-use Rattle.lsp_replay.proofs.Prelude.{◌≡◌, ◌≢◌, ℕ, Bool, true, false, ◌&&◌, ◌||◌, List, Option, Some, None, is_some, refl, sym, ap, ◌∙◌, subst, if◌then◌else◌, option_map, Data, IdData, Reading, reading, OutgoingData, error_reply, ChangeData, MethodNotFound, Phase, New, Running, Down, Ended, AnswerData, reply, dropped, ignored, as_sent, IncomingData, response, other_request, other_notification, incoming_of, one_more, Version, One, Two, Sender, Client, Server, Record, is_answer_to, message_stays, record_stays, canonical_if, change_in, Session, answered, recorded, bad, Judged, judged, judge, judge_from, judge_client, handled, judge_server, encoding_for, encoding_in, counted, count_if, result_for, is_change, is_early, is_ended, is_new, is_refused, is_running, expected_of}
+use Rattle.lsp_replay.proofs.Prelude.{cond_both, ◌≡◌, ◌≢◌, ℕ, Bool, true, false, ◌&&◌, List, Option, Some, None, is_some, refl, sym, ap, ◌∙◌, subst, option_map, Data, IdData, Reading, reading, OutgoingData, error_reply, ChangeData, MethodNotFound, Phase, New, Running, Down, Ended, AnswerData, reply, dropped, ignored, as_sent, IncomingData, response, other_request, other_notification, incoming_of, one_more, Version, One, Two, Sender, Client, Server, Record, is_answer_to, message_stays, record_stays, canonical_if, change_in, Session, answered, recorded, bad, Judged, judged, judge, judge_from, judge_client, handled, judge_server, encoding_for, encoding_in, counted, count_if, result_for, is_change, is_early, is_ended, is_new, is_refused, is_running, expected_of}
 use Rattle.lsp_server.specs.Step.{ServerData, Step, unchanged_step, step_in, step_on}
+use Rattle.std.proofs.lemmas.Bool.{or_parts}
+use Rattle.lsp_replay.proofs.Canonical.CanonicalLogLemmas.{heard_has_none}
 use Rattle.lsp_replay.proofs.Records.NumberedLemmas.{IsAlike}
 use Rattle.lsp_message.specs.Message as read
 
@@ -69,10 +71,6 @@ early true true false e = refl
 early false false false e = refl
 early _ _ false e = refl
 
-expects_on : (b : Bool) (x y : Option IdData) → x ≡ y → (if b then x else y) ≡ y
-expects_on true x y e = e
-expects_on false x y e = refl
-
 module _ (s : Session) (version : Version) (m : IncomingData) (left_out : message_stays s.server.phase m ≡ false) where
   here : IsIdle s.server.phase s.server m
   here = idle s.server s.server.phase m left_out
@@ -95,22 +93,19 @@ module _ (s : Session) (version : Version) (m : IncomingData) (left_out : messag
         messages = one_more s.messages;
         refusals = count_if (is_refused (as_sent here.answer)) s.refusals;
       }))
-      (expects_on (is_new s.server.phase) (expected_of version m s.expected) s.expected
-      (expects here version s.expected))
+      (cond_both (is_new s.server.phase) (expected_of version m s.expected) s.expected (λ e. e ≡ s.expected)
+      (λ _. expects here version s.expected) (λ _. refl))
       ∙ ap (λ (b : Bool). judged (answered (as_sent here.answer)) (record s {
         messages = one_more s.messages;
         refusals = count_if b s.refusals;
       })) here.accepted
-
-  not_bad : answered (as_sent here.answer) ≢ bad
-  not_bad e = cc
 
   client_harmless : IsHarmless s (change_in m) (judge_client s version m)
   client_harmless =
       subst (IsHarmless s (change_in m)) (sym is_quiet)
       (record {
         alike = (s.records, one_more s.messages, refl);
-        not_bad = not_bad;
+        not_bad = λ (wrong : answered (as_sent here.answer) ≡ bad). cc;
         none = ap (λ (c : Option ChangeData). canonical_if s.server c (answered (as_sent here.answer))) here.nothing;
       })
 
@@ -127,23 +122,16 @@ no_answer s None body e = refl
 no_answer s (Some id) body e = ap (λ (r : Option Data). judge_server s (option_map encoding_in r))
     (no_result id (reading body) e)
 
-neither : (a b : Bool) → (a || b) ≡ false → a ≡ false
-neither true b e = absurd (let wrong : true ≡ false = e in cc)
-neither false b e = refl
-
-not_recorded : recorded ≢ bad
-not_recorded e = cc
-
-none_recorded : (server : ServerData) (change : Option ChangeData) → canonical_if server change recorded ≡ None
-none_recorded server None = refl
-none_recorded server (Some p) = refl
-
 server_harmless : (s : Session) (waiting : Option IdData) (change : Option ChangeData) (body : List ℕ)
     → record_stays s waiting Server body ≡ false
     → IsHarmless s change (judge_server s (encoding_for s.expected (reading body)))
 server_harmless s waiting change body e =
-    subst (IsHarmless s change) (sym (no_answer s s.expected body (neither _ _ e)))
-    (record { alike = (s.records, s.messages, refl); not_bad = not_recorded; none = none_recorded s.server change })
+    subst (IsHarmless s change) (sym (no_answer s s.expected body (or_parts _ _ e).0))
+    (record {
+      alike = (s.records, s.messages, refl);
+      not_bad = λ (wrong : recorded ≡ bad). cc;
+      none = heard_has_none s.server change s None;
+    })
 
 -- ---- any record
 

@@ -1,22 +1,12 @@
 -- What a command writes of the records that stay, a record at a time, and over all records.
 use Rattle.lsp_replay.proofs.Prelude.{◌≡◌, ◌⊎◌, inl, inr, ℕ, Bool, true, false, List, [], ◌∷◌, ◌++◌, Option, Some, None, refl, sym, ap, ◌∙◌, cond, kept_first, Result, Ok, Err, IfErr, IfOk, OnOk, Outcome, EngineFault, NoMemory, Ports, Head, LogRules, Record, FirstLaw, VersionLaw, Kept, Selection, after_kept, after_left_out, kept_in, output_of_kept, record_stays, with_due, with_line, View, followed_by, output_in, IsEngineRun, RunOutput, stopped, written_first, Session, judge, IsLoopRun, IsAdmitted, piped, IsRecordFault, after}
-use Rattle.lsp_replay.specs.inside.Reads.{IsKept, IsLeftOut}
+use Rattle.lsp_replay.specs.inside.Reads.{IsKept}
 use Rattle.lsp_replay.proofs.Stay.KeptLogLemmas.{kept_false, kept_true}
 use Rattle.lsp_replay.proofs.Runs.RunReportLemmas.{Grows, GrowsAll, NoneCut, Settles, grows, run_of, run_of_course, settled}
 
 -- ---- what was read of a record decides whether it stays
 
 -- ---- one record
-
--- A record that is left out.
-module _ (s : Session) (c d : Selection) (r : Record) (left_out : IsLeftOut s c d r.head r.body)
-    (output : List Record → RunOutput) where
-  pub goes_without : (bytes : List ℕ) → bytes ≡ [] → (more : List Record)
-      → piped (Some c) output s (r ∷ more) ≡ after bytes None (piped (Some d) output s more)
-  goes_without bytes nothing more =
-      ap (output_of_kept output) (kept_false s c r more left_out.left_out)
-      ∙ ap (λ (x : Selection). piped (Some x) output s more) (sym left_out.selection)
-      ∙ ap (λ (bs : List ℕ). after bs None (piped (Some d) output s more)) (sym nothing)
 
 -- After a record that ended the run nothing is due.
 due_after : (due : Bool) (bytes : List ℕ) (end : Option Outcome) (c : RunOutput) → with_due due (after bytes end c)
@@ -47,12 +37,10 @@ module _ (s : Session) (c d : Selection) (head : Head) (raw body : List ℕ) (wr
       ∙ ap (λ (q : Record). with_due (later more).due (output (q ∷ (later more).records))) (sym its_is)
 
   module _ (t : Session) (session : t ≡ (judge s its).session) where
-    same_session : t ≡ (judge s r).session
-    same_session = session ∙ ap (λ (q : Record). (judge s q).session) its_is
-
     -- what stays after it
     same_kept : (more : List Record) → later more ≡ kept_in t d more
-    same_kept more = ap (λ (u : Session). kept_in u (after_kept c head body) more) (sym same_session)
+    same_kept more = ap (λ (u : Session). kept_in u (after_kept c head body) more)
+        (sym (session ∙ ap (λ (q : Record). (judge s q).session) its_is))
         ∙ ap (λ (x : Selection). kept_in t x more) (sym stays.selection)
 
     pub goes_on : (output next : List Record → RunOutput) (bytes : List ℕ) (end : Option Outcome)
@@ -84,7 +72,9 @@ module _ (s : Session) (head : Head) (raw body : List ℕ) where
   left_out None d admitted output bytes nothing more = absurd (let wrong : None ≡ Some head = admitted.1 in cc)
   left_out (Some c) None admitted output bytes nothing more = absurd admitted
   left_out (Some c) (Some d) admitted output bytes nothing more =
-      goes_without s c d given admitted output bytes nothing more
+      ap (output_of_kept output) (kept_false s c given more admitted.left_out)
+      ∙ ap (λ (x : Selection). piped (Some x) output s more) (sym admitted.selection)
+      ∙ ap (λ (bs : List ℕ). after bs None (piped (Some d) output s more)) (sym nothing)
 
   pub printed : (c d : Option Selection) (written : Head) → IsAdmitted s c d head body (Some written) → (t : Session)
       → t ≡ (judge s (record { head = written; raw = raw; body = body })).session
