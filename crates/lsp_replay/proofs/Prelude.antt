@@ -50,7 +50,8 @@ pub use Rattle.lsp_frame.specs.Header.{AreLines, IsNameByte, header_of, lines_by
 pub use Rattle.lsp_frame.specs.Limits.{AreInRange, LimitsData}
 pub use Rattle.lsp_frame.specs.declared.fault.FrameFault.{FrameFault}
 pub use Rattle.lsp_log.proofs.LogLemmas.{are_push, due_after, together_push}
-pub use Rattle.lsp_log.proofs.UniqueLemmas.{first_byte}
+pub use Rattle.lsp_log.proofs.RestLemmas.{buffered_law, rest_law}
+pub use Rattle.lsp_log.proofs.UniqueLemmas.{first_byte, first_of, same_version}
 pub use Rattle.lsp_log.specs.Log.{AreRecords, HasNoRecord, IsBadMark, IsCut, IsMalformed, IsReadAs, IsRecord, IsUndecided, IsVersion, Log, LogRules, Record, is_line_due, line_of, mark_of, record_bytes, together, version_line}
 pub use Rattle.lsp_log.specs.Opening.{IsBelowLine, IsLineFront, IsUnfinished}
 pub use Rattle.lsp_log.specs.Splitting.{IsAfter, IsFed, IsOpen, IsReady, IsSplitFault, buffered_of, log_at, record_at, record_head, record_of}
@@ -60,7 +61,7 @@ pub use Rattle.lsp_log.specs.declared.record.Sender.TheVariants.{Client, Server}
 pub use Rattle.lsp_log.specs.declared.record.Version.{Version}
 pub use Rattle.lsp_log.specs.declared.record.Version.TheVariants.{One, Two}
 pub use Rattle.lsp_log.specs.declared.splitter.Splitter.{Splitter}
-pub use Rattle.lsp_log.specs.laws.Logs.{BufferedLaw, FirstLaw, IsFirstOf, RestLaw, VersionLaw}
+pub use Rattle.lsp_log.specs.laws.Logs.{AllRecords, IsFirstOf}
 pub use Rattle.lsp_message.proofs.ReadBack.{body_of-unique, is_read_back, reading-body_of}
 pub use Rattle.lsp_message.specs.Lengths.{is_save, lengths_of, notification_params}
 pub use Rattle.lsp_message.specs.Message.{IdData, MessageData, OutcomeData, Reading, id_in, json_of, message_of, reading, text, whole}
@@ -81,7 +82,7 @@ pub use Rattle.lsp_replay.specs.Engine.{Called, FewCalls, NonePassedOver, PortSt
 pub use Rattle.lsp_replay.specs.Explained.{Seen, explained_line, explaining, listed_line, listed_notes, noted_uri, saved_in, seen_in}
 pub use Rattle.lsp_replay.specs.Lines.{Known, LineView, is_renamed, is_strict_refusal, known_after, last_in, lines, nothing_known, uri_of}
 pub use Rattle.lsp_replay.specs.Mentions.{Mention, is_mention, last_for, last_record, mentioned, most_mentions, without}
-pub use Rattle.lsp_replay.specs.Notes.{Terms, batch_notes, change_notes, change_words, differing_line, has_feed, has_lone_return, left_by, note_words, notes_after, notes_from, notes_if, notes_of, notes_on, notes_words, past_words, ranged_after, replaced_by, side_words, taken_as}
+pub use Rattle.lsp_replay.specs.Notes.{Terms, batch_notes, change_notes, change_words, differing_line, has_lone_return, left_by, note_words, notes_after, notes_from, notes_if, notes_of, notes_on, notes_words, past_words, ranged_after, replaced_by, side_words, taken_as}
 pub use Rattle.lsp_replay.specs.Openings.{OpeningsData, listing_openings, no_openings, opened_if, opened_in, opening_words, openings_after, uri_opened}
 pub use Rattle.lsp_replay.specs.Parts.{Found, PartData, found_after, found_if, is_last, is_named, last_text, last_text_in, none_found, only, part_bytes, part_data, part_outcome, part_step, refreshed, replaying_part, text_found, with_ending}
 pub use Rattle.lsp_replay.specs.Reasons.{edit_reason, end_words, error_reason, idle_words, is_idle, position_words, range_sent, reason_words, renamed_words, store_reason, version_words}
@@ -101,10 +102,9 @@ pub use Rattle.lsp_replay.specs.declared.session.Taken.{Taken}
 pub use Rattle.lsp_replay.specs.declared.session.canonical.Appended.{Appended}
 pub use Rattle.lsp_replay.specs.declared.session.canonical.Appended.TheVariants.{Body, TooLong}
 pub use Rattle.lsp_replay.specs.declared.session.canonical.Canonical.{Canonical}
-pub use Rattle.lsp_replay.specs.inside.AllRecords.{CutAtEnd, EndedBy, IsFaultReported, IsFirstPart, IsRunReport, IsShort, Passed, PassedEnd, ShortAtEnd}
 pub use Rattle.lsp_replay.specs.inside.Bodies.{BodyData, IsChangeTaken, IsReceived, body_read, body_view, from_client, from_server, judge_read}
 pub use Rattle.lsp_replay.specs.inside.Commands.{run_output_in}
-pub use Rattle.lsp_replay.specs.inside.Engine.{AtEnd, BreaksAtEnd, Broken, BrokenAtEnd, IsLoopRun, IsPieceFault, IsRunFault, Ran, RanOut, RanOutAtEnd, Reached, RefusesInput, Stopped, reading_by}
+pub use Rattle.lsp_replay.specs.inside.Engine.{BothSpend, CallsSoFar, HasWritten, IsAnswer, IsEndCause, IsEndWritten, IsLoopRun, IsProgress, Ran, RefusesInput, RunStart, Runs, reading_by, start_at}
 pub use Rattle.lsp_replay.specs.inside.Facts.{AreFacts, IsAbout, IsLearned, canonical_json, explained_by, is_change_read, known_by, members_by, noted_by, reason_of, saved_read, uri_read}
 pub use Rattle.lsp_replay.specs.inside.Joining.{IsBegun, IsChange, IsChangeWriting, IsFramed, IsJoined, IsLonger, IsOpenAfter, IsOpenIn, IsOther, IsWriting, refusal_of, server_after}
 pub use Rattle.lsp_replay.specs.inside.Kept.{closed_by, kept_after, text_at, text_closed}
@@ -112,9 +112,7 @@ pub use Rattle.lsp_replay.specs.inside.Noting.{notes_on_read, terms_view}
 pub use Rattle.lsp_replay.specs.inside.Openings.{open_read}
 pub use Rattle.lsp_replay.specs.inside.Parts.{found_now}
 pub use Rattle.lsp_replay.specs.inside.Piped.{IsAdmitted, once_written, piped, written_due}
-pub use Rattle.lsp_replay.specs.inside.Progress.{BothSpend, Ends, IsEndFault, IsHandleFault, IsHandled, IsLastFault, IsProgress, Runs}
-pub use Rattle.lsp_replay.specs.inside.Run.{IsRanOf}
-pub use Rattle.lsp_replay.specs.inside.RunOutput.{IsQuiet, IsRecordFault, after, output_of}
+pub use Rattle.lsp_replay.specs.inside.RunOutput.{IsFaultAt, IsQuiet, IsRecordFault, after, output_of}
 pub use Rattle.lsp_replay.specs.inside.Session.{judge_at}
 pub use Rattle.lsp_replay.specs.inside.Squashed.{IsSquashStep, OpenSeries, Squashing, Step, begun, begun_on, change_output, end_bytes, faulty, joined_by, longer, open_bytes, other_step, series_of, squash_step, squash_view, squashed_in, squashed_steps, step_at, step_if}
 pub use Rattle.lsp_replay.specs.inside.Taken.{IsChangeWitnessed, IsHeard, IsShown, IsTaken, IsTakenAs, accepted_if, accepted_of, ranged_read, ranged_with, received_of}
@@ -145,7 +143,8 @@ pub use Rattle.lsp_store.specs.declared.fault.StoreFault.{StoreFault}
 pub use Rattle.lsp_store.specs.declared.fault.StoreFault.TheVariants.{AlreadyOpen, Edit, NotOpen, StaleVersion, TextTooLong, TooManyChanges, TooManyDocuments}
 pub use Rattle.lsp_store.specs.laws.Tables.{AllWithin, IsWithin}
 pub use Rattle.lsp_stream.specs.Ports.{FewReads, FewWrites, Ports, ReaderState, Rose, WriterState, one_more, ports}
-pub use Rattle.lsp_stream.specs.Turns.{AppendsFront, AppendsShort, Spends, StaysFlushed, StaysWell}
+pub use Rattle.lsp_stream.specs.Turns.{AppendsFront, AppendsShort, ReadsWithin, Spends, StaysFlushed, StaysWell, WritesFew, WritesWithin}
+pub use Rattle.lsp_stream.specs.inside.Turns.{LeavesFlushed}
 pub use Rattle.lsp_stream.specs.declared.fault.EngineFault.{EngineFault}
 pub use Rattle.lsp_stream.specs.declared.fault.EngineFault.TheVariants.{BadLog, BodyTooLong, Frame, NoMemory, Read, TooManyTurns, Truncated, Write}
 pub use Rattle.lsp_text.specs.Units.{units_in}

@@ -1,6 +1,6 @@
 -- How often what came, for the last lines of `check --explain`.
 use Rattle.std.specs.Prelude.{◌&&◌, ◌==◌, ◌/◌, ◌++◌, if◌then◌else◌, ◌∷◌}
-use Rattle.lsp_replay.specs.Prelude.{ℕ, Bool, true, false, not, nat_le, List, [], Option, Some, None, codes, decimal, flat_map, AnswerData, reply, dropped, refused, exits, Sent, server_refusal_code, Note}
+use Rattle.lsp_replay.specs.Prelude.{ℕ, Bool, not, nat_le, List, [], Option, Some, None, codes, decimal, flat_map, AnswerData, reply, dropped, refused, exits, Sent, server_refusal_code, Note}
 use Rattle.lsp_replay.specs.Commands.{code_word}
 use Rattle.lsp_replay.specs.Notes.{note_kind}
 use Rattle.lsp_replay.specs.Session.{Verdict, answered, count_if, has_changed, is_refused}
@@ -23,14 +23,10 @@ pub record Counts : Type 0 where
 abbrev pub nothing_counted : Counts
 nothing_counted = record { changes = 0; drops = []; refusals = []; noted = [] }
 
--- Was a record dropped?
-abbrev pub is_dropped : Verdict → Bool
-is_dropped (answered dropped) = true
-is_dropped verdict = false
-
--- Its word then.
+-- The word of a record that was dropped.
 abbrev pub dropped_word : Verdict → Option (List ℕ)
-dropped_word verdict = if is_dropped verdict then Some (codes "dropped") else None
+dropped_word (answered dropped) = Some (codes "dropped")
+dropped_word verdict = None
 
 -- The code of an answer that counts as refused.
 abbrev pub answer_code : AnswerData Sent → List ℕ

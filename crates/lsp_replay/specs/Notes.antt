@@ -2,6 +2,7 @@
 -- These are ASCII, with no quotation mark and no backslash.
 use Rattle.std.specs.Prelude.{◌&&◌, ◌||◌, ◌==◌, ◌++◌, if◌then◌else◌, ◌∷◌}
 use Rattle.lsp_replay.specs.Prelude.{ℕ, ℤ, suc, Bool, true, false, not, nat_lt, int_le, length, map, slice_get, slice_range, sum_by, encode_utf8_all, List, [], Option, Some, None, option_and_then, option_map, Result, Ok, Err, codes, decimal, flat_map, signed_decimal, bytes_eq, chars, Data, units_in, Utf16, Utf32, Position, Range, ContentChange, Fault, meaning, ends_of, Side, Start, Stop, announced_of, IdData, reading, DocumentItem, ChangeData, Announced, is_save, lengths_of, notification_params, entry_at, greatest_batch, changed, ignored, IncomingData, did_open, did_change, other_notification, incoming_of, ServerData, content_change_from_data, session_encoding, one_more, Sender, Note}
+use Rattle.std.specs.List.{list_any}
 use Rattle.std.specs.Result.{result_ok}
 use Rattle.line_diff.specs.Lines.{ends_line}
 use Rattle.lsp_text.specs.Positions.{denoted, exact_position}
@@ -146,8 +147,7 @@ has_lone_return after (byte ∷ bytes) =
 
 -- Is there a line feed?
 abbrev pub has_feed : List ℕ → Bool
-has_feed [] = false
-has_feed (byte ∷ bytes) = byte == 10 || has_feed bytes
+has_feed bytes = list_any (λ byte. byte == 10) bytes
 
 -- The note of a text in which a carriage return ends a line by itself, and a line feed another.
 -- Some editors don't count the first as a line end.

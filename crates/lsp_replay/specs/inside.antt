@@ -11,10 +11,8 @@ pub mod Mentions
 pub mod Noting
 pub mod Openings
 pub mod Parts
-pub mod Progress
 pub mod Verdicts
 pub mod Engine
-pub mod AllRecords
 pub mod Run
 pub mod Reads
 pub mod RunOutput

@@ -68,26 +68,19 @@ impl Default for Settings {
 }
 
 impl Settings {
-    /// Returns the server of a log command.
-    fn config(&self) -> Config
-        ensures value { result ≡ log_config self.now }
-        ensures in_range { AreInRange self.now.limits }
-    {
-        // States that the limits are in their ranges.
-        let _ = self.limits.max_body();
-        Config {
-            limits: self.limits,
-            choice: EncodingChoice::Fixed(self.encoding),
-            sync: ChangeForm::Incremental,
-        }
-    }
-
     /// Starts a session over the server of a log command.
     fn session(&self, alloc: Global) -> Session
         ensures value { result ≡ opened (log_config self.now) }
         ensures in_range { AreInRange self.now.limits }
     {
-        Session::new(alloc, self.config())
+        // States that the limits are in their ranges.
+        let _ = self.limits.max_body();
+        let config = Config {
+            limits: self.limits,
+            choice: EncodingChoice::Fixed(self.encoding),
+            sync: ChangeForm::Incremental,
+        };
+        Session::new(alloc, config)
     }
 
     /// Starts `check` before the first record.

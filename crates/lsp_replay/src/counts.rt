@@ -2,7 +2,7 @@
 
 ghost use Rattle.std.specs.Prelude.{◌≡◌, IfOk, OnOk, option_map};
 ghost use Rattle.lsp_server.specs.Seen.{answer_view};
-ghost use Rattle.lsp_replay.specs.Counts.{answer_code, counted_code, counts_after, dropped_word, is_dropped, is_frequent, is_habit};
+ghost use Rattle.lsp_replay.specs.Counts.{answer_code, counted_code, counts_after, dropped_word, is_frequent, is_habit};
 ghost use Rattle.lsp_replay.specs.Counts.{nothing_counted, rare_notes, tallied_notes};
 ghost use Rattle.lsp_replay.specs.inside.Verdicts.{verdict_view};
 
@@ -140,17 +140,10 @@ fn is_frequent(changed: u64, count: u64) -> bool
 fn dropped_word(verdict: &Verdict) -> Option<&'static str>
     ensures { option_map (λ word. word.now) result ≡ dropped_word (verdict_view verdict.now) }
 {
-    if is_dropped(verdict) {
-        Some("dropped")
-    } else {
-        None
+    match verdict {
+        Verdict::Answered(Answer::Dropped) => Some("dropped"),
+        _ => None,
     }
-}
-
-fn is_dropped(verdict: &Verdict) -> bool
-    ensures { result ≡ is_dropped (verdict_view verdict.now) }
-{
-    matches!(verdict, Verdict::Answered(Answer::Dropped))
 }
 
 /// Returns the code of a record that counts as refused.

@@ -4,23 +4,19 @@
 //! With `flushes` all output is flushed before more is read. A record's head has its log's version,
 //! so an engine keeps none.
 
-ghost use Rattle.std.specs.Prelude.{◌≡◌, ◌≢◌, ◌&&◌, [], ℕ, List, Option, Err, not, true, OnOk, OnErr, IfOk, IfErr, MatchOption};
-ghost use Rattle.std.specs.Io.KnownBytes.{Appends};
+ghost use Rattle.std.specs.Prelude.{◌≡◌, ◌≢◌, ◌&&◌, [], ⊤, ℕ, Bool, List, length, Err, Ok, not, true, OnOk, IfOk, IfErr, MatchOption};
+ghost use Rattle.lsp_frame.specs.Faults.{place_after};
 ghost use Rattle.lsp_stream.specs.Ports.{ports};
-ghost use Rattle.lsp_stream.specs.Turns.{AppendsFront, AppendsShort, WritesFew, WritesWithin};
+ghost use Rattle.lsp_stream.specs.Turns.{WritesFew, WritesWithin};
 ghost use Rattle.lsp_stream.specs.inside.Turns.{LeavesFlushed};
-ghost use Rattle.lsp_log.specs.Log.{LogRules, Record};
 ghost use Rattle.lsp_log.specs.Splitting.{IsReady};
-ghost use Rattle.lsp_log.specs.laws.Logs.{VersionLaw, FirstLaw};
-ghost use Rattle.lsp_replay.specs.RunOutput.{RunOutput};
-ghost use Rattle.lsp_replay.specs.Engine.{WroteRecords};
-ghost use Rattle.lsp_replay.specs.inside.Engine.{IsLoopRun, IsPieceFault, Stopped, reading_by, AtEnd, Reached};
-ghost use Rattle.lsp_replay.specs.inside.Progress.{IsLastFault, IsEndFault, IsProgress};
+ghost use Rattle.lsp_replay.specs.Engine.{state_of};
+ghost use Rattle.lsp_replay.specs.inside.Engine.{IsAnswer, IsEndWritten, IsLoopRun, IsProgress, RunStart, reading_by};
 
 use crate::handler::Handler;
 use crate::outcome::Outcome;
 use lsp_frame::Limits;
-use lsp_log::{Splitter, Version, read_opening, reading_laws};
+use lsp_log::{Splitter, Version, read_opening};
 use lsp_stream::{Duplex, EngineFault, Sink, Source, Turns, read_piece, write_given};
 use std::alloc::Global;
 
@@ -63,29 +59,28 @@ fn take_piece<W: Sink, H: Handler>(
     requires { IsReady splitter.old }
     ensures ready { OnOk result (IsReady splitter.new) }
     ensures version { splitter.new.version ≡ splitter.old.version }
-    ensures progress { IfOk result
-        (λ end. (log_rules : LogRules) (run_output : List Record → RunOutput)
-        (received : Option (List ℕ)) (input : List ℕ) →
-        IsProgress log_rules run_output received input piece.now splitter.old
-        (H.run_output handler.old) (W.seen writer.old).written →
+    ensures progress { IfOk result (λ end. (start : RunStart) (input : List ℕ) →
+        IsProgress start input piece.now splitter.old (H.run_output handler.old)
+        (W.seen writer.old).written →
         MatchOption end
-        (IsProgress log_rules run_output received input [] splitter.new (H.run_output handler.new)
+        (IsProgress start input [] splitter.new (H.run_output handler.new)
         (W.seen writer.new).written)
-        (λ outcome. Stopped log_rules run_output input received (W.seen writer.new).written
-        (Ok outcome))) }
-    ensures error { IfErr result
-        (λ fault. (log_rules : LogRules) (run_output : List Record → RunOutput)
-        (received : Option (List ℕ)) (input : List ℕ) →
-        IsProgress log_rules run_output received input piece.now splitter.old
-        (H.run_output handler.old) (W.seen writer.old).written →
-        IsPieceFault log_rules run_output (flushes && not (W.seen writer.new).flushed) input
-        received (W.seen writer.new).written fault) }
+        (λ outcome. (ended_before ended unflushed : Bool) →
+        IsAnswer start (state_of ended_before ended unflushed) ⊤ input
+        (W.seen writer.new).written (Ok outcome))) }
+    ensures error { IfErr result (λ fault. (start : RunStart) (input : List ℕ) →
+        IsProgress start input piece.now splitter.old (H.run_output handler.old)
+        (W.seen writer.old).written →
+        (ended_before ended : Bool) →
+        IsAnswer start
+        (state_of ended_before ended (flushes && not (W.seen writer.new).flushed)) ⊤ input
+        (W.seen writer.new).written (Err fault)) }
+    ensures not_read { IfErr result (λ fault. fault ≢ EngineFault.Read) }
     ensures calls { WritesWithin turns.old.left turns.new.left
         (W.seen writer.old) (W.seen writer.new) result }
     ensures all_flushed { LeavesFlushed flushes (W.seen writer.old) (W.seen writer.new) result }
     ensures few { WritesFew (W.seen writer.old) (W.seen writer.new) result }
 {
-    reading_laws();
     let mut at = 0;
     'bytes: while at < piece.len() {
         at += splitter.feed(&piece[at..])?;
@@ -113,21 +108,10 @@ fn write_last<W: Sink, H: Handler>(
     flushes: bool,
     turns: &mut Turns,
 ) -> Result<Outcome, EngineFault>
-    ensures wrote { OnOk result
-        (Appends (W.seen writer.old).written (W.seen writer.new).written
-        ((H.run_output handler.old []).last line_due)) }
-    ensures outcome { IfOk result (λ outcome. outcome ≡ (H.run_output handler.old []).outcome) }
-    ensures front { OnErr result
-        (AppendsFront (W.seen writer.old).written (W.seen writer.new).written
-        ((H.run_output handler.old []).last line_due)) }
-    ensures short { IfErr result (λ fault. fault ≡ EngineFault.TooManyTurns →
-        AppendsShort (flushes && not (W.seen writer.new).flushed) (W.seen writer.old).written
-        (W.seen writer.new).written
-        ((H.run_output handler.old []).last line_due)) }
-    ensures kind { IfErr result IsLastFault }
     // Where the end has one part, none of it is written when memory runs out.
-    ensures whole { IfErr result (λ fault. fault ≡ EngineFault.NoMemory → H.parts handler.old ≡ 0 →
-        Appends (W.seen writer.old).written (W.seen writer.new).written []) }
+    ensures last { IsEndWritten (H.parts handler.old ≡ 0)
+        (flushes && not (W.seen writer.new).flushed) line_due (H.run_output handler.old [])
+        (W.seen writer.old).written (W.seen writer.new).written result }
     ensures calls { WritesWithin turns.old.left turns.new.left
         (W.seen writer.old) (W.seen writer.new) result }
     ensures all_flushed { LeavesFlushed flushes (W.seen writer.old) (W.seen writer.new) result }
@@ -156,32 +140,20 @@ fn finish_run<W: Sink, H: Handler>(
     turns: &mut Turns,
 ) -> Result<Outcome, EngineFault>
     requires { IsReady splitter.now }
-    ensures at_end { IfOk result
-        (λ outcome. (log_rules : LogRules) (run_output : List Record → RunOutput)
-        (received : Option (List ℕ)) (input : List ℕ) →
-        IsProgress log_rules run_output received input [] splitter.now (H.run_output handler.old)
+    ensures answer { (start : RunStart) (input : List ℕ) →
+        IsProgress start input [] splitter.now (H.run_output handler.old)
         (W.seen writer.old).written →
-        AtEnd log_rules run_output input received (W.seen writer.new).written outcome) }
-    ensures error { IfErr result
-        (λ fault. (log_rules : LogRules) (run_output : List Record → RunOutput)
-        (received : Option (List ℕ)) (input : List ℕ) →
-        IsProgress log_rules run_output received input [] splitter.now (H.run_output handler.old)
-        (W.seen writer.old).written →
-        IsEndFault log_rules run_output (flushes && not (W.seen writer.new).flushed) input
-        received (W.seen writer.new).written place fault) }
-    ensures whole { IfErr result (λ fault. fault ≡ EngineFault.NoMemory → H.parts handler.old ≡ 0 →
-        (log_rules : LogRules) (run_output : List Record → RunOutput)
-        (received : Option (List ℕ)) (input : List ℕ) →
-        IsProgress log_rules run_output received input [] splitter.now (H.run_output handler.old)
-        (W.seen writer.old).written →
-        Reached log_rules run_output input received (W.seen writer.new).written (λ _. Unit {0})) }
+        place ≡ place_after 0 (length input) →
+        (ended_before ended : Bool) → ended ≡ true →
+        IsAnswer start
+        (state_of ended_before ended (flushes && not (W.seen writer.new).flushed))
+        (H.parts handler.old ≡ 0) input (W.seen writer.new).written result }
     ensures not_read { IfErr result (λ fault. fault ≢ EngineFault.Read) }
     ensures calls { WritesWithin turns.old.left turns.new.left
         (W.seen writer.old) (W.seen writer.new) result }
     ensures all_flushed { LeavesFlushed flushes (W.seen writer.old) (W.seen writer.new) result }
     ensures few { WritesFew (W.seen writer.old) (W.seen writer.new) result }
 {
-    reading_laws();
     if !splitter.at_rest() {
         return Err(EngineFault::Truncated { place });
     }
@@ -199,25 +171,16 @@ pub fn run_on<R: Source, W: Sink, H: Handler>(
     flushes: bool,
     max_turns: u64,
 ) -> Result<Outcome, EngineFault>
-    ensures run { IsLoopRun (reading_by rules) (H.run_output handler.old) flushes max_turns
+    ensures run { IsLoopRun (reading_by rules) (H.run_output handler.old) flushes
+        ((h : H) → H.parts h ≡ 0) max_turns
         (ports (R.seen ends.old.reader.now) (W.seen ends.old.writer.now))
         (ports (R.seen ends.new.reader.now) (W.seen ends.new.writer.now)) result }
-    // Where the end has one part, what is written when memory runs out is the output of records,
-    // each whole.
-    ensures whole { ((h : H) → H.parts h ≡ 0) → result ≡ Err EngineFault.NoMemory →
-        WroteRecords (reading_by rules) (H.run_output handler.old)
-        (R.seen ends.old.reader.now).left (R.seen ends.new.reader.now).left
-        (W.seen ends.old.writer.now).written (W.seen ends.new.writer.now).written }
     // No read came before all that was written was flushed.
     ensures in_time { flushes ≡ true → (W.seen ends.old.writer.now).flushed ≡ true →
         ends.new.read_early ≡ ends.old.read_early }
     ensures same_reader { ends.new.reader.ghost_name ≡ ends.old.reader.ghost_name }
     ensures same_writer { ends.new.writer.ghost_name ≡ ends.old.writer.ghost_name }
-    // What its callers take from `lsp_log`.
-    ensures version { VersionLaw }
-    ensures first { FirstLaw }
 {
-    reading_laws();
     let mut turns = Turns::new(max_turns);
     let mut buf = [0u8; PIECE];
     let mut buffer = Vec::new(alloc);

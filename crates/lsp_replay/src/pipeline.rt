@@ -1,10 +1,8 @@
 //! From a record's bytes to a command's output: the body is read once, a record that doesn't stay
 //! is left out, and any other is printed.
 
-ghost use Rattle.std.specs.Prelude.{◌≡◌, ℕ, Err, IfOk, List, false, true};
+ghost use Rattle.std.specs.Prelude.{◌≡◌, ℕ, IfOk, List, false};
 ghost use Rattle.lsp_stream.specs.Ports.{ports};
-ghost use Rattle.lsp_log.specs.laws.Logs.{FirstLaw, VersionLaw};
-ghost use Rattle.lsp_replay.specs.Engine.{WroteRecords};
 ghost use Rattle.lsp_replay.specs.inside.Engine.{IsLoopRun, reading_by};
 ghost use Rattle.lsp_replay.specs.inside.Piped.{IsAdmitted, once_written, piped, piped_quiet, written_due};
 ghost use Rattle.lsp_replay.specs.inside.Reads.{IsReadOf};
@@ -114,19 +112,10 @@ pub fn run<R: Source, W: Sink, P: Printer + Drop>(
     max_turns: u64,
 ) -> Result<Outcome, EngineFault>
     ensures run { IsLoopRun (reading_by rules)
-        (piped selection (P.state printer).run_output (P.state printer).session) false max_turns
+        (piped selection (P.state printer).run_output (P.state printer).session) false
+        ((p : P) → P.parts p ≡ 0) max_turns
         (ports (R.seen reader.old) (W.seen writer.old))
         (ports (R.seen reader.new) (W.seen writer.new)) result }
-    // Where the end has one part, what is written when memory runs out is the output of records,
-    // each whole.
-    ensures whole { ((p : P) → P.parts p ≡ 0) → result ≡ Err EngineFault.NoMemory →
-        WroteRecords (reading_by rules)
-        (piped selection (P.state printer).run_output (P.state printer).session)
-        (R.seen reader.old).left (R.seen reader.new).left
-        (W.seen writer.old).written (W.seen writer.new).written }
-    // What its callers take from `lsp_log`.
-    ensures version { VersionLaw }
-    ensures first { FirstLaw }
 {
     let mut ends = Duplex::new(reader, writer);
     let mut pipeline = Pipeline::new(alloc, printer, selection);

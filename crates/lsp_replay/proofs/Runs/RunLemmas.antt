@@ -1,115 +1,257 @@
--- The faults, the turns and the calls of a run.
-use Rattle.lsp_replay.proofs.Prelude.{◌≡◌, ℕ, ◌≤◌, Bool, true, false, List, Option, Result, Ok, Err, refl, sym, ◌∙◌, ap, subst, arith, inl, inr, ◌⊎◌, ◌||◌, not, ◌≢◌, nat_eq, IfErr, OnOk, IsAtEnd, eqb-true, Outcome, EngineFault, Read, Write, TooManyTurns, LogRules, Record, RunOutput, Called, NonePassedOver, IsPieceFault, BothSpend, Rose, Spends, StaysWell, StaysFlushed, common_steps}
-use Rattle.lsp_replay.proofs.Runs.PieceLemmas.{ended_not}
+-- A run between two reads, and how it ends.
+use Rattle.lsp_replay.proofs.Prelude.{◌≡◌, ℕ, ◌+◌, ◌-◌, ◌<◌, ◌≤◌, ◌^◌, Bool, true, false, List, [], ◌∷◌, ◌++◌, length, take, drop, Option, Result, Ok, Err, refl, sym, ◌∙◌, ap, subst, arith, append_assoc, append-nil, inl, inr, ◌⊎◌, ◌||◌, min, nat_eq, length-append, length-take, drop-take, take-append-drop, Consumes, Appends, Keeps, Appends-nil, Consumes-trans, Consumes-kept, place_after, IsFrameOf, lines_bytes, Outcome, EngineFault, Read, TooManyTurns, BadLog, Version, One, Two, Splitter, Log, LogRules, Record, IsVersion, IsReadAs, IsUndecided, line_of, version_line, together, record_bytes, IsLineFront, IsBelowLine, IsUnfinished, IsReady, IsOpen, IsAfter, buffered_of, log_at, RunOutput, PortState, last_of, HasWritten, IsAnswer, RunStart, Ran, IsProgress, Runs, IsQuiet}
+use Rattle.lsp_frame.proofs.FrameLemmas.{or-true}
+use Rattle.lsp_replay.proofs.Runs.AnswerLemmas.{of_done, of_records, open_none}
+use Rattle.lsp_replay.proofs.Runs.ProgressLemmas.{unfinished, went_so_far}
 
--- Which calls were made when a fault came.
-pub called_fault : (reads_old reads_new writes_old writes_new allowed turns : ℕ) (read_failed write_failed ended : Bool)
-    (left : Option (List ℕ)) (fault : EngineFault) → BothSpend reads_old reads_new writes_old writes_new allowed turns
-    → (fault ≡ TooManyTurns → turns ≡ 0) → (fault ≡ Read → (read_failed ≡ true) × Rose reads_old reads_new)
-    → (fault ≡ Write → (write_failed ≡ true) × Rose writes_old writes_new)
-    → ((fault ≡ TooManyTurns → ⊥) → ended ≡ true → IsAtEnd left × Rose reads_old reads_new)
-    → Called reads_old reads_new writes_old writes_new allowed read_failed write_failed ended left (Err fault)
-called_fault reads_old reads_new writes_old writes_new allowed turns read_failed write_failed ended left fault spent
-    none read write at_end = grind (arith, common_steps)
+together_more : (version : Version) (rs : List Record) (rest more : List ℕ) → together version rs (rest ++ more)
+    ≡ together version rs rest ++ more
+together_more version [] rest more = refl
+together_more version (q ∷ rs) rest more = ap (λ z. record_bytes version q ++ z) (together_more version rs rest more)
+    ∙ sym (append_assoc (record_bytes version q) (together version rs rest) more)
 
-pub piece_not_read : (log_rules : LogRules) (run_output : List Record → RunOutput) (unflushed : Bool) (input : List ℕ)
-    (old new : Option (List ℕ)) (fault : EngineFault) → IsPieceFault log_rules run_output unflushed input old new fault
-    → fault ≡ Read → ⊥
-piece_not_read log_rules run_output unflushed input old new fault why is =
-    subst (IsPieceFault log_rules run_output unflushed input old new) is why
+pub ended_not : (ended : Bool) → ended ≡ false → ended ≡ true → ⊥
+ended_not ended a b = let two : false ≡ true = sym a ∙ b in cc
 
--- the calls of the writer
-pub both_writes : (reads_old reads_new writes_old writes_now writes_new allowed turns left : ℕ)
-    → BothSpend reads_old reads_new writes_old writes_now allowed turns → Spends writes_now writes_new turns left
-    → BothSpend reads_old reads_new writes_old writes_new allowed left
-both_writes reads_old reads_new writes_old writes_now writes_new allowed turns left both more = record {
-  within = omega (arith, both.within, more.within);
-  reads = both.reads;
-  writes = omega (arith, both.writes, more.least);
-  most = omega (arith, both.most, more.most);
-  exact = λ a b. omega (arith, a, b, both.exact, more.exact, more.least);
+pub not_at_end : (error ended : Bool) → (error ≡ true → ended ≡ true) → ended ≡ false → error ≡ false
+not_at_end true ended same other = absurd (ended_not ended other (same refl))
+not_at_end false ended same other = refl
+
+-- In the line of version 2 no byte is a return, so no frame begins with some first bytes of it.
+has_return : List ℕ → Bool
+has_return [] = false
+has_return (b ∷ bytes) = nat_eq b 13 || has_return bytes
+
+has_in : (xs ys : List ℕ) → has_return (xs ++ (13 ∷ ys)) ≡ true
+unfolding has_return
+has_in [] ys = refl
+has_in (x ∷ xs) ys = ap (λ b. nat_eq x 13 || b) (has_in xs ys) ∙ or-true (nat_eq x 13)
+
+line_has_none : has_return version_line ≡ false
+unfolding has_return
+line_has_none = refl
+
+regroup : (a b c d e : List ℕ) → (((a ++ b) ++ c) ++ d) ++ e ≡ a ++ (b ++ (c ++ (d ++ e)))
+regroup a b c d e = simp append_assoc
+
+no_frame_in_line : (max_body : ℕ) (bytes raw body more : List ℕ) → IsLineFront bytes → IsFrameOf max_body raw body
+    → bytes ≡ raw ++ more → ⊥
+no_frame_in_line max_body bytes raw body more front is_frame_of e =
+    let line : version_line ≡ bytes ++ drop (length bytes) version_line =
+    sym (take-append-drop (length bytes) version_line) ∙ ap (λ z. z ++ drop (length bytes) version_line)
+    (sym front.1) in
+    let frame : bytes ≡ ((lines_bytes is_frame_of.lines ++ (13 ∷ 10 ∷ [])) ++ body) ++ more =
+    e ∙ ap (λ z. z ++ more) is_frame_of.is in
+    let all : version_line ≡ lines_bytes is_frame_of.lines
+    ++ (13 ∷ (10 ∷ (body ++ (more ++ drop (length bytes) version_line)))) =
+    line ∙ ap (λ z. z ++ drop (length bytes) version_line) frame ∙ regroup (lines_bytes is_frame_of.lines)
+    (13 ∷ 10 ∷ []) body more (drop (length bytes) version_line) in
+    let two : false ≡ true = sym line_has_none ∙ ap has_return all ∙ has_in (lines_bytes is_frame_of.lines)
+    (10 ∷ (body ++ (more ++ drop (length bytes) version_line))) in
+    cc
+
+-- The input may still become the line, or it is nothing.
+unopened : (versions : Bool) (max_body : ℕ) (input : List ℕ) → IsLineFront input → (versions ≡ false → input ≡ [])
+    → IsUndecided max_body (record { version = One; records = []; rest = input })
+    ⊎ ((versions ≡ true) × IsLineFront input)
+unopened true max_body input front none = inr (refl, front)
+unopened false max_body input front none = inl (inl (none refl))
+
+-- ---- between two reads
+
+-- at the start
+pub runs_at_start : (start : RunStart) {left_now : Option (List ℕ)} {ended : Bool} (len place size : ℕ)
+    (buf : List ℕ) {s : Splitter} (version : Version) → len ≤ length buf → len < 2 ^ 64
+    → size ≡ length (line_of version) → place ≡ len → s.version ≡ version
+    → Consumes start.left left_now (take len buf)
+    → ((more : List ℕ) → (ended ≡ true → more ≡ [])
+    → IsVersion start.log_rules.versions version (take len buf ++ more))
+    → length (line_of version) ≤ len
+    → take len buf ≡ line_of version ++ drop (length (line_of version)) (take len buf)
+    → (start.log_rules.refuses_two ≡ true → version ≡ One)
+    → ((input more : List ℕ) → IsOpen start.log_rules input version more → IsAfter start.log_rules input more [] s)
+    → Runs start left_now ended place (take (len - size) (drop size buf)) s start.run_output start.received
+runs_at_start start len place size buf version within fits sized placed same read known short front accepted is_after =
+    let all : length (take len buf) ≡ len = omega (arith, length-take len buf) in
+    let sum : size + (len - size) ≡ len = omega (arith, sized, short) in
+    let piece : drop (length (line_of version)) (take len buf) ≡ take (len - size) (drop size buf) =
+    ap (λ n. drop n (take len buf)) (sym sized) ∙ ap (λ n. drop size (take n buf)) (sym sum)
+    ∙ drop-take size (len - size) buf in
+    let whole : IsVersion start.log_rules.versions version (take len buf) =
+    subst (λ (z : List ℕ). IsVersion start.log_rules.versions version z) (append-nil (take len buf))
+    (known [] (λ _. refl)) in
+    record {
+      input = take len buf;
+      read = read;
+      progress = record {
+        records = [];
+        is_after = is_after (take len buf) (take (len - size) (drop size buf)) (record {
+          known = whole;
+          accepted = accepted;
+          is = front ∙ ap (λ z. line_of version ++ z) piece;
+        });
+        out = [];
+        outputs = λ others. refl;
+        wrote = Appends-nil start.received;
+      };
+      placed = omega (arith, placed, all, fits);
+      sure = λ more last. subst (λ (v : Version). IsVersion start.log_rules.versions v (take len buf ++ more))
+          (sym same) (known more last);
+    }
+
+module _ {start : RunStart} {left_now : Option (List ℕ)} {ended : Bool} {place : ℕ} {piece : List ℕ} {s : Splitter}
+    {now : List Record → RunOutput} {received_now : Option (List ℕ)}
+    (r : Runs start left_now ended place piece s now received_now) where
+  -- a piece was taken
+  pub runs_on : {n : Splitter} {new : List Record → RunOutput} {received_new : Option (List ℕ)}
+      → n.version ≡ s.version → IsProgress start r.input [] n new received_new
+      → Runs start left_now ended place [] n new received_new
+  runs_on same taken = record {
+    input = r.input;
+    read = r.read;
+    progress = taken;
+    placed = r.placed;
+    sure = λ more last. subst (λ (v : Version). IsVersion start.log_rules.versions v (r.input ++ more)) (sym same)
+        (r.sure more last);
+  }
+
+  -- the run ended
+  pub ran_by : {state : PortState} {OnePart : Type 0} {received_new : Option (List ℕ)}
+      {result : Result Outcome EngineFault} → IsAnswer start state OnePart r.input received_new result
+      → Ran start state OnePart left_now received_new result
+  ran_by answer = record { input = r.input; read = r.read; came = inl answer }
+
+module _ {start : RunStart} {left_now : Option (List ℕ)} {ended : Bool} {place : ℕ} {s : Splitter}
+    {now : List Record → RunOutput} {received_now : Option (List ℕ)}
+    (r : Runs start left_now ended place [] s now received_now) where
+  -- more was read
+  pub runs_more : {left_new : Option (List ℕ)} {ended_new : Bool} {place_new : ℕ} (n : ℕ) {piece : List ℕ}
+      → ended ≡ false → length piece ≡ n → place_new ≡ min (place + n) (2 ^ 64 - 1)
+      → Consumes left_now left_new piece → Runs start left_new ended_new place_new piece s now received_now
+  runs_more {left_new} n {piece} open_still len placed read =
+      let w = r.progress in
+      let at = w.is_after in
+      let not_ended : (more : List ℕ) → ended ≡ true → more ≡ [] = λ more is. absurd (ended_not ended open_still is) in
+      let version : IsVersion start.log_rules.versions s.version (r.input ++ piece) = r.sure piece (not_ended piece) in
+      let sum : length (r.input ++ piece) ≡ length r.input + length piece = length-append r.input piece in
+      let before : buffered_of s ++ [] ≡ buffered_of s = append-nil (buffered_of s) in
+      record {
+        input = r.input ++ piece;
+        read = Consumes-trans start.left left_now left_new r.input piece r.read read;
+        progress = record {
+          records = w.records;
+          is_after = record {
+            reads = record {
+              version = version;
+              accepted = at.reads.accepted;
+              is = ap (λ z. z ++ piece) at.reads.is ∙ append_assoc (line_of s.version)
+                  (together s.version w.records (buffered_of s ++ [])) piece
+                  ∙ ap (λ z. line_of s.version ++ z)
+                  (sym (together_more s.version w.records (buffered_of s ++ []) piece)
+                  ∙ ap (λ z. together s.version w.records (z ++ piece)) before);
+              each = at.reads.each;
+            };
+            limit = at.limit;
+            placed = at.placed ∙ ap (place_after 0) (omega (
+              arith,
+              sum,
+              length-append (buffered_of s) piece,
+              ap length before,
+            ));
+            framed = at.framed ∙ ap (place_after 0) (omega (
+              arith,
+              sum,
+              length-append s.framer.buffered piece,
+              ap length (append-nil s.framer.buffered),
+            ));
+            part = at.part;
+            one = at.one;
+            side = at.side;
+            due = at.due;
+          };
+          out = w.out;
+          outputs = w.outputs;
+          wrote = w.wrote;
+        };
+        placed = omega (arith, placed, r.placed, sum, len);
+        sure = λ more last. subst (λ (z : List ℕ). IsVersion start.log_rules.versions s.version z)
+            (sym (append_assoc r.input piece more)) (r.sure (piece ++ more) (not_ended (piece ++ more)));
+      }
+
+-- ---- how a run ends before anything is read, or while more was to be
+
+-- no more could be read
+unread_by : (start : RunStart) (state : PortState) (OnePart : Type 0) (input : List ℕ)
+    (received_now : Option (List ℕ)) (log : Log) → IsReadAs start.log_rules input log
+    → IsUnfinished start.log_rules input log → HasWritten start log received_now → (fault : EngineFault)
+    → (fault ≡ Read) ⊎ (fault ≡ TooManyTurns) → (fault ≡ Read → state.ended ≡ false)
+    → (fault ≡ TooManyTurns → state.ended_before ≡ false → state.ended ≡ false)
+    → IsAnswer start state OnePart input received_now (Err fault)
+unread_by start state OnePart input received_now log reads rest done fault (inl is) failed not_ended =
+    subst (λ (f : EngineFault). IsAnswer start state OnePart input received_now (Err f)) (sym is)
+    (of_records start state OnePart input received_now log reads (Err Read) (λ _ _. done)
+    (open_none (last_of start.run_output log) state.ended log.rest (start.run_output log.records).stop (failed is)) done.1 (failed is, done.0, rest))
+unread_by start state OnePart input received_now log reads rest done fault (inr is) failed not_ended =
+    subst (λ (f : EngineFault). IsAnswer start state OnePart input received_now (Err f)) (sym is)
+    (of_done start state OnePart input received_now log reads (Err TooManyTurns) refl done
+    (inr (inr (not_ended is, refl, done.0, rest))))
+
+pub ran_unread : {start : RunStart} {left_now left_new : Option (List ℕ)} {ended : Bool} {state : PortState}
+    {OnePart : Type 0} {place : ℕ} {s : Splitter} {now : List Record → RunOutput} {received_now : Option (List ℕ)}
+    {fault : EngineFault} → Runs start left_now ended place [] s now received_now → IsReady s → IsQuiet now
+    → Keeps left_now left_new → (fault ≡ Read) ⊎ (fault ≡ TooManyTurns) → (fault ≡ Read → state.ended ≡ false)
+    → (fault ≡ TooManyTurns → state.ended_before ≡ false → state.ended ≡ false)
+    → Ran start state OnePart left_new received_now (Err fault)
+ran_unread {start} {left_now} {left_new} {state = state} {OnePart = OnePart} {s = s} {received_now = received_now}
+    {fault = fault} r ready quiet kept kind failed not_ended = record {
+      input = r.input;
+      read = Consumes-kept start.left left_now left_new r.input r.read kept;
+      came = inl (unread_by start state OnePart r.input received_now (log_at s r.progress.records [])
+          r.progress.is_after.reads (unfinished r.progress ready quiet)
+          (went_so_far r.progress received_now quiet (Appends-nil received_now)) fault kind failed not_ended);
+    }
+
+-- A log of version 2 was refused.
+pub ran_refused : (start : RunStart) {left_now : Option (List ℕ)} {state : PortState} {OnePart : Type 0}
+    {fault : EngineFault} (input : List ℕ) (version : Version)
+    → (fault ≡ BadLog 0) × (start.log_rules.refuses_two ≡ true) × (version ≡ Two) → Consumes start.left left_now input
+    → ((more : List ℕ) → more ≡ [] → IsVersion start.log_rules.versions version (input ++ more))
+    → Ran start state OnePart left_now start.received (Err fault)
+ran_refused start input version why read known = record {
+  input = input;
+  read = read;
+  came = inr (record {
+    refuses_two = why.1;
+    version = subst (λ (v : Version). IsVersion start.log_rules.versions v input) why.2
+        (subst (λ (z : List ℕ). IsVersion start.log_rules.versions version z) (append-nil input) (known [] refl));
+    answer = ap Err why.0;
+    wrote = Appends-nil start.received;
+  });
 }
 
--- and of the reader
-pub both_reads : (reads_old reads_now reads_new writes_old writes_new allowed turns left : ℕ)
-    → BothSpend reads_old reads_now writes_old writes_new allowed turns → Spends reads_now reads_new turns left
-    → BothSpend reads_old reads_new writes_old writes_new allowed left
-both_reads reads_old reads_now reads_new writes_old writes_new allowed turns left both more = record {
-  within = omega (arith, both.within, more.within);
-  reads = omega (arith, both.reads, more.least);
-  writes = both.writes;
-  most = omega (arith, both.most, more.most);
-  exact = λ a b. omega (arith, a, b, both.exact, more.exact, more.least);
+-- Some first bytes of the line are no log of version 2, and begin no frame.
+pub ran_unopened : (start : RunStart) {left_new : Option (List ℕ)} {state : PortState} {OnePart : Type 0}
+    {fault : EngineFault} → IsQuiet start.run_output → IsBelowLine start.log_rules.versions start.left left_new
+    → (fault ≡ Read) ⊎ (fault ≡ TooManyTurns) → (fault ≡ Read → state.ended ≡ false)
+    → (fault ≡ TooManyTurns → state.ended_before ≡ false → state.ended ≡ false)
+    → Ran start state OnePart left_new start.received (Err fault)
+ran_unopened start {state = state} {OnePart = OnePart} {fault = fault} quiet below kind failed not_ended = record {
+  input = below.0;
+  read = below.3;
+  came = inl (unread_by start state OnePart below.0 start.received
+      (record { version = One; records = []; rest = below.0 })
+      (record {
+        version = λ looks more e. omega (arith, ap length e, length-append version_line more, below.1.0);
+        accepted = λ _. refl;
+        is = refl;
+        each = tt;
+      })
+      (record {
+        none = λ side raw body more is_frame_of e. no_frame_in_line start.log_rules.max_body below.0 raw body more
+            below.1 is_frame_of e;
+        undecided = unopened start.log_rules.versions start.log_rules.max_body below.0 below.1 below.2;
+      }) (
+        quiet.unstopped,
+        subst (λ (z : List ℕ). Appends start.received start.received z) (sym quiet.silent) (Appends-nil start.received),
+      ) fault kind failed not_ended);
 }
-
-pub both_at_start : (reads_old reads_new writes allowed turns left : ℕ) → turns ≡ allowed
-    → Spends reads_old reads_new turns left → BothSpend reads_old reads_new writes writes allowed left
-both_at_start reads_old reads_new writes allowed turns left is spent = record {
-  within = omega (arith, spent.within);
-  reads = spent.least;
-  writes = omega arith;
-  most = omega (arith, spent.most);
-  exact = λ a b. omega (arith, a, spent.exact);
-}
-
-pub rose_more : (old now new : ℕ) → old ≤ now → Rose now new → Rose old new
-rose_more old now new more rose = λ room. omega (arith, rose room)
-
-pub read_not_write : (fault : EngineFault) → (fault ≡ Read) ⊎ (fault ≡ TooManyTurns) → fault ≡ Write → ⊥
-read_not_write fault (inl is) other = let two : Read ≡ Write = sym is ∙ other in cc
-read_not_write fault (inr is) other = let two : TooManyTurns ≡ Write = sym is ∙ other in cc
-
-pub read_not_ended : (fault : EngineFault) (ended : Bool) (A B : Type 0) → (fault ≡ Read) ⊎ (fault ≡ TooManyTurns)
-    → (fault ≡ Read → A × (ended ≡ false) × B) → (fault ≡ TooManyTurns → ⊥) → ended ≡ true → ⊥
-read_not_ended fault ended A B (inl is) failed other error = ended_not ended (failed is).1 error
-read_not_ended fault ended A B (inr is) failed other error = other is
-
--- a test of a number
-pub n_is_zero : (n : ℕ) → n ≡ 0 → nat_eq n 0 ≡ true
-n_is_zero n is = ap (λ k. nat_eq k 0) is
-
-pub zero_is : (n : ℕ) → nat_eq n 0 ≡ true → n ≡ 0
-zero_is n is = eqb-true n 0 is
-
--- No failure was passed over when a fault came.
-pub told_fault : (read_failed_old read_failed_new write_failed_old write_failed_new : Bool) (fault : EngineFault)
-    → (fault ≢ Read → StaysWell read_failed_old read_failed_new)
-    → (fault ≢ Write → StaysWell write_failed_old write_failed_new) → NonePassedOver read_failed_old read_failed_new
-    write_failed_old write_failed_new (Err fault)
-told_fault read_failed_old read_failed_new write_failed_old write_failed_new fault reads writes = record {
-  reads = λ other. reads (λ is. other (ap Err is));
-  writes = λ other. writes (λ is. other (ap Err is));
-}
-
--- The same of what a call answered.
-pub told_result : (read_failed_old read_failed_new write_failed_old write_failed_mid write_failed_new : Bool)
-    (r : Result Outcome EngineFault) → StaysWell read_failed_old read_failed_new
-    → StaysWell write_failed_old write_failed_mid → OnOk r (StaysWell write_failed_mid write_failed_new)
-    → IfErr r (λ fault. fault ≢ Write → StaysWell write_failed_mid write_failed_new)
-    → NonePassedOver read_failed_old read_failed_new write_failed_old write_failed_new r
-told_result read_failed_old read_failed_new write_failed_old write_failed_mid write_failed_new (Ok t) reads before ok
-    err = grind (arith, common_steps)
-told_result read_failed_old read_failed_new write_failed_old write_failed_mid write_failed_new (Err fault) reads before
-    ok err = grind (arith, common_steps)
-
--- Nothing was kept back when a fault came.
-pub passed_fault : {T : Type 0} (flushes old new : Bool) (fault : EngineFault)
-    → (flushes ≡ true → fault ≢ Write → fault ≢ TooManyTurns → StaysFlushed old new)
-    → flushes ≡ true → ◌≢◌ {A = Result T EngineFault} (Err fault) (Err Write)
-    → ◌≢◌ {A = Result T EngineFault} (Err fault) (Err TooManyTurns) → StaysFlushed old new
-passed_fault flushes old new fault passed holds not_write not_turns =
-    passed holds (λ is. not_write (ap Err is)) (λ is. not_turns (ap Err is))
-
--- Nor was anything by what a call answered.
-pub passed_result : {T : Type 0} (flushes old new : Bool) (r : Result T EngineFault)
-    → OnOk r (flushes ≡ true → StaysFlushed old new)
-    → IfErr r (λ fault. flushes ≡ true → fault ≢ Write → fault ≢ TooManyTurns → StaysFlushed old new)
-    → flushes ≡ true → r ≢ Err Write → r ≢ Err TooManyTurns → StaysFlushed old new
-passed_result flushes old new (Ok t) ok err holds not_write not_turns = ok holds
-passed_result flushes old new (Err fault) ok err holds not_write not_turns =
-    passed_fault flushes old new fault err holds not_write not_turns
-
--- A read after all was flushed notes nothing.
-pub in_time : (early flushed : Bool) → flushed ≡ true → (early || not flushed) ≡ early
-in_time false false is = sym is
-in_time _ _ is = refl

@@ -1,5 +1,8 @@
 -- What an engine wrote where it came to the end of a log.
-use Rattle.lsp_replay.proofs.Prelude.{◌≡◌, ◌≢◌, ℕ, Bool, true, false, List, [], ◌∷◌, ◌++◌, length, Option, Some, None, sym, subst, ◌∙◌, ⊎_elim, nat_lt, codes, ⊤, if◌then◌else◌, Result, Ok, Err, IfOk, Consumes, frame, AreInRange, Settings, Outcome, EngineFault, BodyTooLong, LogRules, Record, RunOutput, Session, Verdict, answered, recorded, bad, judge, opened, PortState, all_of, Ran, AtEnd, Stopped, RecordOutput, writes, ends, followed_by, unless_bad, normalising, written, canonical_of_record, front_of, canonical_output, converting, line_before, reply_record, as_log, as_converted, log_config, canonical_log, converted, report, run_output_in, IsCanonicalLog, IsConverted, IsSquashed, Wrote, normalised, normalised_if, squashed, squashed_steps}
+use Rattle.lsp_replay.proofs.Prelude.{◌≡◌, ◌≢◌, ℕ, Bool, true, false, List, [], ◌∷◌, ◌++◌, length, Option, Some, None, inl, inr, refl, sym, ap, subst, ◌∙◌, append-nil, nat_lt, codes, ⊤, if◌then◌else◌, Result, Ok, Err, IfOk, Appends, Consumes, frame, AreInRange, Settings, Outcome, EngineFault, BadLog, BodyTooLong, AllRecords, Log, LogRules, IsReadAs, Record, RunOutput, Session, Verdict, answered, recorded, bad, judge, opened, PortState, all_of, last_of, IsCause, IsObserved, RanOver, RecordOutput, writes, ends, followed_by, unless_bad, normalising, written, canonical_of_record, front_of, canonical_output, converting, line_before, reply_record, as_log, as_converted, log_config, canonical_log, converted, report, run_output_in, IsCanonicalLog, IsConverted, IsSquashed, Wrote, normalised, normalised_if, squashed, squashed_steps}
+use Rattle.lsp_frame.proofs.DecisionLemmas.{decision_law}
+use Rattle.lsp_log.proofs.AllRecordsLemmas.{all_records_law}
+use Rattle.lsp_replay.proofs.Runs.AnswerLemmas.{due_last}
 use Rattle.lsp_replay.proofs.Squash.SeriesLemmas.{squashed_is}
 use Rattle.lsp_replay.proofs.Squash.SquashedLemmas.{stops_alike}
 use Rattle.lsp_replay.proofs.Squash.SquashedLogLemmas.{squashed_law}
@@ -58,20 +61,54 @@ stops_not_ok _ outcome not_ok e = absurd (cc)
 
 -- ---- where no record ends the run well, an outcome is that of the end
 
+-- A run came to the end of a log: what it read, and that it wrote all of its output.
+pub record AtEnd (log_rules : LogRules) (g : List Record → RunOutput)
+    (left_old left_new received_old received_new : Option (List ℕ)) (outcome : Outcome) : Type 0 where
+  pub input : List ℕ
+  pub read : Consumes left_old left_new input
+  pub log : Log
+  pub reads : IsReadAs log_rules input log
+  pub whole : log.rest ≡ []
+  pub continues : (g log.records).stop ≡ None
+  pub reports : outcome ≡ (g log.records).outcome
+  pub wrote : Appends received_old received_new (all_of g log)
+
 module _ (log_rules : LogRules) (g : List Record → RunOutput) (never : (rs : List Record) → IsNotOk (g rs).stop)
-    (Q : Outcome → Type 0) (left_old left_new received_old received_new : Option (List ℕ))
-    (finish : (input : List ℕ) (outcome : Outcome) → AtEnd log_rules g input received_old received_new outcome
-    → Consumes left_old left_new input → Q outcome) where
-  pub at_the_end : (state : PortState) (result : Result Outcome EngineFault)
-      → Ran log_rules g state left_old left_new received_old received_new result → IfOk result Q
-  at_the_end state (Err fault) ran = tt
-  at_the_end state (Ok outcome) ran =
-      ⊎_elim
-      (λ (stopped : Stopped log_rules g ran.input received_old received_new (Ok outcome)).
-      absurd (stops_not_ok (g stopped.log.records).stop outcome (never stopped.log.records) stopped.stops))
-      (λ (end : (state.ended ≡ true) × AtEnd log_rules g ran.input received_old received_new outcome).
-      finish ran.input outcome end.1 ran.read)
-      ran.came
+    {state : PortState} {left_old left_new received_old received_new : Option (List ℕ)} where
+  ended : (outcome : Outcome)
+      (ran : RanOver log_rules g state left_old left_new received_old received_new (Ok outcome))
+      (all : AllRecords log_rules ran.input)
+      (seen : IsObserved log_rules state ran.input received_old received_new all.log (g all.log.records) (Ok outcome))
+      → IsCause log_rules state ran.input all.log (g all.log.records) seen.written seen.left (Ok outcome)
+      → AtEnd log_rules g left_old left_new received_old received_new outcome
+  ended outcome ran all seen (inl stops) =
+      absurd (stops_not_ok (g all.log.records).stop outcome (never all.log.records) stops)
+  ended outcome ran all seen (inr at) = record {
+    input = ran.input;
+    read = ran.read;
+    log = all.log;
+    reads = all.reads;
+    whole = at.1;
+    continues = at.2;
+    reports = at.3;
+    wrote = subst (λ (z : List ℕ). Appends received_old received_new z)
+        (sym (sym (ap (λ z. (g all.log.records).out ++ z) (due_last (last_of g all.log) state.ended all.log.rest
+        (g all.log.records).stop at.0 at.1 at.2)) ∙ seen.is ∙ ap (λ z. seen.written ++ z) (seen.whole refl)
+        ∙ append-nil seen.written)) seen.wrote;
+  }
+
+  pub at_the_end : (Q : Outcome → Type 0)
+      → ((outcome : Outcome) → AtEnd log_rules g left_old left_new received_old received_new outcome → Q outcome)
+      → (result : Result Outcome EngineFault)
+      → RanOver log_rules g state left_old left_new received_old received_new result → IfOk result Q
+  at_the_end Q finish (Err fault) ran = tt
+  at_the_end Q finish (Ok outcome) ran =
+      let all : AllRecords log_rules ran.input =
+      all_records_law decision_law log_rules ran.input
+      (λ refuses versions more e. let wrong : ◌≡◌ {A = Result Outcome EngineFault} (Ok outcome) (Err (BadLog 0)) =
+      (ran.refused refuses (versions, (more, e))).0 in cc) in
+      let seen = ran.reported all.log all.reads all.none in
+      finish outcome (ended outcome ran all seen seen.cause)
 
 -- ---- what the engines write
 
@@ -80,17 +117,18 @@ squashed_not_ok settings rs = subst IsNotOk (sym (stops_alike settings rs).0)
     (normal_not_ok (opened (log_config settings)) rs)
 
 module _ (settings : Settings) (ranges : AreInRange settings.limits)
-    (left_old left_new received_old received_new : Option (List ℕ)) where
-  wrote_by : (g : List Record → RunOutput) (Holds : List Record → List ℕ → Type 0) (input : List ℕ)
-      (outcome : Outcome) → (end : AtEnd (as_log settings) g input received_old received_new outcome)
-      → Consumes left_old left_new input → (g end.log.records).outcome ≡ (report settings end.log.records).outcome
+    {left_old left_new received_old received_new : Option (List ℕ)} where
+  wrote_by : (log_rules : LogRules) (g : List Record → RunOutput) (Holds : List Record → List ℕ → Type 0)
+      (outcome : Outcome) (end : AtEnd log_rules g left_old left_new received_old received_new outcome)
+      → IsReadAs (as_log settings) end.input end.log
+      → (g end.log.records).outcome ≡ (report settings end.log.records).outcome
       → Holds end.log.records (all_of g end.log)
       → Wrote settings Holds left_old left_new received_old received_new outcome
-  wrote_by g Holds input outcome end read same holds = record {
-    input = input;
-    read = read;
+  wrote_by log_rules g Holds outcome end reads same holds = record {
+    input = end.input;
+    read = end.read;
     log = end.log;
-    reads = end.reads;
+    reads = reads;
     whole = end.whole;
     reports = end.reports ∙ same;
     bytes = all_of g end.log;
@@ -98,60 +136,44 @@ module _ (settings : Settings) (ranges : AreInRange settings.limits)
     holds = holds;
   }
 
-  pub wrote_normal : (state : PortState) (result : Result Outcome EngineFault)
-      → Ran (as_log settings) (canonical_log settings) state left_old left_new received_old received_new result
+  pub wrote_normal : {state : PortState} (result : Result Outcome EngineFault)
+      → RanOver (as_log settings) (canonical_log settings) state left_old left_new received_old received_new result
       → IfOk result (Wrote settings (IsCanonicalLog settings) left_old left_new received_old received_new)
-  wrote_normal =
+  wrote_normal {state} =
       at_the_end (as_log settings) (canonical_log settings) (normal_not_ok (opened (log_config settings)))
-      (Wrote settings (IsCanonicalLog settings) left_old left_new received_old received_new) left_old left_new
-      received_old received_new
-      (λ input outcome end read.
+      (Wrote settings (IsCanonicalLog settings) left_old left_new received_old received_new)
+      (λ outcome end.
       let holds : IsCanonicalLog settings end.log.records (all_of (canonical_log settings) end.log) =
-      canonical_log_law settings ranges input end.log end.reads end.whole end.continues in
-      wrote_by (canonical_log settings) (IsCanonicalLog settings) input outcome end read holds.outcome holds)
+      canonical_log_law settings ranges end.input end.log end.reads end.whole end.continues in
+      wrote_by (as_log settings) (canonical_log settings) (IsCanonicalLog settings) outcome end end.reads holds.outcome
+      holds)
 
-  pub wrote_squashed : (state : PortState) (result : Result Outcome EngineFault)
-      → Ran (as_log settings) (squashed settings) state left_old left_new received_old received_new result
+  pub wrote_squashed : {state : PortState} (result : Result Outcome EngineFault)
+      → RanOver (as_log settings) (squashed settings) state left_old left_new received_old received_new result
       → IfOk result (Wrote settings (IsSquashed settings) left_old left_new received_old received_new)
-  wrote_squashed =
+  wrote_squashed {state} =
       at_the_end (as_log settings) (squashed settings) (squashed_not_ok settings)
-      (Wrote settings (IsSquashed settings) left_old left_new received_old received_new) left_old left_new
-      received_old received_new
-      (λ input outcome end read.
+      (Wrote settings (IsSquashed settings) left_old left_new received_old received_new)
+      (λ outcome end.
       let holds : IsSquashed settings end.log.records (all_of (squashed settings) end.log) =
-      squashed_law settings ranges input end.log end.reads end.whole end.continues in
-      wrote_by (squashed settings) (IsSquashed settings) input outcome end read holds.outcome holds)
+      squashed_law settings ranges end.input end.log end.reads end.whole end.continues in
+      wrote_by (as_log settings) (squashed settings) (IsSquashed settings) outcome end end.reads holds.outcome holds)
 
-  converted_at_end : (input : List ℕ) (outcome : Outcome) → AtEnd (as_converted settings) (converted settings) input
-      received_old received_new outcome → Consumes left_old left_new input
-      → Wrote settings (IsConverted settings) left_old left_new received_old received_new outcome
-  converted_at_end input outcome end read =
-      let holds : IsConverted settings end.log.records (all_of (converted settings) end.log) =
-      converted_law settings ranges input end.log end.reads end.whole end.continues in
-      record {
-        input = input;
-        read = read;
-        log = end.log;
-        reads = record {
-          version = end.reads.version;
-          accepted = λ e. absurd (let wrong : false ≡ true = e in cc);
-          is = end.reads.is;
-          each = end.reads.each;
-        };
-        whole = end.whole;
-        reports = end.reports ∙ holds.outcome;
-        bytes = all_of (converted settings) end.log;
-        wrote = end.wrote;
-        holds = holds;
-      }
-
-  pub wrote_converted : (state : PortState) (result : Result Outcome EngineFault)
-      → Ran (as_converted settings) (converted settings) state left_old left_new received_old received_new result
+  pub wrote_converted : {state : PortState} (result : Result Outcome EngineFault)
+      → RanOver (as_converted settings) (converted settings) state left_old left_new received_old received_new result
       → IfOk result (Wrote settings (IsConverted settings) left_old left_new received_old received_new)
-  wrote_converted =
+  wrote_converted {state} =
       at_the_end (as_converted settings) (converted settings) (converted_not_ok (opened (log_config settings)))
-      (Wrote settings (IsConverted settings) left_old left_new received_old received_new) left_old left_new
-      received_old received_new converted_at_end
+      (Wrote settings (IsConverted settings) left_old left_new received_old received_new)
+      (λ outcome end.
+      let holds : IsConverted settings end.log.records (all_of (converted settings) end.log) =
+      converted_law settings ranges end.input end.log end.reads end.whole end.continues in
+      wrote_by (as_converted settings) (converted settings) (IsConverted settings) outcome end (record {
+        version = end.reads.version;
+        accepted = λ e. absurd (let wrong : false ≡ true = e in cc);
+        is = end.reads.is;
+        each = end.reads.each;
+      }) holds.outcome holds)
 
 -- ---- `normalise` with its settings, by what the code makes
 

@@ -1,5 +1,5 @@
 -- What `normalise` writes of the records that stay: a log of which `replay` reports the same.
-use Rattle.lsp_replay.proofs.Prelude.{◌≡◌, ℕ, Bool, true, false, ◌||◌, List, [], ◌++◌, length, Option, None, refl, sym, ap, ◌∙◌, subst, Result, IfOk, Consumes, AreInRange, EngineFault, Version, Record, Log, IsReadAs, AreRecords, is_line_due, line_of, together, Settings, Outcome, Kept, KeepsDocuments, WroteDocuments, documents, kept_records, nothing_selected, PortState, all_of, AtEnd, Ran, as_log, canonical_log, log_config, report, IsCanonicalLog, IsSquashed, LeavesAlike, RunOutput, Session, opened, normalised_if, squashed, squashed_steps}
+use Rattle.lsp_replay.proofs.Prelude.{◌≡◌, ℕ, Bool, true, false, ◌||◌, List, [], ◌++◌, length, Option, None, refl, sym, ap, ◌∙◌, subst, Result, IfOk, Consumes, AreInRange, EngineFault, Version, Record, Log, IsReadAs, AreRecords, is_line_due, line_of, together, Settings, Outcome, Kept, KeepsDocuments, WroteDocuments, documents, kept_records, nothing_selected, PortState, all_of, as_log, canonical_log, log_config, report, IsCanonicalLog, IsSquashed, LeavesAlike, RunOutput, Session, opened, normalised_if, squashed, squashed_steps, RanOver}
 use Rattle.lsp_replay.specs.laws.Documents.{DocumentsLaw, DocumentsStopAlike}
 use Rattle.lsp_replay.proofs.Stay.KeptLogLemmas.{are_kept, each_located, kept_due, kept_stop, line_left, located_all, located_left, reported, squash_located}
 use Rattle.lsp_replay.proofs.Canonical.NormalisedLemmas.{canonical_log_law, version_is}
@@ -144,28 +144,22 @@ documents_not_ok : (settings : Settings) (rs : List Record) → IsNotOk (documen
 documents_not_ok settings rs =
     subst IsNotOk (sym (documents_stop settings rs)) (normal_not_ok (opened (log_config settings)) rs)
 
-module _ (settings : Settings) (ranges : AreInRange settings.limits)
-    (left_old left_new received_old received_new : Option (List ℕ)) where
-  documents_at_end : (input : List ℕ) (outcome : Outcome) → AtEnd (as_log settings) (documents settings) input
-      received_old received_new outcome → Consumes left_old left_new input
-      → WroteDocuments settings left_old left_new received_old received_new outcome
-  documents_at_end input outcome end read = record {
-    input = input;
-    read = read;
-    log = end.log;
-    reads = end.reads;
-    whole = end.whole;
-    bytes = all_of (documents settings) end.log;
-    wrote = end.wrote;
-    keeps = subst (λ (o : Outcome). KeepsDocuments settings end.log.records o (all_of (documents settings) end.log))
-        (sym end.reports)
-        (documents_law settings ranges input end.log end.reads end.whole end.continues);
-  }
-
-  pub wrote_documents : (state : PortState) (result : Result Outcome EngineFault)
-      → Ran (as_log settings) (documents settings) state left_old left_new received_old received_new result
-      → IfOk result (WroteDocuments settings left_old left_new received_old received_new)
-  wrote_documents =
-      at_the_end (as_log settings) (documents settings) (documents_not_ok settings)
-      (WroteDocuments settings left_old left_new received_old received_new) left_old left_new received_old received_new
-      documents_at_end
+pub wrote_documents : (settings : Settings) (ranges : AreInRange settings.limits) {state : PortState}
+    {left_old left_new received_old received_new : Option (List ℕ)} (result : Result Outcome EngineFault)
+    → RanOver (as_log settings) (documents settings) state left_old left_new received_old received_new result
+    → IfOk result (WroteDocuments settings left_old left_new received_old received_new)
+wrote_documents settings ranges {state} {left_old} {left_new} {received_old} {received_new} =
+    at_the_end (as_log settings) (documents settings) (documents_not_ok settings)
+    (WroteDocuments settings left_old left_new received_old received_new)
+    (λ outcome end. record {
+      input = end.input;
+      read = end.read;
+      log = end.log;
+      reads = end.reads;
+      whole = end.whole;
+      bytes = all_of (documents settings) end.log;
+      wrote = end.wrote;
+      keeps = subst (λ (o : Outcome). KeepsDocuments settings end.log.records o (all_of (documents settings) end.log))
+          (sym end.reports)
+          (documents_law settings ranges end.input end.log end.reads end.whole end.continues);
+    })

@@ -1,8 +1,8 @@
 -- What a command writes of the records that stay, a record at a time, and over all records.
-use Rattle.lsp_replay.proofs.Prelude.{◌≡◌, ◌⊎◌, inl, inr, ℕ, Bool, true, false, List, [], ◌∷◌, ◌++◌, Option, Some, None, refl, sym, ap, ◌∙◌, cond, kept_first, Result, Ok, Err, IfErr, IfOk, OnOk, Outcome, EngineFault, NoMemory, Ports, Head, LogRules, Record, FirstLaw, VersionLaw, Kept, Selection, after_kept, after_left_out, kept_in, output_of_kept, record_stays, with_due, with_line, View, followed_by, output_in, IsEngineRun, RunOutput, stopped, written_first, Session, judge, IsLoopRun, IsAdmitted, piped, IsRecordFault, after}
+use Rattle.lsp_replay.proofs.Prelude.{◌≡◌, ◌⊎◌, inl, inr, ℕ, Bool, true, false, List, [], ◌∷◌, ◌++◌, Option, Some, None, refl, sym, ap, ◌∙◌, cond, kept_first, Result, Ok, Err, IfErr, IfOk, OnOk, Outcome, EngineFault, NoMemory, Ports, Head, LogRules, Record, Kept, Selection, after_kept, after_left_out, kept_in, output_of_kept, record_stays, with_due, with_line, View, followed_by, output_in, IsEngineRun, RunOutput, stopped, written_first, Session, judge, IsLoopRun, IsAdmitted, piped, IsRecordFault, after}
 use Rattle.lsp_replay.specs.inside.Reads.{IsKept}
 use Rattle.lsp_replay.proofs.Stay.KeptLogLemmas.{kept_false, kept_true}
-use Rattle.lsp_replay.proofs.Runs.RunReportLemmas.{Grows, GrowsAll, NoneCut, Settles, grows, run_of, run_of_course, settled}
+use Rattle.lsp_replay.proofs.Runs.RunReportLemmas.{Grows, GrowsAll, Settles, grows, run_of, run_of_course, settled}
 
 -- ---- what was read of a record decides whether it stays
 
@@ -186,18 +186,18 @@ module _ (s : Session) (c : Selection) (g : List Record → RunOutput) where
       let rest = grows_all (kept_in s c rs).records longer.0 in
       (rest.0, ap (λ (xs : List Record). (g xs).out) longer.1 ∙ rest.1)
 
-pub run_of_piped : {State : Type 0} → FirstLaw → VersionLaw → (view : View State) (state : State) (s : Session)
-    (c : Option Selection) (in_parts : Bool) {log_rules : LogRules} {flushes : Bool} {max_turns : ℕ}
-    {before after : Ports} {result : Result Outcome EngineFault}
-    → IsLoopRun log_rules (piped c (output_in view state s) s) flushes max_turns before after result
-    → NoneCut in_parts log_rules (piped c (output_in view state s) s) before after result → IsEngineRun (record {
+pub run_of_piped : {State : Type 0} (view : View State) (state : State) (s : Session) (c : Option Selection)
+    (in_parts : Bool) {log_rules : LogRules} {flushes : Bool} {OnePart : Type 0} {max_turns : ℕ}
+    {before after : Ports} {result : Result Outcome EngineFault} → (in_parts ≡ false → OnePart)
+    → IsLoopRun log_rules (piped c (output_in view state s) s) flushes OnePart max_turns before after result
+    → IsEngineRun (record {
       log_rules = log_rules;
       run_output = piped c (output_in view state s) s;
       flushes = flushes;
       in_parts = in_parts;
     }) max_turns before after result
-run_of_piped first version view state s None in_parts run whole = run_of first version view state s in_parts run whole
-run_of_piped first version view state s (Some c) in_parts run whole =
-    run_of_course first version (piped (Some c) (output_in view state s) s)
+run_of_piped view state s None in_parts one run = run_of view state s in_parts one run
+run_of_piped view state s (Some c) in_parts one run =
+    run_of_course (piped (Some c) (output_in view state s) s)
     (kept_settles s c (output_in view state s) (settled view state s) (even view state s))
-    (kept_grows s c (output_in view state s) (grows view state s)) in_parts run whole
+    (kept_grows s c (output_in view state s) (grows view state s)) in_parts one run

@@ -1,6 +1,6 @@
 -- What only proofs and private contracts use of `RunOutput`.
 use Rattle.std.specs.Prelude.{◌≡◌, ◌⊎◌, ◌<◌, ◌++◌, ◌∷◌, MatchOption}
-use Rattle.lsp_replay.specs.Prelude.{ℕ, Bool, false, List, [], drop, Option, Some, None, Ok, Err, Record, Outcome, EngineFault, Read, Write, Frame, Truncated, BodyTooLong, NoMemory, TooManyTurns, BadLog}
+use Rattle.lsp_replay.specs.Prelude.{ℕ, Bool, false, List, [], drop, Option, Some, None, Ok, Err, Record, Outcome, EngineFault, BodyTooLong, NoMemory, BadLog}
 use Rattle.lsp_replay.specs.declared.handler.Given.{Given}
 use Rattle.lsp_replay.specs.declared.handler.Output.{Output}
 use Rattle.lsp_replay.specs.declared.handler.Output.TheVariants as output
@@ -26,14 +26,9 @@ output_of (output.BytesFrom start) raw buffer = drop start buffer
 
 -- The faults with which a record can end a run: a body too long, a bad log.
 abbrev pub IsRecordFault : EngineFault → Type 0
-IsRecordFault Read = ⊥
-IsRecordFault Write = ⊥
-IsRecordFault (Frame fault) = ⊥
-IsRecordFault (Truncated place) = ⊥
 IsRecordFault (BodyTooLong place) = Unit {0}
-IsRecordFault NoMemory = ⊥
-IsRecordFault TooManyTurns = ⊥
 IsRecordFault (BadLog place) = Unit {0}
+IsRecordFault other = ⊥
 
 -- ---- what is given for a record and for the end, by the outputs of a run before it and after it
 

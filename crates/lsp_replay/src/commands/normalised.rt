@@ -7,7 +7,7 @@ ghost use Rattle.lsp_stream.specs.Ports.{ports};
 ghost use Rattle.lsp_replay.specs.Documents.{WritesDocuments, documents_engine};
 ghost use Rattle.lsp_replay.specs.laws.Written.{IsCanonicalLog, IsSquashed};
 ghost use Rattle.lsp_replay.specs.Run.{IsEngineRun, WritesLog, normalise_engine};
-ghost use Rattle.lsp_replay.specs.inside.Run.{IsRanOf, selected_engine};
+ghost use Rattle.lsp_replay.specs.inside.Run.{selected_engine};
 
 use crate::commands::Settings;
 use crate::outcome::Outcome;
@@ -100,9 +100,6 @@ fn normalise_selected<R: Source, W: Sink>(
     max_turns: u64,
 ) -> Result<Outcome, EngineFault>
     ensures run { IsEngineRun (selected_engine selection settings) max_turns
-        (ports (R.seen reader.old) (W.seen writer.old))
-        (ports (R.seen reader.new) (W.seen writer.new)) result }
-    ensures ran { IsRanOf (selected_engine selection settings)
         (ports (R.seen reader.old) (W.seen writer.old))
         (ports (R.seen reader.new) (W.seen writer.new)) result }
     ensures in_range { AreInRange settings.limits }

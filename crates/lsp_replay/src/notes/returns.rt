@@ -24,12 +24,5 @@ pub fn has_lone_return(bytes: &[u8]) -> bool
 pub fn has_feed(bytes: &[u8]) -> bool
     ensures { result ≡ has_feed bytes.now }
 {
-    let mut next = 0;
-    'bytes: while next < bytes.len() {
-        if bytes[next] == b'\n' {
-            return true;
-        }
-        next += 1;
-    }
-    false
+    bytes.contains(&b'\n')
 }

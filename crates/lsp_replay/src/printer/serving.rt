@@ -31,13 +31,6 @@ impl Serve {
         }
     }
 
-    /// Returns the outcome of an input that ends without `exit`.
-    fn without_exit(&self) -> Outcome
-        ensures { result ≡ record (session_outcome self.now.session) { status = 1 } }
-    {
-        self.outcome(1)
-    }
-
     /// Returns the outcome with which a record ends the run, if it does: `exit` does, with its
     /// status.
     fn end(&self, verdict: &Verdict) -> Option<Outcome>
@@ -82,6 +75,6 @@ impl Printer for Serve {
     }
 
     fn finish(&mut self, _line_due: bool, _buffer: &mut Vec<u8>) -> Finished {
-        Ok(Some(self.without_exit()))
+        Ok(Some(self.outcome(1)))
     }
 }

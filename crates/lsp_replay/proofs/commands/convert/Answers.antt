@@ -5,10 +5,9 @@ use Rattle.lsp_replay.proofs.commands.convert.Goals as goal
 
 pub returns : goal.returns
 returns g c =
-    let run = rw (c.rules-rules.ensures, c.session.ensures.value) at c.run.ensures.run in
-    let whole = rw (c.rules-rules.ensures, c.session.ensures.value) at c.run.ensures.whole in
+    let run = run_of converting tt (opened (log_config c.args.settings)) false (λ _ _. refl)
+    (rw (c.rules-rules.ensures, c.session.ensures.value) at c.run.ensures.run) in
     record {
-      run = run_of c.run.ensures.first c.run.ensures.version converting tt
-          (opened (log_config c.args.settings)) false run (λ _. whole (λ _. refl));
-      converted = wrote_converted c.args.settings c.session.ensures.in_range _ _ _ _ _ c.run.result run.ran;
+      run = run;
+      converted = wrote_converted c.args.settings c.session.ensures.in_range c.run.result run.all_records;
     }

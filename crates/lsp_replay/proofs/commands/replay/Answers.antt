@@ -3,9 +3,8 @@ use Rattle.lsp_replay.proofs.Runs.RunReportLemmas.{run_of}
 use Rattle.lsp_replay.proofs.commands.replay.Goals as goal
 
 pub returns : goal.returns
-returns g c =
-    let run = rw (c.rules-rules.ensures, c.session.ensures.value) at c.run.ensures.run in
-    record {
-      run = run_of c.run.ensures.first c.run.ensures.version replaying tt
-          (opened (log_config c.args.settings)) true run (λ never. absurd (let wrong : true ≡ false = never in cc));
-    }
+returns g c = record {
+  run = run_of replaying tt (opened (log_config c.args.settings)) true
+      (λ never. absurd (let wrong : true ≡ false = never in cc))
+      (rw (c.rules-rules.ensures, c.session.ensures.value) at c.run.ensures.run);
+}

@@ -4,9 +4,5 @@ use Rattle.lsp_replay.proofs.commands.serve_on.Goals as goal
 
 pub returns-clause-run : goal.returns-clause-run
 returns-clause-run g c =
-    let run = rw (c.new-pipeline.ensures.selection, c.new-pipeline.ensures.printer, c.new.ensures) at
-    c.run_on.ensures.run in
-    let whole = rw (c.new-pipeline.ensures.selection, c.new-pipeline.ensures.printer, c.new.ensures) at
-    c.run_on.ensures.whole in
-    run_of c.run_on.ensures.first c.run_on.ensures.version serving tt (opened c.args.config) false run
-    (λ _. whole (λ _. refl))
+    run_of serving tt (opened c.args.config) false (λ _ _. refl)
+    (rw (c.new-pipeline.ensures.selection, c.new-pipeline.ensures.printer, c.new.ensures) at c.run_on.ensures.run)

@@ -1,4 +1,4 @@
-use Rattle.lsp_replay.proofs.Prelude.{ℕ, ◌≡◌, ◌≤◌, ◌-◌, true, List, Option, length, drop, FewWrites, Spends, StaysWell, StaysFlushed, LogRules, Record, IsReady, RunOutput, IsProgress}
+use Rattle.lsp_replay.proofs.Prelude.{ℕ, ◌≡◌, ◌≤◌, ◌-◌, true, List, length, drop, FewWrites, Spends, StaysWell, StaysFlushed, IsReady, IsProgress, RunStart}
 use Rattle.lsp_replay.proofs.engine.take_piece.Given as goal
 
 abbrev pub invariant-bytes : goal.invariant-bytes
@@ -6,10 +6,10 @@ invariant-bytes g l = record {
   within : l.at ≤ length l.piece;
   ready : IsReady l.splitter;
   version : l.splitter.version ≡ l.fn.splitter.version;
-  progress : (log_rules : LogRules) (run_output : List Record → RunOutput) (received : Option (List ℕ)) (input : List ℕ)
-      → IsProgress log_rules run_output received input l.piece l.fn.splitter (g.H.Handler.run_output l.fn.handler)
-      (g.W.Sink.seen l.fn.writer).written →
-      IsProgress log_rules run_output received input (drop l.at l.piece) l.splitter (g.H.Handler.run_output l.handler)
+  progress : (start : RunStart) (input : List ℕ)
+      → IsProgress start input l.piece l.fn.splitter (g.H.Handler.run_output l.fn.handler)
+      (g.W.Sink.seen l.fn.writer).written
+      → IsProgress start input (drop l.at l.piece) l.splitter (g.H.Handler.run_output l.handler)
       (g.W.Sink.seen l.writer).written;
   well : StaysWell (g.W.Sink.seen l.fn.writer).failed (g.W.Sink.seen l.writer).failed;
   flushed : l.flushes ≡ true → StaysFlushed (g.W.Sink.seen l.fn.writer).flushed

@@ -5,9 +5,8 @@ abbrev pub invariant-parts : goal.invariant-parts
 invariant-parts g l = record {
   wrote : (out : List ℕ) × ((g.H.Handler.run_output l.fn.handler []).last l.fn.line_due
       ≡ out ++ (g.H.Handler.run_output l.handler []).last l.due) × Appends (g.W.Sink.seen l.fn.writer).written
-      (g.W.Sink.seen l.writer).written out;
-  first : g.H.Handler.parts l.fn.handler ≡ 0 → (g.H.Handler.parts l.handler ≡ 0)
-      × Appends (g.W.Sink.seen l.fn.writer).written (g.W.Sink.seen l.writer).written [];
+      (g.W.Sink.seen l.writer).written out
+      × (g.H.Handler.parts l.fn.handler ≡ 0 → (g.H.Handler.parts l.handler ≡ 0) × (out ≡ []));
   outcome : (g.H.Handler.run_output l.handler []).outcome ≡ (g.H.Handler.run_output l.fn.handler []).outcome;
   well : StaysWell (g.W.Sink.seen l.fn.writer).failed (g.W.Sink.seen l.writer).failed;
   flushed : l.flushes ≡ true → StaysFlushed (g.W.Sink.seen l.fn.writer).flushed

@@ -3,10 +3,7 @@ use Rattle.lsp_replay.proofs.Runs.RunReportLemmas.{run_of}
 use Rattle.lsp_replay.proofs.commands.compared.compare.Goals as goal
 
 pub returns : goal.returns
-returns g c =
-    let run = rw (c.rules-rules.ensures, c.session.ensures.value) at c.run.ensures.run in
-    let whole = rw (c.rules-rules.ensures, c.session.ensures.value) at c.run.ensures.whole in
-    record {
-      run = run_of c.run.ensures.first c.run.ensures.version comparing c.args.comparison
-          (opened (log_config c.args.settings)) false run (λ _. whole (λ _. refl));
-    }
+returns g c = record {
+  run = run_of comparing c.args.comparison (opened (log_config c.args.settings)) false (λ _ _. refl)
+      (rw (c.rules-rules.ensures, c.session.ensures.value) at c.run.ensures.run);
+}

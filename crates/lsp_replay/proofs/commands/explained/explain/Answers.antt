@@ -3,20 +3,12 @@ use Rattle.lsp_replay.proofs.Runs.RunReportLemmas.{run_of}
 use Rattle.lsp_replay.proofs.commands.explained.explain.Goals as goal
 
 pub returns : goal.returns
-returns g c =
-    let run = rw (
-      c.rules-rules.ensures,
-      c.explaining-explain.ensures.session,
-      c.explaining-explain.ensures.known,
-      c.explaining-explain.ensures.listing,
-    ) at c.run.ensures.run in
-    let whole = rw (
-      c.rules-rules.ensures,
-      c.explaining-explain.ensures.session,
-      c.explaining-explain.ensures.known,
-      c.explaining-explain.ensures.listing,
-    ) at c.run.ensures.whole in
-    record {
-      run = run_of c.run.ensures.first c.run.ensures.version (lines (explaining c.args.listing)) nothing_known
-          (opened (log_config c.args.settings)) false run (λ _. whole (λ _. refl));
-    }
+returns g c = record {
+  run = run_of (lines (explaining c.args.listing)) nothing_known (opened (log_config c.args.settings)) false (λ _ _. refl)
+      (rw (
+        c.rules-rules.ensures,
+        c.explaining-explain.ensures.session,
+        c.explaining-explain.ensures.known,
+        c.explaining-explain.ensures.listing,
+      ) at c.run.ensures.run);
+}

@@ -4,21 +4,12 @@ use Rattle.lsp_replay.proofs.commands.live.explain_live.Goals as goal
 
 pub returns-clause-run : goal.returns-clause-run
 returns-clause-run g c =
-    let run = rw (
+    run_of (lines (explaining c.args.listing)) nothing_known (opened (log_config c.args.settings)) false (λ _ _. refl)
+    (rw (
       c.new-pipeline.ensures.selection,
       c.new-pipeline.ensures.printer,
       c.rules-rules.ensures,
       c.explaining-explain.ensures.session,
       c.explaining-explain.ensures.known,
       c.explaining-explain.ensures.listing,
-    ) at c.run_on.ensures.run in
-    let whole = rw (
-      c.new-pipeline.ensures.selection,
-      c.new-pipeline.ensures.printer,
-      c.rules-rules.ensures,
-      c.explaining-explain.ensures.session,
-      c.explaining-explain.ensures.known,
-      c.explaining-explain.ensures.listing,
-    ) at c.run_on.ensures.whole in
-    run_of c.run_on.ensures.first c.run_on.ensures.version (lines (explaining c.args.listing)) nothing_known
-    (opened (log_config c.args.settings)) false run (λ _. whole (λ _. refl))
+    ) at c.run_on.ensures.run)

@@ -4,9 +4,8 @@ use Rattle.lsp_replay.proofs.commands.normalised.normalise_documents.Goals as go
 pub returns : goal.returns
 returns g c =
     let run = rw c.new.ensures at c.normalise_selected.ensures.run in
-    let ran = rw c.new.ensures at c.normalise_selected.ensures.ran in
     record {
       run = run;
-      documents = wrote_documents c.args.settings c.normalise_selected.ensures.in_range _ _ _ _ _
-          c.normalise_selected.result ran;
+      documents = wrote_documents c.args.settings c.normalise_selected.ensures.in_range c.normalise_selected.result
+          run.all_records;
     }

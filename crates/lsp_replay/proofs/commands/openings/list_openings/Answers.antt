@@ -4,10 +4,7 @@ use Rattle.lsp_replay.proofs.Runs.RunReportLemmas.{run_of}
 use Rattle.lsp_replay.proofs.commands.openings.list_openings.Goals as goal
 
 pub returns : goal.returns
-returns g c =
-    let run = rw (c.rules-rules.ensures, c.session.ensures.value, c.nothing.ensures) at c.run.ensures.run in
-    let whole = rw (c.rules-rules.ensures, c.session.ensures.value, c.nothing.ensures) at c.run.ensures.whole in
-    record {
-      run = run_of c.run.ensures.first c.run.ensures.version listing_openings (no_openings (string_bytes c.args.ending))
-          (opened (log_config c.args.settings)) false run (λ _. whole (λ _. refl));
-    }
+returns g c = record {
+  run = run_of listing_openings (no_openings (string_bytes c.args.ending)) (opened (log_config c.args.settings)) false (λ _ _. refl)
+      (rw (c.rules-rules.ensures, c.session.ensures.value, c.nothing.ensures) at c.run.ensures.run);
+}

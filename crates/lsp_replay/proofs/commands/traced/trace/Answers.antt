@@ -3,20 +3,12 @@ use Rattle.lsp_replay.proofs.Runs.RunReportLemmas.{run_of}
 use Rattle.lsp_replay.proofs.commands.traced.trace.Goals as goal
 
 pub returns : goal.returns
-returns g c =
-    let run = rw (
-      c.rules-rules.ensures,
-      c.tracing-trace.ensures.session,
-      c.tracing-trace.ensures.known,
-      c.tracing-trace.ensures.details,
-    ) at c.run.ensures.run in
-    let whole = rw (
-      c.rules-rules.ensures,
-      c.tracing-trace.ensures.session,
-      c.tracing-trace.ensures.known,
-      c.tracing-trace.ensures.details,
-    ) at c.run.ensures.whole in
-    record {
-      run = run_of c.run.ensures.first c.run.ensures.version (lines (tracing c.args.details)) nothing_known
-          (opened (log_config c.args.settings)) false run (λ _. whole (λ _. refl));
-    }
+returns g c = record {
+  run = run_of (lines (tracing c.args.details)) nothing_known (opened (log_config c.args.settings)) false (λ _ _. refl)
+      (rw (
+        c.rules-rules.ensures,
+        c.tracing-trace.ensures.session,
+        c.tracing-trace.ensures.known,
+        c.tracing-trace.ensures.details,
+      ) at c.run.ensures.run);
+}
