@@ -1,5 +1,5 @@
 -- What was written and answered by the records of one log.
-use Rattle.lsp_replay.proofs.Prelude.{◌≡◌, ◌⊎◌, inl, inr, ℕ, ◌<◌, Bool, true, false, List, [], ◌∷◌, ◌++◌, length, Option, Some, None, refl, sym, ap, ◌∙◌, append_assoc, append-nil, length-append, arith, Result, Ok, Err, Appends, FrameFault, written_is_frame, Outcome, EngineFault, NoMemory, TooManyTurns, Log, IsMalformed, IsBadMark, IsReadAs, RunOutput, PortState, all_of, last_of, IsCause, is_cut_off, last_if, RunStart, HasWritten, IsAnswer, common_steps}
+use Rattle.lsp_replay.proofs.Prelude.{◌≡◌, ◌⊎◌, inl, inr, ℕ, ◌<◌, Bool, true, false, List, [], ◌∷◌, ◌++◌, length, Option, Some, None, refl, sym, ap, ◌∙◌, append_assoc, append-nil, length-append, arith, Result, Err, Appends, FrameFault, written_is_frame, Outcome, EngineFault, NoMemory, TooManyTurns, Log, IsMalformed, IsBadMark, IsReadAs, RunOutput, PortState, all_of, last_of, IsCause, is_cut_off, last_if, RunStart, HasWritten, IsAnswer, common_steps}
 
 -- ---- is the output at the end due?
 
@@ -148,7 +148,8 @@ module _ (start : RunStart) (state : PortState) (OnePart : Type 0) (input : List
   needs written left (inr unflushed) = inr (inl unflushed)
 
   pub of_short : (written left : List ℕ) → output.out ≡ written ++ left → Appends start.received received_now written
-      → (0 < length left) ⊎ (state.unflushed ≡ true) → IsAnswer start state OnePart input received_now (Err TooManyTurns)
+      → (0 < length left) ⊎ (state.unflushed ≡ true)
+      → IsAnswer start state OnePart input received_now (Err TooManyTurns)
   of_short written left is wrote short =
       of_front (Err TooManyTurns) (λ _ e. absurd (cc)) refl written left is wrote
       (needs written (left ++ at_end) (still_short state.unflushed left at_end short))

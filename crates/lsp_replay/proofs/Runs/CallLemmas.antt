@@ -1,5 +1,5 @@
 -- The calls of a run, and the loop's end by its last call.
-use Rattle.lsp_replay.proofs.Prelude.{◌≡◌, ◌≢◌, ◌⊎◌, inl, inr, ℕ, ◌≤◌, ◌&&◌, ◌||◌, Bool, true, false, List, Option, Result, Ok, Err, refl, sym, ◌∙◌, ap, arith, not, nat_eq, eqb-true, IfErr, IsAtEnd, Outcome, EngineFault, Read, Write, TooManyTurns, BadLog, LogRules, Record, RunOutput, Called, CallsSoFar, BothSpend, FewReads, FewWrites, IsLoopRun, Ports, Ran, ReaderState, ReadsWithin, Rose, Spends, StaysFlushed, WriterState, WritesFew, WritesWithin, LeavesFlushed, ports, start_at, state_of, common_steps}
+use Rattle.lsp_replay.proofs.Prelude.{◌≡◌, ◌≢◌, ◌⊎◌, inl, inr, ℕ, ◌≤◌, ◌&&◌, ◌||◌, Bool, true, false, List, Option, Result, Ok, Err, refl, sym, ◌∙◌, ap, arith, not, nat_eq, eqb-true, IfErr, IsAtEnd, Outcome, EngineFault, Read, Write, TooManyTurns, BadLog, LogRules, Record, RunOutput, Called, CallsSoFar, BothSpend, FewReads, IsLoopRun, Ports, Ran, ReaderState, ReadsWithin, Rose, Spends, WriterState, WritesFew, WritesWithin, LeavesFlushed, ports, start_at, state_of, common_steps}
 use Rattle.lsp_replay.proofs.Runs.RunLemmas.{ended_not}
 
 -- ---- the calls of the reader and of the writer
@@ -46,7 +46,8 @@ module _ {flushes : Bool} {max_turns turns : ℕ} {before now : Ports}
     exact = λ a b. omega (arith, a, b, so_far.spent.exact, more.exact, more.least);
   }
 
-  pub calls_wrote : {A : Type 0} {t : A} {left : ℕ} {after : WriterState} → WritesWithin turns left now.writer after (Ok t)
+  pub calls_wrote : {A : Type 0} {t : A} {left : ℕ} {after : WriterState}
+      → WritesWithin turns left now.writer after (Ok t)
       → WritesFew now.writer after (Ok t) → LeavesFlushed flushes now.writer after (Ok t)
       → CallsSoFar flushes max_turns left before (ports now.reader after)
   calls_wrote calls few flushed = record {
@@ -66,7 +67,8 @@ module _ {flushes : Bool} {max_turns turns : ℕ} {before now : Ports}
     not_ended = λ still. omega (arith, so_far.few_reads.not_ended goes_on, more.not_ended still);
   }
 
-  pub calls_read : {A : Type 0} {t : A} {left : ℕ} {after : ReaderState} → ReadsWithin turns left now.reader after (Ok t)
+  pub calls_read : {A : Type 0} {t : A} {left : ℕ} {after : ReaderState}
+      → ReadsWithin turns left now.reader after (Ok t)
       → FewReads before.reader after → CallsSoFar flushes max_turns left before (ports after now.writer)
   calls_read calls few = record {
     spent = spent_reads calls.spent;
@@ -192,7 +194,8 @@ module _ {log_rules : LogRules} {run_output : List Record → RunOutput} {flushe
 
 -- after the last write
 pub loop_write : {log_rules : LogRules} {run_output : List Record → RunOutput} {flushes : Bool} {OnePart : Type 0}
-    {max_turns turns : ℕ} {before now : Ports} → CallsSoFar flushes max_turns turns before now → {left : ℕ} {after : WriterState} (result : Result Outcome EngineFault)
+    {max_turns turns : ℕ} {before now : Ports} → CallsSoFar flushes max_turns turns before now → {left : ℕ}
+    {after : WriterState} (result : Result Outcome EngineFault)
     → IfErr result (λ fault. fault ≢ Read)
     → WritesWithin turns left now.writer after result → WritesFew now.writer after result
     → LeavesFlushed flushes now.writer after result

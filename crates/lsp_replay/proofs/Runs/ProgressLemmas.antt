@@ -1,5 +1,5 @@
 -- What a run wrote, record by record and at the end of its input.
-use Rattle.lsp_replay.proofs.Prelude.{◌≡◌, ℕ, ◌+◌, ◌-◌, ◌≤◌, ◌<◌, List, [], ◌∷◌, ◌++◌, length, take, drop, Bool, true, false, Option, Some, None, Result, Ok, Err, ⊤, refl, sym, ◌∙◌, ap, ap₂, subst, arith, append_assoc, append-nil, length-append, inl, inr, ◌⊎◌, drop-drop, MatchOption, Appends, Appends-nil, Appends-trans, IsFrameOf, place_after, Outcome, EngineFault, Read, Write, Frame, Truncated, BodyTooLong, NoMemory, TooManyTurns, BadLog, Splitter, AppendsFront, AppendsShort, Record, Log, HasNoRecord, IsReadAs, IsUndecided, IsFed, IsReady, IsAfter, IsSplitFault, IsUnfinished, buffered_law, buffered_of, is_line_due, log_at, mark_of, record_at, rest_law, RunOutput, IsQuiet, IsFaultAt, after, stopped, written_first, PortState, all_of, last_of, state_of, IsCause, HasWritten, IsAnswer, IsEndCause, IsEndWritten, IsProgress, RunStart, is_cut_off}
+use Rattle.lsp_replay.proofs.Prelude.{◌≡◌, ℕ, ◌+◌, ◌-◌, ◌≤◌, List, [], ◌∷◌, ◌++◌, length, take, drop, Bool, true, false, Option, Some, None, Result, Ok, Err, ⊤, refl, sym, ◌∙◌, ap, ap₂, subst, arith, append_assoc, append-nil, length-append, inl, inr, ◌⊎◌, drop-drop, MatchOption, Appends, Appends-nil, Appends-trans, IsFrameOf, place_after, Outcome, EngineFault, Write, Frame, Truncated, BodyTooLong, NoMemory, TooManyTurns, BadLog, Splitter, AppendsFront, AppendsShort, Record, Log, HasNoRecord, IsReadAs, IsUndecided, IsFed, IsReady, IsAfter, IsSplitFault, IsUnfinished, buffered_law, buffered_of, is_line_due, log_at, mark_of, record_at, rest_law, RunOutput, IsQuiet, IsFaultAt, after, stopped, written_first, PortState, last_of, state_of, IsCause, HasWritten, IsAnswer, IsEndCause, IsEndWritten, IsProgress, RunStart, is_cut_off}
 use Rattle.std.proofs.lemmas.Slice.{between_to_end}
 use Rattle.lsp_log.proofs.SplitLemmas.{frame_len}
 use Rattle.lsp_replay.proofs.Runs.AnswerLemmas.{bad_some, malformed_some, needs, of_all, of_done, of_front, of_rest, of_short, of_stop, still_short}
@@ -163,7 +163,8 @@ module _ {start : RunStart} {input more : List ℕ} {s : Splitter} {now : List R
       (λ _ e. absurd (cc)) refl (w.out ++ cut.0) cut.1
       (front_is bytes cut.0 cut.1 (record_out (now (r ∷ [])) out end (new []) (gives []) quiet.silent ∙ sym is) cut.2)
       (Appends-trans start.received received_now received_new w.out cut.0 w.wrote cut.3) tt)
-  write_fault ended_before ended unflushed {received_new} bytes {out} end new fault gives quiet is (inr at) front short =
+  write_fault ended_before ended unflushed {received_new} bytes {out} end new fault gives quiet is (inr at) front
+      short =
       let cut = short at in
       let state = state_of ended_before ended unflushed in
       subst (λ (f : EngineFault). IsAnswer start state ⊤ input received_new (Err f)) (sym at)
@@ -285,14 +286,15 @@ pub part_is : (answer : Option Outcome) (last buffer more : List ℕ) (A B : Typ
 part_is None last buffer more A B C error = (more, error.0)
 part_is (Some outcome) last buffer more A B C error = ([], error.0 ∙ sym (append-nil buffer))
 
-part_at : {last : List ℕ} (out front left buffer rest : List ℕ) → buffer ≡ front ++ left → last ≡ out ++ (buffer ++ rest)
-    → last ≡ (out ++ front) ++ (left ++ rest)
+part_at : {last : List ℕ} (out front left buffer rest : List ℕ) → buffer ≡ front ++ left
+    → last ≡ out ++ (buffer ++ rest) → last ≡ (out ++ front) ++ (left ++ rest)
 part_at out front left buffer rest cut is =
     is ∙ ap (λ z. out ++ (z ++ rest)) cut ∙ ap (λ z. out ++ z) (append_assoc front left rest)
     ∙ sym (append_assoc out front (left ++ rest))
 
 pub part_fault : {OnePart : Type 0} {unflushed line_due : Bool} {output : RunOutput} {old new : Option (List ℕ)}
-    (mid : Option (List ℕ)) (out buffer rest : List ℕ) (fault : EngineFault) → output.last line_due ≡ out ++ (buffer ++ rest)
+    (mid : Option (List ℕ)) (out buffer rest : List ℕ) (fault : EngineFault)
+    → output.last line_due ≡ out ++ (buffer ++ rest)
     → Appends old mid out → (fault ≡ Write) ⊎ (fault ≡ TooManyTurns) → AppendsFront mid new buffer
     → (fault ≡ TooManyTurns → AppendsShort unflushed mid new buffer)
     → IsEndWritten OnePart unflushed line_due output old new (Err fault)

@@ -1,5 +1,5 @@
 -- A run between two reads, and how it ends.
-use Rattle.lsp_replay.proofs.Prelude.{◌≡◌, ℕ, ◌+◌, ◌-◌, ◌<◌, ◌≤◌, ◌^◌, Bool, true, false, List, [], ◌∷◌, ◌++◌, length, take, drop, Option, Result, Ok, Err, refl, sym, ◌∙◌, ap, subst, arith, append_assoc, append-nil, inl, inr, ◌⊎◌, ◌||◌, min, nat_eq, length-append, length-take, drop-take, take-append-drop, Consumes, Appends, Keeps, Appends-nil, Consumes-trans, Consumes-kept, place_after, IsFrameOf, lines_bytes, Outcome, EngineFault, Read, TooManyTurns, BadLog, Version, One, Two, Splitter, Log, LogRules, Record, IsVersion, IsReadAs, IsUndecided, line_of, version_line, together, record_bytes, IsLineFront, IsBelowLine, IsUnfinished, IsReady, IsOpen, IsAfter, buffered_of, log_at, RunOutput, PortState, last_of, HasWritten, IsAnswer, RunStart, Ran, IsProgress, Runs, IsQuiet}
+use Rattle.lsp_replay.proofs.Prelude.{◌≡◌, ℕ, ◌+◌, ◌-◌, ◌<◌, ◌≤◌, ◌^◌, Bool, true, false, List, [], ◌∷◌, ◌++◌, length, take, drop, Option, Result, Err, refl, sym, ◌∙◌, ap, subst, arith, append_assoc, append-nil, inl, inr, ◌⊎◌, ◌||◌, min, nat_eq, length-append, length-take, drop-take, take-append-drop, Consumes, Appends, Keeps, Appends-nil, Consumes-trans, Consumes-kept, place_after, IsFrameOf, lines_bytes, Outcome, EngineFault, Read, TooManyTurns, BadLog, Version, One, Two, Splitter, Log, Record, IsVersion, IsReadAs, IsUndecided, line_of, version_line, together, record_bytes, IsLineFront, IsBelowLine, IsUnfinished, IsReady, IsOpen, IsAfter, buffered_of, log_at, RunOutput, PortState, last_of, HasWritten, IsAnswer, RunStart, Ran, IsProgress, Runs, IsQuiet}
 use Rattle.lsp_frame.proofs.FrameLemmas.{or-true}
 use Rattle.lsp_replay.proofs.Runs.AnswerLemmas.{of_done, of_records, open_none}
 use Rattle.lsp_replay.proofs.Runs.ProgressLemmas.{unfinished, went_so_far}
@@ -190,7 +190,8 @@ unread_by : (start : RunStart) (state : PortState) (OnePart : Type 0) (input : L
 unread_by start state OnePart input received_now log reads rest done fault (inl is) failed not_ended =
     subst (λ (f : EngineFault). IsAnswer start state OnePart input received_now (Err f)) (sym is)
     (of_records start state OnePart input received_now log reads (Err Read) (λ _ _. done)
-    (open_none (last_of start.run_output log) state.ended log.rest (start.run_output log.records).stop (failed is)) done.1 (failed is, done.0, rest))
+    (open_none (last_of start.run_output log) state.ended log.rest (start.run_output log.records).stop (failed is)) done.1
+    (failed is, done.0, rest))
 unread_by start state OnePart input received_now log reads rest done fault (inr is) failed not_ended =
     subst (λ (f : EngineFault). IsAnswer start state OnePart input received_now (Err f)) (sym is)
     (of_done start state OnePart input received_now log reads (Err TooManyTurns) refl done

@@ -1,5 +1,5 @@
 -- What an engine wrote and answered is told by all the records that are whole in the bytes that it read.
-use Rattle.lsp_replay.proofs.Prelude.{◌≡◌, ◌≢◌, ◌⊎◌, inl, inr, ℕ, Bool, true, false, List, [], ◌∷◌, ◌++◌, length, drop, Option, Some, None, refl, sym, ap, ap₂, ◌∙◌, subst, ⊎_elim, append_assoc, append-nil, arith, length-append, Result, Ok, Err, Appends, FrameFault, Outcome, EngineFault, Read, Write, Frame, Truncated, BodyTooLong, NoMemory, TooManyTurns, BadLog, Version, One, Two, Sender, Client, Server, Ports, LogRules, Record, Log, IsVersion, IsReadAs, HasNoRecord, IsMalformed, IsBadMark, is_line_due, mark_of, first_of, same_version, RunOutput, Session, judge, PortState, WroteRecords, IsCause, IsObserved, is_cut_off, last_if, last_of, IsLoopRun, IsAnswer, Ran, RefusesInput, RunStart, View, followed_by, output_in, IsEngineRun, RanOver, IsFirstOf, first_byte, start_at}
+use Rattle.lsp_replay.proofs.Prelude.{◌≡◌, ◌≢◌, ◌⊎◌, inl, inr, ℕ, Bool, true, false, List, [], ◌∷◌, ◌++◌, drop, Option, Some, None, refl, sym, ap, ap₂, ◌∙◌, subst, ⊎_elim, append_assoc, append-nil, arith, length-append, Result, Ok, Err, FrameFault, Outcome, EngineFault, Read, Frame, Truncated, BodyTooLong, NoMemory, TooManyTurns, BadLog, Version, One, Two, Sender, Client, Server, Ports, LogRules, Record, Log, IsVersion, IsReadAs, HasNoRecord, IsMalformed, IsBadMark, mark_of, first_of, same_version, RunOutput, Session, judge, PortState, WroteRecords, IsCause, IsObserved, is_cut_off, last_if, last_of, IsLoopRun, IsAnswer, Ran, RefusesInput, RunStart, View, followed_by, output_in, IsEngineRun, RanOver, IsFirstOf, first_byte, start_at}
 use Rattle.lsp_frame.proofs.FramedLemmas.{same_frame}
 use Rattle.lsp_replay.proofs.Runs.AnswerLemmas.{none_or_whole, stopped_none}
 use Rattle.lsp_replay.proofs.Runs.ProgressLemmas.{empty_rest}

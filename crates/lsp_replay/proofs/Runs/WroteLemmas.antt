@@ -1,5 +1,5 @@
 -- What an engine wrote where it came to the end of a log.
-use Rattle.lsp_replay.proofs.Prelude.{◌≡◌, ◌≢◌, ℕ, Bool, true, false, List, [], ◌∷◌, ◌++◌, length, Option, Some, None, inl, inr, refl, sym, ap, subst, ◌∙◌, append-nil, nat_lt, codes, ⊤, if◌then◌else◌, Result, Ok, Err, IfOk, Appends, Consumes, frame, AreInRange, Settings, Outcome, EngineFault, BadLog, BodyTooLong, AllRecords, Log, LogRules, IsReadAs, Record, RunOutput, Session, Verdict, answered, recorded, bad, judge, opened, PortState, all_of, last_of, IsCause, IsObserved, RanOver, RecordOutput, writes, ends, followed_by, unless_bad, normalising, written, canonical_of_record, front_of, canonical_output, converting, line_before, reply_record, as_log, as_converted, log_config, canonical_log, converted, report, run_output_in, IsCanonicalLog, IsConverted, IsSquashed, Wrote, normalised, normalised_if, squashed, squashed_steps}
+use Rattle.lsp_replay.proofs.Prelude.{◌≡◌, ◌≢◌, ℕ, Bool, true, false, List, [], ◌∷◌, ◌++◌, length, Option, Some, None, inl, inr, refl, sym, ap, subst, ◌∙◌, append-nil, nat_lt, codes, ⊤, if◌then◌else◌, Result, Ok, Err, IfOk, Appends, Consumes, frame, AreInRange, Settings, Outcome, EngineFault, BadLog, BodyTooLong, AllRecords, Log, LogRules, IsReadAs, Record, RunOutput, Session, Verdict, bad, judge, opened, PortState, all_of, last_of, IsCause, IsObserved, RanOver, RecordOutput, writes, ends, followed_by, unless_bad, normalising, written, canonical_of_record, front_of, canonical_output, converting, line_before, reply_record, as_log, as_converted, log_config, canonical_log, converted, report, run_output_in, IsCanonicalLog, IsConverted, IsSquashed, Wrote, normalised, normalised_if, squashed, squashed_steps}
 use Rattle.lsp_frame.proofs.DecisionLemmas.{decision_law}
 use Rattle.lsp_log.proofs.AllRecordsLemmas.{all_records_law}
 use Rattle.lsp_replay.proofs.Runs.AnswerLemmas.{due_last}

@@ -21,7 +21,8 @@ pub returns-in_err-accept-clause-run : goal.returns-in_err-accept-clause-run
 returns-in_err-accept-clause-run g c =
     let p = err_from_is_err_and c.from_residual-in_err-accept.result c.from_residual-in_err-accept.ensures.1 in
     let why = c.in_err-accept.ensures.error in
-    rw (p.1, p.2, why.0) (loop_bad (calls_read (calls_none c.new-turns.ensures) (rw c.reader.ensures.value at c.in_ok-opening.ensures.calls)
+    rw (p.1, p.2, why.0) (loop_bad (calls_read (calls_none c.new-turns.ensures)
+    (rw c.reader.ensures.value at c.in_ok-opening.ensures.calls)
     (rw c.reader.ensures.value at c.in_ok-opening.ensures.few)) 0
     (λ error. (
       c.in_ok-opening.ensures.at_end (c.in_ok-opening.ensures.ended.0 error),
@@ -95,9 +96,11 @@ returns-then-ended-clause-run g c =
 pub returns-in_err-to-clause-run : goal.returns-in_err-to-clause-run
 returns-in_err-to-clause-run g c =
     let p = err_from_is_err_and c.from_residual-in_err-to.result c.from_residual-in_err-to.ensures.1 in
-    let open_still = not_at_end (g.R.Source.seen c.pieces.ends.reader.now).ended c.pieces.ended c.pieces.invariant.ended.0
+    let open_still = not_at_end (g.R.Source.seen c.pieces.ends.reader.now).ended c.pieces.ended
+    c.pieces.invariant.ended.0
     c.if-ended.false in
-    rw (p.1, p.2) (loop_read_fault (calls_wrote c.pieces.invariant.calls (rw c.writer.ensures.value at c.in_ok-end.ensures.calls)
+    rw (p.1, p.2) (loop_read_fault (calls_wrote c.pieces.invariant.calls
+    (rw c.writer.ensures.value at c.in_ok-end.ensures.calls)
     (rw c.writer.ensures.value at c.in_ok-end.ensures.few)
     (rw c.writer.ensures.value at c.in_ok-end.ensures.all_flushed)) _
     (rw c.reader-in-pieces.ensures.value at c.in_err-to.ensures.calls)
@@ -131,7 +134,8 @@ pieces-preserved g c =
           (rw c.writer.ensures.value at c.in_ok-end.ensures.few)
           (rw c.writer.ensures.value at c.in_ok-end.ensures.all_flushed))
           (rw c.reader-in-pieces.ensures.value at c.in_ok-to.ensures.calls)
-          (reads_more c.pieces.invariant.calls (not_at_end (g.R.Source.seen c.pieces.ends.reader.now).ended c.pieces.ended c.pieces.invariant.ended.0
+          (reads_more c.pieces.invariant.calls (not_at_end (g.R.Source.seen c.pieces.ends.reader.now).ended
+          c.pieces.ended c.pieces.invariant.ended.0
           c.if-ended.false)
           (rw c.reader-in-pieces.ensures.value at c.in_ok-to.ensures.few));
       ended = (

@@ -1,4 +1,4 @@
-use Rattle.lsp_replay.proofs.Prelude.{List, ℕ, [], ◌++◌, refl, sym, ◌∙◌, ap, append_assoc, append-nil, arith, err_from_is_err_and, Appends-trans}
+use Rattle.lsp_replay.proofs.Prelude.{[], ◌++◌, refl, sym, ◌∙◌, ap, append_assoc, append-nil, arith, err_from_is_err_and, Appends-trans}
 use Rattle.lsp_replay.proofs.Runs.CallLemmas.{spends_more}
 use Rattle.lsp_replay.proofs.Runs.ProgressLemmas.{part_fault, part_is}
 use Rattle.lsp_replay.proofs.engine.write_last.Goals as goal

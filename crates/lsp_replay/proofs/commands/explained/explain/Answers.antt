@@ -4,7 +4,8 @@ use Rattle.lsp_replay.proofs.commands.explained.explain.Goals as goal
 
 pub returns : goal.returns
 returns g c = record {
-  run = run_of (lines (explaining c.args.listing)) nothing_known (opened (log_config c.args.settings)) false (λ _ _. refl)
+  run = run_of (lines (explaining c.args.listing)) nothing_known (opened (log_config c.args.settings)) false
+      (λ _ _. refl)
       (rw (
         c.rules-rules.ensures,
         c.explaining-explain.ensures.session,

@@ -5,6 +5,7 @@ use Rattle.lsp_replay.proofs.commands.openings.list_openings.Goals as goal
 
 pub returns : goal.returns
 returns g c = record {
-  run = run_of listing_openings (no_openings (string_bytes c.args.ending)) (opened (log_config c.args.settings)) false (λ _ _. refl)
+  run = run_of listing_openings (no_openings (string_bytes c.args.ending)) (opened (log_config c.args.settings)) false
+      (λ _ _. refl)
       (rw (c.rules-rules.ensures, c.session.ensures.value, c.nothing.ensures) at c.run.ensures.run);
 }

@@ -4,6 +4,7 @@ use Rattle.lsp_replay.proofs.commands.parts.replay_part.Goals as goal
 
 pub returns : goal.returns
 returns g c = record {
-  run = run_of (replaying_part (part_data c.args.part)) none_found (opened (log_config c.args.settings)) false (λ _ _. refl)
+  run = run_of (replaying_part (part_data c.args.part)) none_found (opened (log_config c.args.settings)) false
+      (λ _ _. refl)
       (rw (c.rules-rules.ensures, c.session.ensures.value, c.none.ensures) at c.run.ensures.run);
 }
