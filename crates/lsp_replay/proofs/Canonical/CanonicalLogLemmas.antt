@@ -1,7 +1,6 @@
 -- What the canonical message of a record is told by.
-use Rattle.lsp_replay.proofs.Prelude.{◌≡◌, ◌≢◌, ◌≤◌, ◌<◌, ◌⊎◌, inl, inr, ℕ, Bool, true, false, List, [], map, length, refl, ap, if◌then◌else◌, nat_lt, ltb-true, ltb-false, le-ltb, lt-ltb, ◌++◌, ◌∙◌, drop, sym, append_assoc, drop_at, Option, Some, None, option_map, Err, units_in, Encoding, DocumentItem, ChangeData, LimitsData, StoreFault, IsRefusal, refusal_fault, body_refusal, else_refused, Refusal, body_too_long, change_refusal, unless_refused, command_refusal, table_after, Phase, New, Running, Down, Ended, AnswerData, Sent, changed, as_sent, did_change, ServerData, content_change_from_data, session_encoding, result_step, change_command, step_in, Session, Verdict, answered, recorded, bad, Judged, judged, judge_client, judge_server, canonical_if, written, writes, ends, Version, Record, IsAppended, Body, TooLong, frame}
+use Rattle.lsp_replay.proofs.Prelude.{◌≡◌, ◌≢◌, ◌≤◌, ◌<◌, ◌⊎◌, inl, inr, ℕ, Bool, true, false, List, [], map, length, refl, ap, if◌then◌else◌, nat_lt, ltb-true, ltb-false, le-ltb, lt-ltb, ◌++◌, ◌∙◌, drop, sym, append_assoc, drop_at, Option, Some, None, option_map, Err, units_in, Encoding, DocumentItem, ChangeData, LimitsData, StoreFault, IsRefusal, refusal_fault, body_refusal, else_refused, Refusal, body_too_long, change_refusal, unless_refused, command_refusal, table_after, Phase, Running, AnswerData, Sent, changed, as_sent, did_change, ServerData, content_change_from_data, session_encoding, result_step, change_command, step_in, Session, Verdict, answered, recorded, bad, Judged, judged, judge_client, judge_server, canonical_if, written, writes, ends, Version, Record, IsAppended, Body, TooLong, frame}
 use Rattle.lsp_store.specs.declared.fault.StoreFault.TheVariants.{BodyTooLong, NoMemory}
-use Rattle.lsp_edit.specs.Edited as given
 use Rattle.lsp_stream.specs.declared.fault.EngineFault.TheVariants as fault
 
 -- a record that isn't answered has no canonical message

@@ -1,5 +1,5 @@
 -- All lines of `trace`.
-use Rattle.lsp_replay.proofs.Prelude.{ℕ, suc, ◌^◌, ◌<◌, List, [], ◌∷◌, refl, arith, All, Json, LimitsData, AreInRange, reading, incoming_of, Record, Details, followed_by, unless_bad, writes, RunOutput, Known, known_after, Session, Verdict, answered, recorded, bad, judge, trace_line, tracing, AreJsonLines, IsJsonLine, TraceJsonLaw, trace_value, unless_bad_value, values_from, common_steps, output_in, lines}
+use Rattle.lsp_replay.proofs.Prelude.{ℕ, suc, ◌^◌, ◌<◌, List, [], ◌∷◌, refl, arith, All, Json, LimitsData, AreInRange, reading, incoming_of, Record, Details, followed_by, unless_bad, writes, RunOutput, Known, known_after, Session, Verdict, bad, judge, trace_line, tracing, AreJsonLines, IsJsonLine, TraceJsonLaw, trace_value, unless_bad_value, values_from, common_steps, output_in, lines}
 use Rattle.lsp_replay.proofs.JsonLines.FitLemmas.{IsFit, judged_fits}
 use Rattle.lsp_replay.proofs.JsonLines.LineLemmas.{trace_json}
 

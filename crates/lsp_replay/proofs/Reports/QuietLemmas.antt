@@ -1,5 +1,5 @@
 -- `replay` gives nothing before the end of the input.
-use Rattle.lsp_replay.proofs.Prelude.{◌≡◌, ℕ, List, [], ◌∷◌, ◌++◌, Option, Some, None, refl, ap, ◌∙◌, Result, Outcome, EngineFault, Record, RunOutput, Session, Verdict, answered, recorded, bad, judge, opened, writes, followed_by, unless_bad, replaying, log_config, run_output_in, ReportLaw}
+use Rattle.lsp_replay.proofs.Prelude.{◌≡◌, ℕ, List, [], ◌∷◌, ◌++◌, Option, Some, None, refl, ap, ◌∙◌, Result, Outcome, EngineFault, Record, RunOutput, Session, Verdict, answered, judge, opened, writes, followed_by, unless_bad, replaying, log_config, run_output_in, ReportLaw}
 
 quiet_gives : (r : Record) (verdict : Verdict) → (unless_bad r verdict (writes [])).out ≡ []
 quiet_gives r (answered answer) = refl

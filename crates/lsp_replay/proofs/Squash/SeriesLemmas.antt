@@ -1,5 +1,5 @@
 -- What `normalise` writes with squash: a series by its changes, and by the bytes that the code keeps of it.
-use Rattle.lsp_replay.proofs.Prelude.{◌≡◌, ℕ, Bool, true, false, List, [], ◌∷◌, ◌++◌, map, length, nat_lt, bytes_eq, Option, Some, None, refl, sym, ap, ◌∙◌, append-nil, if◌then◌else◌, flat_map, is_none, option_map, Err, flat_map-append, frame, reading, ChangeData, DocumentItem, SquashData, squash_frame, squash_refusal, Refusal, entry_at, change_parts, units_in, reply, changed, dropped, ignored, refused, exits, already_ended, incoming_of, content_change_from_data, session_encoding, BodyTooLong, Record, RunOutput, written_first, RecordOutput, canonical_change_body, canonical_if, change_in, followed_by, ends, front_of, line_if, log_config, output_in, unless_bad, written, writes, Session, Verdict, answered, recorded, bad, judge, opened, session_outcome, SeriesChange, change_if, change_on, joined, series_after, series_written, squash_output, squashed, squashing, OpenSeries, Step, begun_on, end_bytes, faulty, joined_by, longer, open_bytes, squashed_in, squashed_steps, step_if}
+use Rattle.lsp_replay.proofs.Prelude.{◌≡◌, ℕ, Bool, true, false, List, [], ◌∷◌, ◌++◌, map, length, nat_lt, bytes_eq, Option, Some, None, refl, sym, ap, ◌∙◌, append-nil, if◌then◌else◌, flat_map, is_none, option_map, Err, flat_map-append, frame, reading, ChangeData, DocumentItem, SquashData, squash_frame, squash_refusal, Refusal, entry_at, change_parts, units_in, reply, changed, incoming_of, content_change_from_data, session_encoding, BodyTooLong, Record, RunOutput, written_first, RecordOutput, canonical_change_body, canonical_if, change_in, followed_by, ends, front_of, line_if, log_config, output_in, unless_bad, written, writes, Session, Verdict, answered, bad, judge, opened, session_outcome, SeriesChange, change_if, change_on, joined, series_after, series_written, squash_output, squashed, squashing, OpenSeries, Step, begun_on, end_bytes, faulty, joined_by, longer, open_bytes, squashed_in, squashed_steps, step_if}
 use Rattle.lsp_replay.proofs.Records.ChangeLemmas.{was_accepted}
 use Rattle.lsp_replay.specs.inside.Squashed as kept
 
