@@ -110,16 +110,10 @@ tokens_text : (p : Place) (ls : List Lexeme) → LexemesText ls → AllText (pun
 unfolding punctuate
 tokens_text fresh [] has = tt
 tokens_text after_value [] has = tt
-tokens_text fresh (token t ∷ ls) has = placed_text fresh t (begins_colon ls) (λ next. punctuate next ls) has.0
-    (λ q. tokens_text q ls has.1)
-tokens_text after_value (token t ∷ ls) has = placed_text after_value t (begins_colon ls) (λ next. punctuate next ls)
-    has.0 (λ q. tokens_text q ls has.1)
-tokens_text after_comma (token t ∷ ls) has = placed_text after_comma t (begins_colon ls) (λ next. punctuate next ls)
-    has.0 (λ q. tokens_text q ls has.1)
-tokens_text after_key (token t ∷ ls) has = placed_text after_key t (begins_colon ls) (λ next. punctuate next ls) has.0
-    (λ q. tokens_text q ls has.1)
 tokens_text after_value (comma ∷ ls) has = tokens_text after_comma ls has.1
 tokens_text after_key (colon ∷ ls) has = tokens_text fresh ls has.1
+tokens_text p (token t ∷ ls) has = placed_text p t (begins_colon ls) (λ next. punctuate next ls) has.0
+    (λ q. tokens_text q ls has.1)
 tokens_text _ _ has = (tt, tt)
 
 pub text_tokens : (text : List ℕ) → IsUtf8 text → AllText (tokens text)
