@@ -207,12 +207,7 @@ either_asked false x y p q = q
 asked_message : (m : MessageData) → IsProperMessage m → IsProperIncoming (incoming_by m)
 asked_message (msg.request id method params) proper = grind (arith, common_steps, either_asked, bytes_eq, codes)
 asked_message (msg.notification method params) proper =
-    either_asked (bytes_eq method (codes "exit")) exit _ tt
-    (either_asked (bytes_eq method (codes "textDocument/didOpen")) (did_open (open_of params)) _
-    (opened_held params proper)
-    (either_asked (bytes_eq method (codes "textDocument/didChange")) (did_change (change_of params)) _
-    (changed_held params proper)
-    (either_asked (bytes_eq method (codes "textDocument/didClose")) (did_close _) (other_notification method) tt tt)))
+    grind (arith, common_steps, either_asked, bytes_eq, codes, opened_held, changed_held)
 asked_message (msg.response id outcome) proper = tt
 
 asked_reading : (r : Reading) → IsProperReading r → IsProperIncoming (incoming_of r)

@@ -74,14 +74,7 @@ IsKept uri s side m j = (has_changed j.verdict && is_document uri (uri_of side m
 
 client_keeps : (uri : List ℕ) (s : Session) (version : Version) (m : IncomingData)
     → IsKept uri s Client m (judge_client s version m)
-client_keeps uri s version m = by (is_ended s.server.phase) (is_early s m)
-  where
-    by : (ended early : Bool)
-        → IsKept uri s Client m (if ended then judged bad s else if early then judged bad s else handled s version m
-        (step_on s.server m).state (as_sent (step_on s.server m).answer))
-    by true early other = refl
-    by false true other = refl
-    by false false other = step_keeps s.server.phase uri s.server m other
+client_keeps uri s version m = grind (arith, common_steps, step_keeps)
 
 side_keeps : (uri : List ℕ) (s : Session) (version : Version) (side : Sender) (body : List ℕ)
     → IsKept uri s side (incoming_of (reading body)) (judge_from s version side body)
