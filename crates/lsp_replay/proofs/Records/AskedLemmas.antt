@@ -2,58 +2,36 @@
 use Rattle.lsp_replay.proofs.Prelude.{◌≡◌, ℕ, ℤ, pos, negsuc, ◌<◌, ◌^◌, Bool, true, false, ◌||◌, List, [], ◌∷◌, map, Option, Some, None, option_map, option_and_then, FitsSigned, IsUtf8, bytes_eq, codes, refl, arith, ⊤, if◌then◌else◌, nat_lt, int_lt, option_map_or, match_ordering, is_utf8, Ordering, Less, Equal, Greater, cond_both, ltb-true, nat_tests, IsUtf8-from_is_utf8, scalars-chars, get_member, get, as_object, as_str, as_array, as_i64, read, member_at, text_in, array_in, each_of, whole_in, IdData, whole, text, OutcomeData, Reading, MessageData, id_in, json_of, message_of, reading, DocumentItem, ContentChangeData, ChangeData, open_of, open_by, change_of, change_by, document_in, document_and_changes, content_change_in, version_in, version_from, IsProperId, IncomingData, not_json, not_a_message, response, initialize, shutdown, other_request, exit, did_open, did_change, did_close, other_notification, incoming_by, incoming_of, content_change_from_data, AreTexts, common_steps}
 use Rattle.std.specs.Int.{w32}
 use Rattle.serde_json.specs.Data.{Num, unsigned, negative, float, Data, null, boolean, number, string, array, object, Items, no_items, item, Members, no_members, member}
-use Rattle.lsp_replay.proofs.Records.ReadLemmas.{OnSome, on_then, NumFits, IsHeld, ItemsAreHeld, MembersAreHeld, read_held}
+use Rattle.lsp_replay.proofs.Records.ReadLemmas.{OnSome, held_ordered, on_then, NumFits, IsHeld, ItemsAreHeld, MembersAreHeld, read_held}
 use Rattle.lsp_message.specs.Message as msg
 
 -- ---- members of a value
-
-held_ordered : (o : Ordering) (a b c : Option Data) → OnSome IsHeld a → OnSome IsHeld b → OnSome IsHeld c
-    → OnSome IsHeld (match_ordering o a b c)
-held_ordered Less a b c p q r = p
-held_ordered Equal a b c p q r = q
-held_ordered Greater a b c p q r = r
 
 pub held_member : (name : List ℕ) (ms : Members) → MembersAreHeld ms → OnSome IsHeld (get_member name ms)
 held_member name no_members received = tt
 held_member name (member l e ms) received = grind (arith, common_steps, held_ordered, (held_member name ms received.1))
 
 pub held_get : (name : List ℕ) (d : Data) → IsHeld d → OnSome IsHeld (get name d)
-held_get name null received = tt
-held_get name (boolean b) received = tt
-held_get name (number n) received = tt
-held_get name (string s) received = tt
-held_get name (array ds) received = tt
 held_get name (object ms) received = held_member name ms received
+held_get name _ received = tt
 
 held_at : (name : List ℕ) (found : Option Data) → OnSome IsHeld found → OnSome IsHeld (member_at name found)
 held_at name found received = on_then IsHeld IsHeld (get name) (λ d h. held_get name d h) found received
 
 text_held : (d : Data) → IsHeld d → OnSome IsUtf8 (as_str d)
-text_held null received = tt
-text_held (boolean b) received = tt
-text_held (number n) received = tt
 text_held (string s) received = received
-text_held (array ds) received = tt
-text_held (object ms) received = tt
+text_held _ received = tt
 
 pub held_text : (found : Option Data) → OnSome IsHeld found → OnSome IsUtf8 (text_in found)
 held_text found received = on_then IsHeld IsUtf8 as_str text_held found received
 
 object_held : (d : Data) → IsHeld d → OnSome MembersAreHeld (as_object d)
-object_held null received = tt
-object_held (boolean b) received = tt
-object_held (number n) received = tt
-object_held (string s) received = tt
-object_held (array ds) received = tt
 object_held (object ms) received = received
+object_held _ received = tt
 
 array_held : (d : Data) → IsHeld d → OnSome ItemsAreHeld (as_array d)
-array_held null received = tt
-array_held (boolean b) received = tt
-array_held (number n) received = tt
-array_held (string s) received = tt
 array_held (array ds) received = received
-array_held (object ms) received = tt
+array_held _ received = tt
 
 -- ---- ids
 
@@ -229,12 +207,7 @@ either_asked false x y p q = q
 asked_message : (m : MessageData) → IsProperMessage m → IsProperIncoming (incoming_by m)
 asked_message (msg.request id method params) proper = grind (arith, common_steps, either_asked, bytes_eq, codes)
 asked_message (msg.notification method params) proper =
-    either_asked (bytes_eq method (codes "exit")) exit _ tt
-    (either_asked (bytes_eq method (codes "textDocument/didOpen")) (did_open (open_of params)) _
-    (opened_held params proper)
-    (either_asked (bytes_eq method (codes "textDocument/didChange")) (did_change (change_of params)) _
-    (changed_held params proper)
-    (either_asked (bytes_eq method (codes "textDocument/didClose")) (did_close _) (other_notification method) tt tt)))
+    grind (arith, common_steps, either_asked, bytes_eq, codes, opened_held, changed_held)
 asked_message (msg.response id outcome) proper = tt
 
 asked_reading : (r : Reading) → IsProperReading r → IsProperIncoming (incoming_of r)

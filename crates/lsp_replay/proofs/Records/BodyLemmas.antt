@@ -1,5 +1,5 @@
 -- A record that is read once is judged as one that is judged from its bytes.
-use Rattle.lsp_replay.proofs.Prelude.{◌≡◌, ◌⊎◌, inl, inr, ℕ, Bool, true, false, List, Option, Some, None, refl, sym, ap, ◌∙◌, ◌&&◌, is_none, if◌then◌else◌, Version, Head, Sender, Client, Server, IdData, reading, ChangeData, Phase, New, Running, Down, Ended, changed, reply, dropped, ignored, already_ended, refused, exits, incoming_of, did_change, ServerData, canonical_change_body, canonical_if, change_in, Session, Verdict, answered, recorded, bad, encoding_for, is_running, judge_client, judge_from, judge_server, accepted_if, accepted_of, received_of}
+use Rattle.lsp_replay.proofs.Prelude.{◌≡◌, ◌⊎◌, inl, inr, ℕ, Bool, true, false, List, Option, Some, None, refl, sym, ap, ◌∙◌, ◌&&◌, and_parts, is_none, if◌then◌else◌, Version, Head, Sender, Client, Server, IdData, reading, ChangeData, Phase, New, Running, Down, Ended, changed, reply, dropped, ignored, already_ended, refused, exits, incoming_of, did_change, ServerData, canonical_change_body, canonical_if, change_in, Session, Verdict, answered, recorded, bad, encoding_for, is_running, judge_client, judge_from, judge_server, accepted_if, accepted_of, received_of}
 use Rattle.lsp_replay.specs.inside.Bodies.{BodyData, IsReceived, from_client, from_server, body_read, change_of, judge_read}
 use Rattle.lsp_replay.proofs.Canonical.CanonicalLogLemmas.{heard_as}
 use Rattle.lsp_replay.proofs.Records.JudgeLemmas.{asks_change}
@@ -39,10 +39,6 @@ unknown : (expected : Option IdData) → is_none expected ≡ true → expected 
 unknown None e = refl
 unknown (Some id) e = absurd (let wrong : false ≡ true = e in cc)
 
-both_true : (a b : Bool) → (a && b) ≡ true → (a ≡ true) × (b ≡ true)
-both_true true true e = (refl, refl)
-both_true _ _ e = absurd (let wrong : false ≡ true = e in cc)
-
 -- what isn't received
 module _ (s : Session) (read : BodyData) (never : (p : ChangeData) → IsReceived s read p → ⊥) where
   pub not_received : received_of s read ≡ None
@@ -53,7 +49,7 @@ module _ (s : Session) (read : BodyData) (never : (p : ChangeData) → IsReceive
       by false e change is = refl
       by true e None is = refl
       by true e (Some p) is =
-          let both = both_true (is_running s.server.phase) (is_none s.expected) e in
+          let both = and_parts (is_running s.server.phase) (is_none s.expected) e in
           absurd (never p (record { is = is; running = runs s.server.phase both.0; known = unknown s.expected both.1 }))
 
 -- ---- a change that is accepted

@@ -50,30 +50,20 @@ record IsNormalCase (server : ServerData) (m : IncomingData) (verdict : Verdict)
   error : verdict ≡ answered changed
   is : body ≡ canonical_change_body server change
 
-abbrev CaseOf : ServerData → Option ChangeData → Verdict → List ℕ → Type 0
-CaseOf server change verdict body = (p : ChangeData) × (change ≡ Some p) × (verdict ≡ answered changed)
-    × (body ≡ canonical_change_body server p)
-
-none_some : (server : ServerData) (change : Option ChangeData) (verdict : Verdict) (body : List ℕ) → None ≡ Some body
-    → CaseOf server change verdict body
-none_some server change verdict body e = absurd (cc)
-
-by_change : (server : ServerData) (change : Option ChangeData) (verdict : Verdict) (body : List ℕ)
-    → canonical_if server change verdict ≡ Some body → CaseOf server change verdict body
-by_change server (Some p) (answered changed) body e = let some : Some (canonical_change_body server p) ≡ Some body =
-    e in let is : canonical_change_body server p ≡ body = cc in (p, refl, refl, sym is)
-by_change server change verdict body e = none_some server change verdict body e
-
-no_change : (m : IncomingData) (p : ChangeData) → None ≡ Some p → m ≡ did_change (Some p)
-no_change m p e = absurd (cc)
-
 pub asks_change : (m : IncomingData) (p : ChangeData) → change_in m ≡ Some p → m ≡ did_change (Some p)
 asks_change (did_change params) p e = ap did_change e
-asks_change m p e = no_change m p e
+asks_change m p e = absurd (let wrong : None ≡ Some p = e in cc)
+
+by_change : (server : ServerData) (m : IncomingData) (change : Option ChangeData) (verdict : Verdict) (body : List ℕ)
+    → ((p : ChangeData) → change ≡ Some p → m ≡ did_change (Some p)) → canonical_if server change verdict ≡ Some body
+    → IsNormalCase server m verdict body
+by_change server m (Some p) (answered changed) body asks e =
+    record { change = p; asks = asks p refl; error = refl; is = let same : Some body ≡ Some _ = sym e in cc }
+by_change server m change verdict body asks e = absurd (let wrong : None ≡ Some body = e in cc)
 
 case_of : (server : ServerData) (m : IncomingData) (verdict : Verdict) (body : List ℕ)
     → canonical_if server (change_in m) verdict ≡ Some body → IsNormalCase server m verdict body
-case_of server m verdict body e = grind (arith, common_steps, by_change, asks_change)
+case_of server m verdict body = by_change server m (change_in m) verdict body (asks_change m)
 
 -- ---- the canonical body is judged as the change was
 
@@ -90,13 +80,7 @@ handled_same s version params others server answer = grind (arith, common_steps,
 again_incoming : (s : Session) (version : Version) (p again : ChangeData) → step_on s.server (did_change (Some again))
     ≡ step_on s.server (did_change (Some p))
     → judge_client s version (did_change (Some again)) ≡ judge_client s version (did_change (Some p))
-again_incoming s version p again same =
-    ap (λ (step : Step). if is_ended s.server.phase then judged bad s else if is_early s (did_change (Some again)) then
-    judged bad s else handled s version (did_change (Some again)) step.state (as_sent step.answer)) same
-    ∙ ap (λ (j : Judged). if is_ended s.server.phase then judged bad s else if is_early s (did_change (Some again)) then
-    judged bad s else j)
-    (handled_same s version (Some again) (Some p) (step_on s.server (did_change (Some p))).state
-    (as_sent (step_on s.server (did_change (Some p))).answer))
+again_incoming s version p again same = grind (arith, common_steps, handled_same)
 
 -- a body is judged as another, and it is its own canonical body
 abbrev IsJudgedAgain : Session → Version → Sender → List ℕ → List ℕ → Type 0

@@ -12,7 +12,4 @@ module _ {State : Type 0} (view : View State) (state : State) (s : Session) (r :
       → next ≡ view.next state s r (judge s r) → (t : Session) → t ≡ (judge s r).session → (more : List Record)
       → output_in view state s (r ∷ more) ≡ followed_by given.out given.end (output_in view next t more)
   output_after given is next next_is t session more =
-      ap (λ (g : RecordOutput). followed_by g.out g.end (output_in view (view.next state s r (judge s r))
-      (judge s r).session more)) is
-      ∙ ap (λ (n : State). followed_by given.out given.end (output_in view n (judge s r).session more)) (sym next_is)
-      ∙ ap (λ (u : Session). followed_by given.out given.end (output_in view next u more)) (sym session)
+      rw (← is, next_is, session) refl

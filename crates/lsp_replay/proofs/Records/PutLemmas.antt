@@ -1,5 +1,5 @@
 -- The table of documents with another text and version of one of them.
-use Rattle.lsp_replay.proofs.Prelude.{◌≡◌, ℕ, ℤ, true, false, List, [], ◌∷◌, Some, None, bytes_eq, refl, ap, ⊎_elim, if◌then◌else◌, cases_Bool, chars, ContentChange, meaning, DocumentItem, after_change, entry_at, meant_text}
+use Rattle.lsp_replay.proofs.Prelude.{◌≡◌, ℕ, ℤ, true, false, List, [], ◌∷◌, Some, None, bytes_eq, refl, if◌then◌else◌, chars, ContentChange, meaning, DocumentItem, after_change, entry_at, meant_text, arith, common_steps}
 
 abbrev pub put : List DocumentItem → List ℕ → ℤ → List ℕ → List DocumentItem
 put [] uri version text = []
@@ -14,35 +14,17 @@ pub change_puts : (units : ℕ → ℕ) (table : List DocumentItem) (uri : List 
     ≡ put table uri version (meant_text entry.text (meaning units (chars entry.text) batch))
 change_puts units [] uri version batch entry found = refl
 change_puts units (first ∷ table) uri version batch entry found =
-    ⊎_elim
-    (λ (is : bytes_eq uri first.uri ≡ true).
-    let at : Some first ≡ Some entry = rw is at found in
-    let same : first ≡ entry = cc in
-    rw (is, same) refl)
-    (λ (not : bytes_eq uri first.uri ≡ false). rw not
-    (ap (λ (t : List DocumentItem). first ∷ t) (change_puts units table uri version batch entry (rw not at found))))
-    (cases_Bool (bytes_eq uri first.uri))
+    grind (arith, common_steps, (change_puts units table uri version batch entry))
 
 pub put_twice : (table : List DocumentItem) (uri : List ℕ) (version next : ℤ) (text last : List ℕ)
     → put (put table uri version text) uri next last ≡ put table uri next last
 put_twice [] uri version next text last = refl
 put_twice (first ∷ table) uri version next text last =
-    ⊎_elim (λ (is : bytes_eq uri first.uri ≡ true). rw (is, is) refl)
-    (λ (not : bytes_eq uri first.uri ≡ false). rw (
-      not,
-      not,
-    ) (ap (λ (t : List DocumentItem). first ∷ t) (put_twice table uri version next text last)))
-    (cases_Bool (bytes_eq uri first.uri))
+    grind (arith, common_steps, (put_twice table uri version next text last))
 
 pub put_at : (table : List DocumentItem) (uri : List ℕ) (version : ℤ) (text : List ℕ) (entry : DocumentItem)
     → entry_at table uri ≡ Some entry
     → entry_at (put table uri version text) uri ≡ Some (record entry { version = version; text = text })
 put_at [] uri version text entry found = absurd (let wrong : None ≡ Some entry = found in cc)
 put_at (first ∷ table) uri version text entry found =
-    ⊎_elim
-    (λ (is : bytes_eq uri first.uri ≡ true).
-    let at : Some first ≡ Some entry = rw is at found in
-    let same : first ≡ entry = cc in
-    rw (is, is, same) refl)
-    (λ (not : bytes_eq uri first.uri ≡ false). rw (not, not) (put_at table uri version text entry (rw not at found)))
-    (cases_Bool (bytes_eq uri first.uri))
+    grind (arith, common_steps, (put_at table uri version text entry))

@@ -141,15 +141,15 @@ pub on_then : {A B : Type 0} (P : A → Type 0) (Q : B → Type 0) (h : A → Op
 on_then P Q h k None x = tt
 on_then P Q h k (Some a) x = k a x
 
-held_ordered : (o : Ordering) (a b c : Members) → MembersAreHeld a → MembersAreHeld b → MembersAreHeld c
-    → MembersAreHeld (match_ordering o a b c)
-held_ordered Less a b c p q r = p
-held_ordered Equal a b c p q r = q
-held_ordered Greater a b c p q r = r
+pub held_ordered : {A : Type 0} (P : A → Type 0) (o : Ordering) (a b c : A) → P a → P b → P c
+    → P (match_ordering o a b c)
+held_ordered P Less a b c p q r = p
+held_ordered P Equal a b c p q r = q
+held_ordered P Greater a b c p q r = r
 
 held_put : (k : List ℕ) (d : Data) (ms : Members) → IsHeld d → MembersAreHeld ms → MembersAreHeld (put k d ms)
 held_put k d no_members p q = (p, tt)
-held_put k d (member l e ms) p q = held_ordered _ (member k d (member l e ms)) (member l d ms) (member l e (put k d ms))
+held_put k d (member l e ms) p q = held_ordered MembersAreHeld _ (member k d (member l e ms)) (member l d ms) (member l e (put k d ms))
     (p, q) (p, q.1) (q.0, held_put k d ms p q.1)
 
 fits_negative : (n : ℕ) → 0 < n → n ≤ 2 ^ 63 → FitsSigned w64 (neg_ℤ (pos n))

@@ -1,5 +1,5 @@
 -- What a server holds: texts in UTF-8, and within its limit.
-use Rattle.lsp_replay.proofs.Prelude.{◌≡◌, ◌≤◌, Bool, true, false, List, map, length, Option, Some, None, refl, if◌then◌else◌, nat_lt, nat_le, ltb-false, LimitsData, units_in, DocumentItem, ChangeData, Refusal, already_open, too_many_documents, text_too_long, after_close, is_taken, open_refusal, change_refusal, close_refusal, unless_refused, AllWithin, within_end, within_change, within_close, Phase, New, Running, Down, Ended, IncomingData, not_json, not_a_message, response, initialize, shutdown, other_request, exit, did_open, did_change, did_close, other_notification, ServerData, step_in, step_on, result_step, content_change_from_data, session_encoding}
+use Rattle.lsp_replay.proofs.Prelude.{◌≡◌, ◌≤◌, Bool, true, false, List, map, length, Option, Some, None, refl, if◌then◌else◌, nat_lt, nat_le, ltb-false, LimitsData, units_in, DocumentItem, ChangeData, Refusal, already_open, too_many_documents, text_too_long, after_close, is_taken, open_refusal, change_refusal, close_refusal, unless_refused, AllWithin, within_end, within_change, within_close, Phase, New, Running, Down, Ended, IncomingData, not_json, not_a_message, response, initialize, shutdown, other_request, exit, did_open, did_change, did_close, other_notification, ServerData, step_in, step_on, result_step, content_change_from_data, session_encoding, arith, common_steps}
 use Rattle.lsp_replay.proofs.Records.ReadLemmas.{OnSome}
 use Rattle.lsp_replay.proofs.Records.AskedLemmas.{IsProperAsked, IsTextOpened, IsProperIncoming}
 
@@ -7,17 +7,7 @@ use Rattle.lsp_replay.proofs.Records.AskedLemmas.{IsProperAsked, IsTextOpened, I
 
 opened_short : (limits : LimitsData) (table : List DocumentItem) (entry : DocumentItem)
     → open_refusal limits table entry ≡ None → length entry.text ≤ limits.max_text
-opened_short limits table entry e =
-    by (is_taken limits table entry.uri) (nat_le limits.max_docs (length (after_close table entry.uri)))
-    (nat_lt limits.max_text (length entry.text)) e (ltb-false limits.max_text (length entry.text))
-  where
-    by : (a b c : Bool) → (if a then Some already_open else if b then Some too_many_documents else if c then
-        Some text_too_long else None) ≡ None
-        → (c ≡ false → length entry.text ≤ limits.max_text) → length entry.text ≤ limits.max_text
-    by true b c f is = absurd (let bad : Some already_open ≡ None = f in cc)
-    by false true c f is = absurd (let bad : Some too_many_documents ≡ None = f in cc)
-    by false false true f is = absurd (let bad : Some text_too_long ≡ None = f in cc)
-    by false false false f is = is refl
+opened_short limits table entry e = grind (arith, common_steps, ltb-false)
 
 -- ---- a server
 

@@ -1,5 +1,5 @@
 -- A record that isn't an accepted one about a document leaves that document as it is.
-use Rattle.lsp_replay.proofs.Prelude.{◌≡◌, ℕ, Bool, true, false, List, [], ◌∷◌, ◌++◌, map, Option, Some, None, bytes_eq, refl, sym, ap, ◌∙◌, ℤ, ◌&&◌, if◌then◌else◌, bytes_eq-Decides, units_in, ContentChange, reading, DocumentItem, as_sent, Phase, New, Running, Down, Ended, IncomingData, incoming_of, not_json, not_a_message, response, initialize, shutdown, other_request, exit, did_open, did_change, did_close, other_notification, Sender, Client, Server, Version, Record, Session, Judged, answered, bad, has_changed, judged, handled, is_ended, is_early, judge, judge_from, judge_client, encoding_for, uri_of, is_document}
+use Rattle.lsp_replay.proofs.Prelude.{◌≡◌, ℕ, Bool, true, false, List, [], ◌∷◌, ◌++◌, map, Option, Some, None, bytes_eq, refl, sym, ap, ◌∙◌, ℤ, ◌&&◌, if◌then◌else◌, bytes_eq-Decides, units_in, ContentChange, reading, DocumentItem, as_sent, Phase, New, Running, Down, Ended, IncomingData, incoming_of, not_json, not_a_message, response, initialize, shutdown, other_request, exit, did_open, did_change, did_close, other_notification, Sender, Client, Server, Version, Record, Session, Judged, answered, bad, has_changed, judged, handled, is_ended, is_early, judge, judge_from, judge_client, encoding_for, uri_of, is_document, arith, common_steps}
 use Rattle.lsp_store.specs.Table.{Refusal, entry_at, changed, after_open, after_change, after_close, close_refusal, change_refusal, open_refusal, unless_refused}
 use Rattle.lsp_server.specs.Step.{ServerData, Step, step_in, step_on, result_step, content_change_from_data, session_encoding}
 use Rattle.lsp_replay.proofs.Reports.KeptLemmas.{heard_table}
@@ -9,8 +9,7 @@ use Rattle.lsp_replay.proofs.Reports.KeptLemmas.{heard_table}
 same_last : (table : List DocumentItem) (entry : DocumentItem) (uri : List ℕ) → bytes_eq uri entry.uri ≡ false
     → entry_at (table ++ entry ∷ []) uri ≡ entry_at table uri
 same_last [] entry uri other = rw other refl
-same_last (x ∷ table) entry uri other =
-    ap (λ (found : Option DocumentItem). if bytes_eq uri x.uri then Some x else found) (same_last table entry uri other)
+same_last (x ∷ table) entry uri other = grind (arith, common_steps, (same_last table entry uri other))
 
 -- an entry of the document that a message is about is no entry of another one
 differs : (uri other entry : List ℕ) → bytes_eq uri other ≡ false → bytes_eq other entry ≡ true → bytes_eq uri entry
@@ -22,24 +21,13 @@ same_changed : (units : ℕ → ℕ) (table : List DocumentItem) (other : List �
     ≡ entry_at table uri
 same_changed units [] other version batch uri differ = refl
 same_changed units (x ∷ table) other version batch uri differ =
-    by (same_changed units table other version batch uri differ) (bytes_eq other x.uri) refl
-  where
-    by : entry_at (after_change units table other version batch) uri ≡ entry_at table uri
-        → (b : Bool) → bytes_eq other x.uri ≡ b → entry_at (if b then changed units x version batch ∷ table
-        else x ∷ after_change units table other version batch) uri ≡ entry_at (x ∷ table) uri
-    by later true same = rw (differs uri other x.uri differ same) refl
-    by later false same = ap (λ (found : Option DocumentItem). if bytes_eq uri x.uri then Some x else found) later
+    grind (arith, common_steps, differs, (same_changed units table other version batch uri differ))
 
 same_closed : (table : List DocumentItem) (other uri : List ℕ) → bytes_eq uri other ≡ false
     → entry_at (after_close table other) uri ≡ entry_at table uri
 same_closed [] other uri differ = refl
-same_closed (x ∷ table) other uri differ = by (same_closed table other uri differ) (bytes_eq other x.uri) refl
-  where
-    by : entry_at (after_close table other) uri ≡ entry_at table uri
-        → (b : Bool) → bytes_eq other x.uri ≡ b → entry_at (if b then table else x ∷ after_close table other) uri
-        ≡ entry_at (x ∷ table) uri
-    by later true same = rw (differs uri other x.uri differ same) refl
-    by later false same = ap (λ (found : Option DocumentItem). if bytes_eq uri x.uri then Some x else found) later
+same_closed (x ∷ table) other uri differ =
+    grind (arith, common_steps, differs, (same_closed table other uri differ))
 
 same_open : (table : List DocumentItem) (entry : DocumentItem) (uri : List ℕ) → bytes_eq uri entry.uri ≡ false
     → entry_at (after_open table entry) uri ≡ entry_at table uri
@@ -86,14 +74,7 @@ IsKept uri s side m j = (has_changed j.verdict && is_document uri (uri_of side m
 
 client_keeps : (uri : List ℕ) (s : Session) (version : Version) (m : IncomingData)
     → IsKept uri s Client m (judge_client s version m)
-client_keeps uri s version m = by (is_ended s.server.phase) (is_early s m)
-  where
-    by : (ended early : Bool)
-        → IsKept uri s Client m (if ended then judged bad s else if early then judged bad s else handled s version m
-        (step_on s.server m).state (as_sent (step_on s.server m).answer))
-    by true early other = refl
-    by false true other = refl
-    by false false other = step_keeps s.server.phase uri s.server m other
+client_keeps uri s version m = grind (arith, common_steps, step_keeps)
 
 side_keeps : (uri : List ℕ) (s : Session) (version : Version) (side : Sender) (body : List ℕ)
     → IsKept uri s side (incoming_of (reading body)) (judge_from s version side body)

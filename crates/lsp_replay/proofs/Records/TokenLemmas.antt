@@ -96,30 +96,16 @@ allowed_text false t k next has rest = (tt, tt)
 
 placed_text : (p : Place) (t : Token) (b : Bool) (k : Place → List Token) → HasText t → ((q : Place) → AllText (k q))
     → AllText (place_token p t b k)
-placed_text p Token.begin_object b k has rest = allowed_text (may_begin p) Token.begin_object k fresh tt rest
-placed_text p Token.end_object b k has rest = allowed_text (may_close p) Token.end_object k after_value tt rest
-placed_text p Token.begin_array b k has rest = allowed_text (may_begin p) Token.begin_array k fresh tt rest
-placed_text p Token.end_array b k has rest = allowed_text (may_close p) Token.end_array k after_value tt rest
-placed_text p (Token.key s) b k has rest = (tt, tt)
-placed_text p (Token.string s) true k has rest = allowed_text (may_begin p) (Token.key s) k after_key has rest
-placed_text p (Token.string s) false k has rest = allowed_text (may_begin p) (Token.string s) k after_value has rest
-placed_text p Token.bad b k has rest = (tt, tt)
-placed_text p t b k has rest = allowed_text (may_begin p) t k after_value tt rest
+placed_text p t b k has rest = grind (arith, common_steps, allowed_text)
 
 tokens_text : (p : Place) (ls : List Lexeme) → LexemesText ls → AllText (punctuate p ls)
 unfolding punctuate
 tokens_text fresh [] has = tt
 tokens_text after_value [] has = tt
-tokens_text fresh (token t ∷ ls) has = placed_text fresh t (begins_colon ls) (λ next. punctuate next ls) has.0
-    (λ q. tokens_text q ls has.1)
-tokens_text after_value (token t ∷ ls) has = placed_text after_value t (begins_colon ls) (λ next. punctuate next ls)
-    has.0 (λ q. tokens_text q ls has.1)
-tokens_text after_comma (token t ∷ ls) has = placed_text after_comma t (begins_colon ls) (λ next. punctuate next ls)
-    has.0 (λ q. tokens_text q ls has.1)
-tokens_text after_key (token t ∷ ls) has = placed_text after_key t (begins_colon ls) (λ next. punctuate next ls) has.0
-    (λ q. tokens_text q ls has.1)
 tokens_text after_value (comma ∷ ls) has = tokens_text after_comma ls has.1
 tokens_text after_key (colon ∷ ls) has = tokens_text fresh ls has.1
+tokens_text p (token t ∷ ls) has = placed_text p t (begins_colon ls) (λ next. punctuate next ls) has.0
+    (λ q. tokens_text q ls has.1)
 tokens_text _ _ has = (tt, tt)
 
 pub text_tokens : (text : List ℕ) → IsUtf8 text → AllText (tokens text)

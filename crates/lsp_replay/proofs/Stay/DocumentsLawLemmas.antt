@@ -1,5 +1,5 @@
 -- What `normalise` writes of the records that stay: a log of which `replay` reports the same.
-use Rattle.lsp_replay.proofs.Prelude.{◌≡◌, ℕ, Bool, true, false, ◌||◌, List, [], ◌++◌, length, Option, None, refl, sym, ap, ◌∙◌, subst, Result, IfOk, Consumes, AreInRange, EngineFault, Version, Record, Log, IsReadAs, AreRecords, is_line_due, line_of, together, Settings, Outcome, Kept, KeepsDocuments, WroteDocuments, documents, kept_records, nothing_selected, PortState, all_of, as_log, canonical_log, log_config, report, IsCanonicalLog, IsSquashed, LeavesAlike, RunOutput, Session, opened, normalised_if, squashed, squashed_steps, RanOver}
+use Rattle.lsp_replay.proofs.Prelude.{◌≡◌, ℕ, Bool, true, false, ◌||◌, List, [], ◌++◌, length, Option, None, refl, sym, ap, ◌∙◌, subst, Result, IfOk, AreInRange, EngineFault, Version, Record, Log, IsReadAs, AreRecords, is_line_due, line_of, together, Settings, Outcome, Kept, KeepsDocuments, WroteDocuments, documents, kept_records, nothing_selected, PortState, all_of, RanOver, as_log, canonical_log, log_config, report, IsCanonicalLog, IsSquashed, LeavesAlike, RunOutput, Session, opened, normalised_if, squashed, squashed_steps}
 use Rattle.lsp_replay.specs.laws.Documents.{DocumentsLaw, DocumentsStopAlike}
 use Rattle.lsp_replay.proofs.Stay.KeptLogLemmas.{are_kept, each_located, kept_due, kept_stop, line_left, located_all, located_left, reported, squash_located}
 use Rattle.lsp_replay.proofs.Canonical.NormalisedLemmas.{canonical_log_law, version_is}
