@@ -1,5 +1,5 @@
 -- The walk back from the limit of a long line to the last index within it.
-use Rattle.std.proofs.Common.{◌≡◌, ℕ, suc, ◌-◌, ◌≤◌, ◌<◌, ◌&&◌, Bool, true, false, cond, nat_le, List, [], ◌∷◌, length, filter, Option, Some, None, option_map, Result, Ok, Err, is_err, refl, sym, ap, ◌∙◌, subst, arith, ⊎_elim, le-leb}
+use Rattle.std.proofs.Common.{◌≡◌, ℕ, suc, ◌-◌, ◌≤◌, ◌<◌, ◌&&◌, Bool, true, false, nat_le, List, [], ◌∷◌, length, filter, Option, Some, None, option_map, Result, is_err, refl, sym, ap, ◌∙◌, subst, arith, ⊎_elim, le-leb}
 use Rattle.std.specs.Result.{result_ok}
 use Rattle.std.proofs.lemmas.Bool.{cases_Bool, cases_lt, and_parts, and_from, leb-true}
 use Rattle.lsp_text.specs.declared.encoding.Encoding.{Encoding}
@@ -16,6 +16,7 @@ use Rattle.lsp_text.proofs.TextLines.LineLemmas.{in_content, in_content_line, in
 use Rattle.lsp_text.proofs.TextLines.RowLemmas.{IsLast, last_passes}
 use Rattle.lsp_long_lines.specs.LongLines.{last_within, line_end}
 use Rattle.lsp_long_lines.proofs.LineEndLemmas.{line_end-character}
+use Rattle.std.proofs.lemmas.Grind.{common_steps}
 
 pub units_some : (encoding : Encoding) (c : ℕ) → 1 ≤ units_in encoding c
 units_some Utf8 c = (utf8_bounds c).0
@@ -25,26 +26,18 @@ units_some Utf32 c = (utf32_bounds c).0
 -- What the call that looks for a position's byte offset returns, says what the position denotes.
 pub missed : {E : Type 0} (text : List ℕ) (r : Result ℕ E) (o : Option ℕ) → result_ok r ≡ option_map (place_of text) o
     → is_err r ≡ true → o ≡ None
-missed text r None value err = refl
-missed text (Ok x) (Some k) value err = absurd (cc)
-missed text (Err e) (Some k) value err = absurd (cc)
+missed text r o value err = grind (arith, common_steps, is_err)
 
 pub found : {E : Type 0} (text : List ℕ) (r : Result ℕ E) (o : Option ℕ) → result_ok r ≡ option_map (place_of text) o
     → is_err r ≡ false → (k : ℕ) × (o ≡ Some k)
 found text r (Some k) value ok = (k, refl)
-found text (Ok x) None value ok = absurd (cc)
-found text (Err e) None value ok = absurd (cc)
+found text r None value ok = grind (arith, common_steps, is_err)
 
 -- Two tests, one after the other, are one test of both.
 filter_both : (test other : ℕ → Bool) (xs : List ℕ) → filter other (filter test xs)
     ≡ filter (λ k. test k && other k) xs
 filter_both test other [] = refl
-filter_both test other (x ∷ xs) =
-    ⊎_elim
-    (λ (e : test x ≡ true). rw e
-    (ap (λ (ys : List ℕ). cond (other x) (x ∷ ys) ys) (filter_both test other xs)))
-    (λ (e : test x ≡ false). rw e (filter_both test other xs))
-    (cases_Bool (test x))
+filter_both test other (x ∷ xs) = grind (arith, common_steps, cases_Bool, (filter_both test other xs))
 
 -- The position is in a long line, at the limit or before it, and no index within the limit is after it.
 pub record IsWalkedTo (units : ℕ → ℕ) (text : List ℕ) (p : Position) : Type 0 where
@@ -96,25 +89,20 @@ module _ (units : ℕ → ℕ) (some : (c : ℕ) → 1 ≤ units c) (text : List
   -- One unit back.
   pub walk_on : (p : Position) → denoted units text p ≡ None → IsWalkedTo units text p
       → IsWalkedTo units text (record { line = p.line; character = p.character - 1 })
-  walk_on p missed walked =
-      record {
-        there = walked.there;
-        few = omega (arith, walked.few);
-        long = walked.long;
-        none = λ k within content low.
-            ⊎_elim
-            (λ (h : units_between units text (line_start text p.line) k < p.character). omega arith)
-            (λ (h : p.character ≤ units_between units text (line_start text p.line) k).
-            let high : units_between units text (line_start text p.line) k ≤ p.character =
-            walked.none k within content low in
-            absurd (not_denoted p k missed within content (omega arith)))
-            (cases_lt (units_between units text (line_start text p.line) k) p.character);
-      }
+  walk_on p missed walked = record {
+    there = walked.there;
+    few = omega (arith, walked.few);
+    long = walked.long;
+    none = λ k within content low.
+        let high = walked.none k within content low in
+        let other = not_denoted p k missed within content in
+        omega arith;
+  }
 
   -- The first position of the walk that denotes an index is that of the last index within the limit.
   pub walk_ends : (p : Position) (k : ℕ) → denoted units text p ≡ Some k → IsWalkedTo units text p
       → p ≡ exact_position units text (last_within units text p.line)
-  walk_ends p k found walked = sym exact ∙ ap (exact_position units text) is_last
+  walk_ends p k found walked = sym exact ∙ ap (exact_position units text) (is_last _ last)
     where
       test : ℕ → Bool
       test = λ j. is_in_content text p.line j && nat_le (units_between units text (line_start text p.line) j) 100
@@ -149,24 +137,21 @@ module _ (units : ℕ → ℕ) (some : (c : ℕ) → 1 ≤ units c) (text : List
           (numbers_from 0 (suc (length text))))))
           (last_passes test 0 0 (suc (length text)) k (omega arith) (omega (arith, within)) passes)
 
-      is_last : k ≡ last_within units text p.line
-      is_last = by_order (last_within units text p.line) last
-        where
-          by_order : (m : ℕ) → IsLast test 0 (suc (length text)) m → k ≡ m
-          by_order m is =
-              let both = and_parts (is_in_content text p.line m)
-              (nat_le (units_between units text (line_start text p.line) m) 100) is.passes in
-              let low : units_between units text (line_start text p.line) m ≤ p.character =
-              walked.none m (omega (arith, is.in_row)) both.0
-              (leb-true (units_between units text (line_start text p.line) m) 100 both.1) in
-              let start_low : line_start text p.line ≤ k =
-              (line_has_start text p.line walked.there).least k (omega arith) content in
-              ⊎_elim
-              (λ (h : k < m). absurd (omega (
-                arith,
-                units_rise units some text (line_start text p.line) k m start_low h (omega (arith, is.in_row)),
-                low,
-                count,
-              )))
-              (λ (h : m ≤ k). omega (arith, h, is.greatest k (omega (arith, within)) passes))
-              (cases_lt k m)
+      is_last : (m : ℕ) → IsLast test 0 (suc (length text)) m → k ≡ m
+      is_last m is =
+          let both = and_parts (is_in_content text p.line m)
+          (nat_le (units_between units text (line_start text p.line) m) 100) is.passes in
+          let low : units_between units text (line_start text p.line) m ≤ p.character =
+          walked.none m (omega (arith, is.in_row)) both.0
+          (leb-true (units_between units text (line_start text p.line) m) 100 both.1) in
+          let start_low : line_start text p.line ≤ k =
+          (line_has_start text p.line walked.there).least k (omega arith) content in
+          ⊎_elim
+          (λ (h : k < m). absurd (omega (
+            arith,
+            units_rise units some text (line_start text p.line) k m start_low h (omega (arith, is.in_row)),
+            low,
+            count,
+          )))
+          (λ (h : m ≤ k). omega (arith, h, is.greatest k (omega (arith, within)) passes))
+          (cases_lt k m)

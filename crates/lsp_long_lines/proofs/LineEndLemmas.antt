@@ -1,5 +1,5 @@
 -- The end of a line's content, and what is over the limit in the lines before a line.
-use Rattle.std.proofs.Common.{◌≡◌, ℕ, zero, suc, ◌+◌, ◌≤◌, ◌<◌, Bool, true, false, cond, List, [], ◌∷◌, ◌++◌, length, map, filter, Some, sym, ap, ◌∙◌, subst, arith, le-ltb, lt-ltb}
+use Rattle.std.proofs.Common.{◌≡◌, ℕ, zero, suc, ◌+◌, ◌≤◌, ◌<◌, Bool, true, false, cond, List, [], ◌∷◌, ◌++◌, length, map, filter, Some, ap, ◌∙◌, arith, le-ltb, lt-ltb, nat_lt, sym, subst}
 use Rattle.std.specs.Str.{chars, IsUtf8}
 use Rattle.std.proofs.lemmas.List.{append-nil, map-append}
 use Rattle.std.proofs.lemmas.List.Elements.{filter-append}
@@ -14,6 +14,7 @@ use Rattle.lsp_text.proofs.TextLines.LineLemmas.{in_content_line, line_has_stop}
 use Rattle.lsp_text.proofs.Positions.PastLemmas.{past_line}
 use Rattle.lsp_text.proofs.PlainLemmas.{units_total}
 use Rattle.lsp_long_lines.specs.LongLines.{is_long, line_end, over_limit}
+use Rattle.std.proofs.lemmas.Grind.{common_steps}
 
 -- The greatest character denotes the end of each line.
 pub denoted-past_end : (encoding : Encoding) (bytes : List ℕ) (line : ℕ) → IsUtf8 bytes → length bytes ≤ 2147483648
@@ -41,18 +42,12 @@ line_end-character units text line there =
 pub is_long-false : (units : ℕ → ℕ) (text : List ℕ) (line : ℕ) (stop : Position) → line ≤ line_ends text
     → stop ≡ line_end units text line → stop.character ≤ 100 →
     false ≡ is_long units text line
-is_long-false units text line stop there end few =
-    let count : stop.character ≡ units_between units text (line_start text line) (line_stop text line) =
-    ap (λ (p : Position). p.character) end ∙ line_end-character units text line there in
-    sym (le-ltb 100 (units_between units text (line_start text line) (line_stop text line)) (omega arith))
+is_long-false units text line stop there end few = grind (arith, common_steps, nat_lt, le-ltb, line_end-character)
 
 pub is_long-true : (units : ℕ → ℕ) (text : List ℕ) (line : ℕ) (stop : Position) → line ≤ line_ends text
     → stop ≡ line_end units text line → 100 < stop.character →
     true ≡ is_long units text line
-is_long-true units text line stop there end many =
-    let count : stop.character ≡ units_between units text (line_start text line) (line_stop text line) =
-    ap (λ (p : Position). p.character) end ∙ line_end-character units text line there in
-    sym (lt-ltb 100 (units_between units text (line_start text line) (line_stop text line)) (omega arith))
+is_long-true units text line stop there end many = grind (arith, common_steps, nat_lt, lt-ltb, line_end-character)
 
 -- One number more.
 numbers_from-suc : (first count : ℕ) → numbers_from first (suc count) ≡ numbers_from first count ++ (first + count) ∷ []
@@ -77,13 +72,7 @@ ranges_before-more : (units : ℕ → ℕ) (text : List ℕ) (line : ℕ) (long 
     ranges_before units text (line + 1) ≡ ranges_before units text line ++ map (over_limit units text)
     (cond long (line ∷ []) [])
 ranges_before-more units text line long is =
-    let test = is_long units text in
-    let earlier = filter test (numbers_from 0 line) in
-    let last : filter test (line ∷ []) ≡ cond long (line ∷ []) [] = ap (λ (b : Bool). cond b (line ∷ []) []) (sym is) in
-    ap (map (over_limit units text))
-    (ap (filter test) (numbers_from-more line) ∙ filter-append test (numbers_from 0 line) (line ∷ [])
-    ∙ ap (λ (ks : List ℕ). earlier ++ ks) last)
-    ∙ map-append (over_limit units text) earlier (cond long (line ∷ []) [])
+    grind (arith, common_steps, filter, numbers_from-more, filter-append, map-append)
 
 pub ranges-long : (units : ℕ → ℕ) (bytes shown : List ℕ) (line : ℕ) (ranges : List Range) (range : Range)
     → shown ≡ bytes → true ≡ is_long units (chars shown) line →

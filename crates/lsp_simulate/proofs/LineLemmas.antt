@@ -34,10 +34,7 @@ whole_documents end (item ∷ items) =
     (whole_documents end items)
 
 pub whole_waiting : (to_server to_client : ℕ) → AreWholeLines (waiting_line to_server to_client)
-whole_waiting m n =
-    inr (ends_line (codes "waiting ") (decimal m ++ (codes " " ++ (decimal n ++ codes "\n")))
-    (ends_line (decimal m) (codes " " ++ (decimal n ++ codes "\n"))
-    (ends_line (codes " ") (decimal n ++ codes "\n") (ends_line (decimal n) (codes "\n") ([], refl)))))
+whole_waiting m n = inr (codes "waiting " ++ (decimal m ++ (codes " " ++ decimal n)), simp append_assoc)
 
 -- ---- some first lines
 

@@ -1,5 +1,5 @@
 -- An option that stands in for another.
-use Rattle.lsp_simulate.proofs.Prelude.{◌≡◌, ◌∙◌, ℕ, List, [], ap, refl, subst, sym, inl, inr, false, true, codes, unwrap_or, Option, Some, None, IfSome, IsSome, digits_value, without_leading_plus, ArgMatches, AreServerLimits, HasEither, HasNumber, IsFlag}
+use Rattle.lsp_simulate.proofs.Prelude.{◌≡◌, ◌∙◌, ℕ, List, [], ap, refl, sym, inl, inr, false, true, codes, unwrap_or, Option, Some, None, IfSome, IsSome, digits_value, without_leading_plus, ArgMatches, AreServerLimits, HasEither, HasNumber, IsFlag}
 use Rattle.std.specs.Option.{option_or}
 use Rattle.lsp_frame.specs.Limits.{LimitsData, first_out_of_range}
 
@@ -54,14 +54,10 @@ module _ (options : ArgMatches) (body text docs changes : ℕ)
       let same : given ≡ record (strict body text docs changes) { lenient = given.lenient } =
       with_flag ∙ ap (λ (l : LimitsData). record l { lenient = given.lenient }) is in
       record {
-        max_body = subst (HasEither options (codes "server-max-body") (codes "max-body"))
-            (sym (ap (λ (l : LimitsData). l.max_body) same)) has_body;
-        max_text = subst (HasEither options (codes "server-max-text") (codes "max-text"))
-            (sym (ap (λ (l : LimitsData). l.max_text) same)) has_text;
-        max_docs = subst (HasEither options (codes "server-max-docs") (codes "max-docs"))
-            (sym (ap (λ (l : LimitsData). l.max_docs) same)) has_docs;
-        max_changes = subst (HasEither options (codes "server-max-changes") (codes "max-changes"))
-            (sym (ap (λ (l : LimitsData). l.max_changes) same)) has_changes;
+        max_body = rw (ap (λ (l : LimitsData). l.max_body) same) has_body;
+        max_text = rw (ap (λ (l : LimitsData). l.max_text) same) has_text;
+        max_docs = rw (ap (λ (l : LimitsData). l.max_docs) same) has_docs;
+        max_changes = rw (ap (λ (l : LimitsData). l.max_changes) same) has_changes;
         in_range = ap first_out_of_range same ∙ within;
         lenient = flag;
       }

@@ -3,7 +3,7 @@ pub use Rattle.std.proofs.Common.{Bool, Err, Global, List, Ok, OnOk, Option, Res
 pub use Rattle.std.proofs.KnownBytes.{Appends-nil, Appends-trans}
 pub use Rattle.std.proofs.lemmas.List.{drop-drop, drop-take, length-append, length-take, take-append-drop, take_all}
 pub use Rattle.std.proofs.lemmas.Result.{err_from_is_err_and}
-pub use Rattle.std.specs.Fmt.{digits, signed_decimal}
+pub use Rattle.std.specs.Fmt.{signed_decimal}
 pub use Rattle.std.specs.Io.KnownBytes.{Appends, IsAtEnd, prepend_known}
 pub use Rattle.std.specs.Prelude.{IfOk, IfSome, IsErrAnd, IsSome, None, Some, [], map, unwrap_or, ◌+◌, ◌∷◌, ◌≤◌}
 pub use Rattle.std.specs.Str.Parse.{digits_value, without_leading_plus}
@@ -12,10 +12,9 @@ pub use Rattle.clap.specs.declared.parser.matches.ArgMatches.{ArgMatches}
 pub use Rattle.lsp_message.specs.Params.{DocumentItem}
 pub use Rattle.lsp_pair.specs.Pair.{IsFitting, IsStep, PairData, are_within, can_choose_utf16, new_pair}
 pub use Rattle.lsp_program.proofs.CallLemmas.{front_after, front_before, rose_after, spends_more, stopped_after}
-pub use Rattle.lsp_program.specs.Arguments.{Choices}
 pub use Rattle.lsp_program.specs.Found.{HasNumber, IsFlag}
-pub use Rattle.lsp_program.specs.Output.{IsPrinted, IsStopped, allowed_turns}
-pub use Rattle.lsp_simulate.specs.CommandLine.{IsProgram, program_app, program_rules}
+pub use Rattle.lsp_program.specs.Output.{IsPrinted, allowed_turns}
+pub use Rattle.lsp_simulate.specs.CommandLine.{IsProgram, program_rules}
 pub use Rattle.lsp_simulate.specs.Run.{IsReported, run_fault, run_fault_text}
 pub use Rattle.lsp_simulate.specs.Session.{AppendsLines, AreSteps, AreWholeLines, IsSettingRefused, PairStep, RanSteps, ReadLines, WroteSession, WroteSteps, document_lines, end_document, end_lines, line_count, lines_from, next_line_number, pair_setting, step_line, step_lines, waiting_line}
 pub use Rattle.lsp_simulate.specs.Setting.{AreServerLimits, AreWordsReadAs, HasEither, IsFound, IsSetting}

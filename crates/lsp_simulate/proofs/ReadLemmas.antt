@@ -1,22 +1,16 @@
 -- What the words are read as.
-use Rattle.lsp_simulate.proofs.Prelude.{◌≡◌, ◌∙◌, ap, refl, subst, sym, inl, inr, false, true, List, ℕ, [], Option, Some, None, IfSome, IsSome, IsErrAnd, Result, Ok, Err, App, is_simple, matches_of, rows_of, found_of, fault_of, is_simple_and_free, ArgMatches, AreWordsReadAs, IsFound, IsSetting, Choices, IsProgram, program_app, Setting}
+use Rattle.lsp_simulate.proofs.Prelude.{◌≡◌, ◌∙◌, ap, subst, sym, inl, inr, false, true, List, ℕ, [], Option, Some, None, IfSome, IsSome, IsErrAnd, Result, Ok, Err, App, is_simple, matches_of, rows_of, found_of, fault_of, is_simple_and_free, ArgMatches, AreWordsReadAs, IsFound, IsSetting, IsProgram, Setting}
 use Rattle.clap.specs.Words.{HasKind, IsAmong, kind_of}
 use Rattle.clap.specs.declared.error.Error.{Error}
 use Rattle.clap.proofs.OnLiterals.{clap_on_literals}
 
-simple : (encodings forms : Choices) → is_simple (program_app encodings forms) ≡ true
-unfolding clap_on_literals
-simple encodings forms = refl
-
-free : (encodings forms : Choices) → is_simple_and_free (program_app encodings forms) ≡ true
-unfolding clap_on_literals
-free encodings forms = refl
-
 pub is_simple_program : (app : App) → IsProgram app → is_simple app ≡ true
-is_simple_program app p = ap is_simple p.same ∙ simple p.encodings p.forms
+unfolding clap_on_literals
+is_simple_program app p = ap is_simple p.same
 
 pub is_free_program : (app : App) → IsProgram app → is_simple_and_free app ≡ true
-is_free_program app p = ap is_simple_and_free p.same ∙ free p.encodings p.forms
+unfolding clap_on_literals
+is_free_program app p = ap is_simple_and_free p.same
 
 found_is : (found : ArgMatches) (setting : Option Setting) → IfSome setting (IsSetting found)
     → ((s : Setting) → IsSetting found s → IsSome setting) → IsFound found setting

@@ -1,6 +1,6 @@
 -- A session that is written line by line.
 -- ---- whole lines
-use Rattle.lsp_simulate.proofs.Prelude.{◌≡◌, ◌≤◌, ◌⊎◌, ◌↔◌, inl, inr, ℕ, ◌+◌, true, false, List, [], ◌∷◌, ◌++◌, length, codes, Option, Result, Ok, Err, refl, sym, ap, ◌∙◌, subst, arith, append_assoc, Appends-nil, Appends-trans, IfSome, length-append, Appends, IsAtEnd, EngineFault, ReaderState, Rose, WriterState, ports, AppendsFront, Spends, WritesWithin, IsStopped, allowed_turns, front_after, front_before, spends_more, stopped_after, DocumentItem, PairData, IsFitting, are_within, can_choose_utf16, new_pair, Setting, RunFault, Read, Write, NoMemory, BadEvent, run_fault, AppendsLines, AreSteps, AreWholeLines, IsSettingRefused, PairStep, RanSteps, ReadLines, WroteSession, WroteSteps, document_lines, end_document, end_lines, line_count, next_line_number, pair_setting, step_line, step_lines, waiting_line, Passed, AreUnderWay, IsStepLine, IsUnderWay, WroteLines, last_number, read_fault}
+use Rattle.lsp_simulate.proofs.Prelude.{◌≡◌, ◌≤◌, ◌⊎◌, ◌↔◌, inl, inr, ℕ, ◌+◌, true, false, List, [], ◌∷◌, ◌++◌, length, codes, Option, Result, Ok, Err, refl, sym, ap, ◌∙◌, subst, arith, append_assoc, Appends-nil, Appends-trans, IfSome, length-append, Appends, IsAtEnd, EngineFault, ReaderState, Rose, WriterState, ports, AppendsFront, Spends, WritesWithin, allowed_turns, front_after, front_before, spends_more, stopped_after, DocumentItem, PairData, IsFitting, are_within, can_choose_utf16, new_pair, Setting, RunFault, Read, Write, NoMemory, BadEvent, run_fault, AppendsLines, AreSteps, AreWholeLines, IsSettingRefused, PairStep, RanSteps, ReadLines, WroteSession, WroteSteps, document_lines, end_document, end_lines, line_count, next_line_number, pair_setting, step_line, step_lines, waiting_line, Passed, AreUnderWay, IsStepLine, IsUnderWay, WroteLines, last_number, read_fault}
 use Rattle.lsp_pair.specs.declared.setting.PairFault.{PairFault}
 use Rattle.lsp_pair.specs.declared.setting.PairFault.TheVariants.{NotUtf16, LimitsTooSmall}
 use Rattle.lsp_simulate.proofs.InputLemmas.{all_passed, at_least, fewer, none_spent, passed_more}
@@ -62,10 +62,12 @@ module _ (setting : Setting) (reader now : ReaderState) (before mid : WriterStat
   }
 
   -- The line of a step was cut short.
-  cut_short : (after : PairData) (line : List ℕ) (new : WriterState) (fault : EngineFault)
-      → IsStepLine pair after next line → AppendsFront mid.written new.written line → IsStopped before new fault
-      → RanSteps setting (Err Write) (ports reader before) (ports now new)
-  cut_short after line new fault step some stopped = record {
+  pub unwritten : (after : PairData) (line : List ℕ) (new : WriterState) (right : ℕ) (fault : EngineFault)
+      (given : RunFault) → given ≡ run_fault fault → IsStepLine pair after next line
+      → (fault ≡ engine.Write) ⊎ (fault ≡ engine.TooManyTurns) → AppendsFront mid.written new.written line
+      → WritesWithin {A = Unit {0}} left right mid new (Err fault)
+      → WroteSession setting (Err given) (ports reader before) (ports now new)
+  unwritten after line new right fault given is step why some calls = rw (write_fault fault given is why) (record {
     fits = way.fits;
     steps = way.steps ++ made pair after next line step ∷ [];
     pair = after;
@@ -77,19 +79,9 @@ module _ (setting : Setting) (reader now : ReaderState) (before mid : WriterStat
           (line_more after line step)
           (front_before before.written new.written (step_lines 0 way.steps ++ line) (end_lines after)
           (front_after before.written mid.written new.written (step_lines 0 way.steps) line way.written some)),
-      (fault, stopped),
+      (fault, stopped_after before mid new left right fault way.spent calls why),
     );
-  }
-
-  pub unwritten : (after : PairData) (line : List ℕ) (new : WriterState) (right : ℕ) (fault : EngineFault)
-      (given : RunFault) → given ≡ run_fault fault → IsStepLine pair after next line
-      → (fault ≡ engine.Write) ⊎ (fault ≡ engine.TooManyTurns) → AppendsFront mid.written new.written line
-      → WritesWithin {A = Unit {0}} left right mid new (Err fault)
-      → WroteSession setting (Err given) (ports reader before) (ports now new)
-  unwritten after line new right fault given is step why some calls =
-      subst (λ (f : RunFault). WroteSession setting (Err f) (ports reader before) (ports now new))
-      (sym (write_fault fault given is why))
-      (cut_short after line new fault step some (stopped_after before mid new left right fault way.spent calls why))
+  })
 
 -- ---- how a session ends
 
@@ -123,40 +115,26 @@ module _ (setting : Setting) (reader now : ReaderState) (before mid : WriterStat
       ran (Err NoMemory) mid some_read
       (step_lines 0 way.steps, end_lines pair, refl, whole_steps 0 way.steps, way.written)
 
-  bad_event : (next : ℕ) (later : Option (List ℕ)) → next ≡ next_line_number number → Passed rest 1 false later
-      → RanSteps setting (Err (BadEvent next)) (ports reader before) (ports now mid)
-  bad_event next later counted one =
-      let all : 0 + length way.steps ≡ length way.steps = omega arith in
-      let more : Passed reader.left (length way.steps + 1) false later =
-      passed_more reader.left rest later (length way.steps) 1 (length way.steps + 1) way.taken one refl in
-      ran (Err (BadEvent next)) mid
-      (fewer reader.left later (length way.steps) (length way.steps + 1) more (omega arith))
-      (counted ∙ ap next_line_number way.last ∙ next_last 0 way.steps ∙ ap next_line_number all, way.written)
-
   pub stopped : (next : ℕ) (later : Option (List ℕ)) (fault : RunFault) → next ≡ next_line_number number
       → Passed rest 1 false later → (fault ≡ NoMemory) ⊎ (fault ≡ BadEvent next)
       → WroteSession setting (Err fault) (ports reader before) (ports now mid)
-  stopped next later fault counted one (inl is) =
-      subst (λ (f : RunFault). WroteSession setting (Err f) (ports reader before) (ports now mid)) (sym is)
-      out_of_memory
+  stopped next later fault counted one (inl is) = rw is out_of_memory
   stopped next later fault counted one (inr is) =
-      subst (λ (f : RunFault). WroteSession setting (Err f) (ports reader before) (ports now mid)) (sym is)
-      (bad_event next later counted one)
+      let all : 0 + length way.steps ≡ length way.steps = omega arith in
+      let more : Passed reader.left (length way.steps + 1) false later =
+      passed_more reader.left rest later (length way.steps) 1 (length way.steps + 1) way.taken one refl in
+      rw is (ran (Err (BadEvent next)) mid
+      (fewer reader.left later (length way.steps) (length way.steps + 1) more (omega arith))
+      (counted ∙ ap next_line_number way.last ∙ next_last 0 way.steps ∙ ap next_line_number all, way.written))
 
   pub unread : (fault : EngineFault)
       → (fault ≡ engine.NoMemory) ⊎ ((fault ≡ engine.Read) ⊎ (fault ≡ engine.TooManyTurns))
       → (fault ≡ engine.Read → (now.failed ≡ true) × Rose reader.calls now.calls)
       → (fault ≡ engine.TooManyTurns → Spends reader.calls now.calls allowed_turns 0)
       → WroteSession setting (Err (read_fault fault)) (ports reader before) (ports now mid)
-  unread fault (inl is) failed spent =
-      subst (λ (f : EngineFault). WroteSession setting (Err (read_fault f)) (ports reader before) (ports now mid))
-      (sym is) out_of_memory
-  unread fault (inr (inl is)) failed spent =
-      subst (λ (f : EngineFault). WroteSession setting (Err (read_fault f)) (ports reader before) (ports now mid))
-      (sym is) (ran (Err Read) mid (inl (failed is), some_read) way.written)
-  unread fault (inr (inr is)) failed spent =
-      subst (λ (f : EngineFault). WroteSession setting (Err (read_fault f)) (ports reader before) (ports now mid))
-      (sym is) (ran (Err Read) mid (inr (spent is), some_read) way.written)
+  unread fault (inl is) failed spent = rw is out_of_memory
+  unread fault (inr (inl is)) failed spent = rw is (ran (Err Read) mid (inl (failed is), some_read) way.written)
+  unread fault (inr (inr is)) failed spent = rw is (ran (Err Read) mid (inr (spent is), some_read) way.written)
 
   pub ended : (later : Option (List ℕ)) (after : WriterState) → now.ended ≡ true → Passed rest 0 false later
       → IsAtEnd later → Appends mid.written after.written (end_lines pair)
@@ -173,14 +151,12 @@ module _ (setting : Setting) (reader now : ReaderState) (before mid : WriterStat
       → WritesWithin {A = Unit {0}} left right mid after (Err fault)
       → WroteSession setting (Err given) (ports reader before) (ports now after)
   not_ended after right fault given is (inl some) calls =
-      subst (λ (f : RunFault). WroteSession setting (Err f) (ports reader before) (ports now after))
-      (sym (is ∙ ap run_fault some.0))
+      rw (is ∙ ap run_fault some.0)
       (ran (Err NoMemory) after some_read
       (lines_after before.written mid.written after.written (step_lines 0 way.steps) (end_lines pair) way.written
       (whole_steps 0 way.steps) some.1))
   not_ended after right fault given is (inr some) calls =
-      subst (λ (f : RunFault). WroteSession setting (Err f) (ports reader before) (ports now after))
-      (sym (write_fault fault given is some.0))
+      rw (write_fault fault given is some.0)
       (ran (Err Write) after some_read (
         front_after before.written mid.written after.written (step_lines 0 way.steps) (end_lines pair) way.written
             some.1,

@@ -22,8 +22,7 @@ returns-in_err-max_changes-clause-none c = λ limits are.
 
 pub returns-in_default-clause-none : goal.returns-in_default-clause-none
 returns-in_default-clause-none c = λ limits are.
-    let within = server_within c.args.options.now c.in_ok-max_body.max_body c.in_ok-max_text.max_text
-    c.in_ok-max_docs.max_docs c.in_ok-max_changes.max_changes c.in_ok-max_body.ensures.some
+    let within = server_within c.args.options.now _ _ _ _ c.in_ok-max_body.ensures.some
     c.in_ok-max_text.ensures.some c.in_ok-max_docs.ensures.some c.in_ok-max_changes.ensures.some limits are in
     let bad : None ≡ Some c.in_default.field-0.which = sym within ∙ c.in_default.ensures in
     cc

@@ -1,4 +1,4 @@
-use Rattle.lsp_simulate.proofs.Prelude.{◌≡◌, ℕ, List, Option, false, is_some, ap, subst, Vec, Global, err_from_is_err_and, Appends, AppendsFront, Spends, allowed_turns, rose_after, spends_more, Passed, lines_in, rest, unused}
+use Rattle.lsp_simulate.proofs.Prelude.{ℕ, List, Option, false, is_some, ap, subst, Vec, Global, err_from_is_err_and, Appends, AppendsFront, Spends, allowed_turns, rose_after, spends_more, Passed, lines_in, rest, unused}
 use Rattle.lsp_simulate.proofs.InputLemmas.{none_spent, nothing_taken}
 use Rattle.lsp_simulate.proofs.SessionLemmas.{begun, ended, not_ended, stepped, stopped, unread, unwritten}
 use Rattle.lsp_simulate.proofs.session.simulate.Goals as goal
@@ -22,10 +22,8 @@ returns-in_err-text-in-Ok-Some g c =
     let one = subst (λ (line : Option (Vec ℕ Global)). Passed there (lines_in line) false after)
     c.in-Ok-Some.field-0-is c.in-Ok-Some.ensures.taken in
     rw (p.1, p.2)
-    (stopped c.args.setting (g.R.Source.seen c.args.input.now) (g.R.Source.seen c.next.new.input)
-    (g.W.Sink.seen c.args.output.now) (g.W.Sink.seen c.events.output) there c.events.turns.left c.events.number
-    c.events.pair c.events.invariant.way c.saturating_add-number.result after c.in_err-text-in-Ok-Some.field-0.0
-    c.saturating_add-number.ensures one c.in_err-text-in-Ok-Some.ensures.error)
+    (stopped _ (g.R.Source.seen c.args.input.now) (g.R.Source.seen c.next.new.input) _ _ _ _ _ _ c.events.invariant.way
+    _ _ _ c.saturating_add-number.ensures one c.in_err-text-in-Ok-Some.ensures.error)
 
 pub returns-in_err-write_given-in-Ok-Some : goal.returns-in_err-write_given-in-Ok-Some
 returns-in_err-write_given-in-Ok-Some g c =
@@ -38,12 +36,9 @@ returns-in_err-write_given-in-Ok-Some g c =
     let mid = g.W.Sink.seen c.events.output in
     let new = g.W.Sink.seen c.write_given.new.writer in
     rw p.1
-    (unwritten c.args.setting (g.R.Source.seen c.args.input.now) (g.R.Source.seen c.next.new.input)
-    (g.W.Sink.seen c.args.output.now) mid there after c.events.turns.left c.events.number
-    c.saturating_add-number.result c.events.pair c.events.invariant.way one c.saturating_add-number.ensures
-    c.step.new.pair c.in_ok-text-in-Ok-Some.text.items new c.write_given.new.turns.left
-    c.in_err-write_given-in-Ok-Some.field-0.0 p.0 p.2 c.in_ok-text-in-Ok-Some.ensures.stepped
-    c.in_err-write_given-in-Ok-Some.ensures.error
+    (unwritten _ (g.R.Source.seen c.args.input.now) (g.R.Source.seen c.next.new.input) _ mid _ _ _ _ _ _
+    c.events.invariant.way one c.saturating_add-number.ensures _ _ new _ _ _ p.2
+    c.in_ok-text-in-Ok-Some.ensures.stepped c.in_err-write_given-in-Ok-Some.ensures.error
     (subst (λ (z : List ℕ). AppendsFront mid.written new.written z) c.deref-in-Ok-Some.ensures.value
     c.in_err-write_given-in-Ok-Some.ensures.front) c.in_err-write_given-in-Ok-Some.ensures.calls)
 
@@ -56,16 +51,11 @@ events-preserved g c =
     let mid = g.W.Sink.seen c.events.output in
     let new = g.W.Sink.seen c.write_given.new.writer in
     record {
-      way = stepped c.args.setting (g.R.Source.seen c.args.input.now) (g.R.Source.seen c.next.new.input)
-          (g.W.Sink.seen c.args.output.now) mid there after c.events.turns.left c.events.number
-          c.saturating_add-number.result c.events.pair c.events.invariant.way one c.saturating_add-number.ensures
-          c.step.new.pair c.in_ok-text-in-Ok-Some.text.items new c.write_given.new.turns.left
-          c.in_ok-text-in-Ok-Some.ensures.stepped
+      way = stepped _ (g.R.Source.seen c.args.input.now) (g.R.Source.seen c.next.new.input) _ mid _ _ _ _ _ _
+          c.events.invariant.way one c.saturating_add-number.ensures _ _ new _ c.in_ok-text-in-Ok-Some.ensures.stepped
           (subst (λ (z : List ℕ). Appends mid.written new.written z) c.deref-in-Ok-Some.ensures.value
           c.in_ok-write_given-in-Ok-Some.ensures.wrote) c.in_ok-write_given-in-Ok-Some.ensures.calls.spent;
-      reads = spends_more (g.R.Source.seen c.args.input.now).calls (g.R.Source.seen c.events.input).calls
-          (g.R.Source.seen c.next.new.input).calls allowed_turns c.events.lines.turns.left
-          c.next.new.self.turns.left c.events.invariant.reads c.next.ensures.spent;
+      reads = spends_more _ _ _ _ _ _ c.events.invariant.reads c.next.ensures.spent;
     }
 
 pub returns-in_err-write_end-in-Ok-None : goal.returns-in_err-write_end-in-Ok-None
@@ -73,11 +63,8 @@ returns-in_err-write_end-in-Ok-None g c =
     let p = err_from_is_err_and c.from_residual-in_err-write_end-in-Ok-None.result
     c.from_residual-in_err-write_end-in-Ok-None.ensures.1 in
     rw p.1
-    (not_ended c.args.setting (g.R.Source.seen c.args.input.now) (g.R.Source.seen c.next.new.input)
-    (g.W.Sink.seen c.args.output.now) (g.W.Sink.seen c.events.output)
-    (rest c.events.lines (g.R.Source.seen c.events.input)) c.events.turns.left c.events.number c.events.pair
-    c.events.invariant.way (g.W.Sink.seen c.write_end.new.output) c.write_end.new.turns.left
-    c.in_err-write_end-in-Ok-None.field-0.0 p.0 p.2 c.in_err-write_end-in-Ok-None.ensures.wrote
+    (not_ended _ (g.R.Source.seen c.args.input.now) (g.R.Source.seen c.next.new.input) _ _ _ _ _ _
+    c.events.invariant.way (g.W.Sink.seen c.write_end.new.output) _ _ _ p.2 c.in_err-write_end-in-Ok-None.ensures.wrote
     c.in_err-write_end-in-Ok-None.ensures.calls)
 
 pub returns-in-Ok-None : goal.returns-in-Ok-None
@@ -87,10 +74,8 @@ returns-in-Ok-None g c =
     let none = subst (λ (line : Option (Vec ℕ Global)). Passed there (lines_in line) false after)
     c.in-Ok-None.field-0-is c.in-Ok-None.ensures.taken in
     let end = c.in-Ok-None.ensures.end (ap (λ (line : Option (Vec ℕ Global)). is_some line) c.in-Ok-None.field-0-is) in
-    ended c.args.setting (g.R.Source.seen c.args.input.now) (g.R.Source.seen c.next.new.input)
-    (g.W.Sink.seen c.args.output.now) (g.W.Sink.seen c.events.output) there c.events.turns.left c.events.number
-    c.events.pair c.events.invariant.way after (g.W.Sink.seen c.write_end.new.output) end.0 none end.1
-    c.in_ok-write_end-in-Ok-None.ensures.wrote
+    ended _ (g.R.Source.seen c.args.input.now) (g.R.Source.seen c.next.new.input) _ _ _ _ _ _ c.events.invariant.way
+    after (g.W.Sink.seen c.write_end.new.output) end.0 none end.1 c.in_ok-write_end-in-Ok-None.ensures.wrote
 
 pub returns-in-Err : goal.returns-in-Err
 returns-in-Err g c =
@@ -98,13 +83,10 @@ returns-in-Err g c =
     let mid = g.R.Source.seen c.events.input in
     let now = g.R.Source.seen c.next.new.input in
     rw c.read_fault.ensures
-    (unread c.args.setting input now (g.W.Sink.seen c.args.output.now) (g.W.Sink.seen c.events.output)
-    (rest c.events.lines mid) c.events.turns.left c.events.number c.events.pair c.events.invariant.way
-    c.in-Err.fault c.in-Err.ensures.error
+    (unread _ input now _ _ _ _ _ _ c.events.invariant.way c.in-Err.fault c.in-Err.ensures.error
     (λ is. (
       (c.in-Err.ensures.failed is).0,
       rose_after input.calls mid.calls now.calls c.events.invariant.reads.least (c.in-Err.ensures.failed is).1,
     ))
     (λ is. subst (λ (n : ℕ). Spends input.calls now.calls allowed_turns n) (c.in-Err.ensures.none_left is)
-    (spends_more input.calls mid.calls now.calls allowed_turns c.events.lines.turns.left c.next.new.self.turns.left
-    c.events.invariant.reads c.next.ensures.spent)))
+    (spends_more _ _ _ _ _ _ c.events.invariant.reads c.next.ensures.spent)))

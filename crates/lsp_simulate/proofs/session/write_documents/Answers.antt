@@ -7,9 +7,7 @@ returns-in_err-line-clause-wrote g c =
     let p = err_from_is_err_and c.from_residual.result c.from_residual.ensures.1 in
     rw (p.1, p.2) (inl (
       refl,
-      some_documents c.args.end.now c.args.store.now.table (g.W.Sink.seen c.args.output.now).written
-          (g.W.Sink.seen c.loop-document.output).written c.loop-document.document-iterator
-          c.loop-document.invariant.lines,
+      some_documents _ _ _ _ _ c.loop-document.invariant.lines,
     ))
 
 pub returns-in_err-write_given-clause-wrote : goal.returns-in_err-write_given-clause-wrote
@@ -20,9 +18,7 @@ returns-in_err-write_given-clause-wrote g c =
     let after = (g.W.Sink.seen c.write_given.new.writer).written in
     rw (p.1, p.2) (inr (
       c.in_err-write_given.ensures.error,
-      cut_document c.args.end.now c.args.store.now.table (g.W.Sink.seen c.args.output.now).written before after
-          c.loop-document.document-iterator c.next.new.self c.in-Some.document c.in_ok-line.line.items
-          c.loop-document.invariant.lines c.in-Some.ensures.steps c.in_ok-line.ensures
+      cut_document _ _ _ _ after _ _ _ _ c.loop-document.invariant.lines c.in-Some.ensures.steps c.in_ok-line.ensures
           (subst (λ (z : List ℕ). AppendsFront before after z) c.deref.ensures.value
           c.in_err-write_given.ensures.front),
     ))
@@ -32,13 +28,10 @@ loop-document-preserved g c =
     let before = g.W.Sink.seen c.loop-document.output in
     let after = g.W.Sink.seen c.write_given.new.writer in
     record {
-      lines = one_document c.args.end.now c.args.store.now.table (g.W.Sink.seen c.args.output.now).written
-          before.written after.written c.loop-document.document-iterator c.next.new.self c.in-Some.document
-          c.in_ok-line.line.items c.loop-document.invariant.lines c.in-Some.ensures.steps c.in_ok-line.ensures
+      lines = one_document _ _ _ _ after.written _ _ _ _ c.loop-document.invariant.lines c.in-Some.ensures.steps
+          c.in_ok-line.ensures
           (subst (λ (z : List ℕ). Appends before.written after.written z) c.deref.ensures.value
           c.in_ok-write_given.ensures.wrote);
       well = λ was. c.in_ok-write_given.ensures.calls.well (c.loop-document.invariant.well was);
-      spent = spends_more (g.W.Sink.seen c.args.output.now).calls before.calls after.calls c.args.turns.now.left
-          c.loop-document.turns.left c.write_given.new.turns.left c.loop-document.invariant.spent
-          c.in_ok-write_given.ensures.calls.spent;
+      spent = spends_more _ _ _ _ _ _ c.loop-document.invariant.spent c.in_ok-write_given.ensures.calls.spent;
     }

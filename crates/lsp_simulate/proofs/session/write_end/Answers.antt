@@ -1,4 +1,4 @@
-use Rattle.lsp_simulate.proofs.Prelude.{◌≡◌, ℕ, List, Err, refl, inl, inr, ap, ◌∙◌, subst, err_from_is_err_and, Appends, AppendsFront, end_lines, waiting_line, spends_more}
+use Rattle.lsp_simulate.proofs.Prelude.{◌≡◌, ℕ, List, refl, inl, inr, ap, ◌∙◌, subst, err_from_is_err_and, Appends, AppendsFront, end_lines, waiting_line, spends_more}
 use Rattle.lsp_store.specs.Opened.{StoreData}
 use Rattle.lsp_client.specs.Step.{ClientData}
 use Rattle.lsp_server.specs.Step.{ServerData}
@@ -48,10 +48,8 @@ returns-in_err-write_documents-clause-calls g c =
     let p = err_from_is_err_and c.from_residual-in_err-write_documents.result
     c.from_residual-in_err-write_documents.ensures.1 in
     rw (p.1, p.2)
-    (within_after (g.W.Sink.seen c.args.output.now) (g.W.Sink.seen c.write_given.new.writer)
-    (g.W.Sink.seen c.write_documents.new.output) c.args.turns.now.left c.write_given.new.turns.left
-    c.write_documents.new.turns.left (Err c.in_err-write_documents.field-0.0)
-    c.in_ok-write_given.ensures.calls.spent c.in_ok-write_given.ensures.calls.well
+    (within_after (g.W.Sink.seen c.args.output.now) _ _ _ _ _ _ c.in_ok-write_given.ensures.calls.spent
+    c.in_ok-write_given.ensures.calls.well
     c.in_err-write_documents.ensures.calls)
 
 pub returns-clause-wrote : goal.returns-clause-wrote
@@ -73,12 +71,8 @@ returns-clause-wrote g c =
 pub returns-clause-calls : goal.returns-clause-calls
 returns-clause-calls g c =
     let before = g.W.Sink.seen c.args.output.now in
-    let first = g.W.Sink.seen c.write_given.new.writer in
     let second = g.W.Sink.seen c.write_documents.new.output in
-    within_after before second (g.W.Sink.seen c.write_documents-2.new.output) c.args.turns.now.left
-    c.write_documents.new.turns.left c.write_documents-2.new.turns.left c.write_documents-2.result
-    (spends_more before.calls first.calls second.calls c.args.turns.now.left c.write_given.new.turns.left
-    c.write_documents.new.turns.left c.in_ok-write_given.ensures.calls.spent
-    c.in_ok-write_documents.ensures.calls.spent)
+    within_after before second (g.W.Sink.seen c.write_documents-2.new.output) _ _ _ c.write_documents-2.result
+    (spends_more _ _ _ _ _ _ c.in_ok-write_given.ensures.calls.spent c.in_ok-write_documents.ensures.calls.spent)
     (λ was. c.in_ok-write_documents.ensures.calls.well (c.in_ok-write_given.ensures.calls.well was))
     c.write_documents-2.ensures.calls
