@@ -60,6 +60,7 @@ pub fn digits(number: Option<u64>, buffer: &mut Buffer) -> &str
 ///
 /// # Errors
 /// A flush that failed, or too many that were interrupted.
+#[tactic(auto, using(crate::proofs::FlushLemmas::flushed_of))]
 pub fn flush<W: Sink>(output: &mut W) -> Result<(), EngineFault>
     ensures kept { Keeps (W.seen output.old).written (W.seen output.new).written }
     ensures flushed { IsFlushed (W.seen output.old) (W.seen output.new) result }

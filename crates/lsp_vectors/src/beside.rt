@@ -135,16 +135,25 @@ fn found_alike(lines: &Lines, text: &str, characters: &[char], encoding: Encodin
     let mut compared = 0u64;
     for index in 0..characters.len() + 1 {
         let offset = place_of(characters, index);
-        if lines.is_place(text, offset) {
-            if lines.position(text, encoding, offset)
-                != exact_position(characters, encoding, index)
-            {
-                return None;
-            }
-            compared = compared.saturating_add(1);
+        let Some(found) = position_at(lines, text, encoding, offset) else {
+            continue;
+        };
+        if found != exact_position(characters, encoding, index) {
+            return None;
         }
+        compared = compared.saturating_add(1);
     }
     Some(compared)
+}
+
+/// Returns the exact position of a byte offset by known lines, if it has one.
+fn position_at(lines: &Lines, text: &str, encoding: Encoding, offset: usize) -> Option<Position>
+    requires { AreLinesOf lines.now text.now }
+{
+    if !lines.is_place(text, offset) {
+        return None;
+    }
+    Some(lines.position(text, encoding, offset))
 }
 
 /// Returns the characters of a text.

@@ -25,24 +25,8 @@ pub fn session_expected(alloc: Global, encoding: Encoding, messages: Value) -> R
     Ok(json!(in alloc; {"answers": answers, "documents": documents})?)
 }
 
-/// Why a message changed nothing.
-#[derive(Clone, Copy)]
-enum Refusal {
-    Params(ParamsFault),
-    Store(StoreFault),
-}
-
-impl From<ParamsFault> for Refusal {
-    fn from(fault: ParamsFault) -> Refusal {
-        Refusal::Params(fault)
-    }
-}
-
-impl From<StoreFault> for Refusal {
-    fn from(fault: StoreFault) -> Refusal {
-        Refusal::Store(fault)
-    }
-}
+/// What the store says of a message, or why its params aren't those of one.
+type Taken = Result<Result<(), StoreFault>, ParamsFault>;
 
 /// Takes a message, and returns the word for what came of it.
 fn step(
@@ -63,34 +47,26 @@ fn step(
         _ => bail!("a message is about a document"),
     };
     match taken {
-        Ok(()) => Ok("changed"),
-        Err(Refusal::Params(ParamsFault::InvalidParams)) => Ok(INVALID),
-        Err(Refusal::Params(ParamsFault::NoMemory)) => bail!("out of memory"),
-        Err(Refusal::Store(fault)) => word_of(fault),
+        Ok(Ok(())) => Ok("changed"),
+        Ok(Err(fault)) => word_of(fault),
+        Err(ParamsFault::InvalidParams) => Ok(INVALID),
+        Err(ParamsFault::NoMemory) => bail!("out of memory"),
     }
 }
 
-fn open(alloc: Global, store: &mut Store, params: Option<Value>) -> Result<(), Refusal> {
+fn open(alloc: Global, store: &mut Store, params: Option<Value>) -> Taken {
     let params = params_open(alloc, params)?;
-    store.open(params.uri, params.language, params.version, params.text)?;
-    Ok(())
+    Ok(store.open(params.uri, params.language, params.version, params.text))
 }
 
-fn change(
-    alloc: Global,
-    store: &mut Store,
-    encoding: Encoding,
-    params: Option<Value>,
-) -> Result<(), Refusal> {
+fn change(alloc: Global, store: &mut Store, encoding: Encoding, params: Option<Value>) -> Taken {
     let params = params_change(alloc, params)?;
-    store.change(&params.uri, params.version, encoding, &params.changes)?;
-    Ok(())
+    Ok(store.change(&params.uri, params.version, encoding, &params.changes))
 }
 
-fn close(alloc: Global, store: &mut Store, params: Option<Value>) -> Result<(), Refusal> {
+fn close(alloc: Global, store: &mut Store, params: Option<Value>) -> Taken {
     let params = params_close(alloc, params)?;
-    store.close(&params.uri)?;
-    Ok(())
+    Ok(store.close(&params.uri))
 }
 
 fn documents_value(alloc: Global, store: &Store) -> Result<Value> {

@@ -3,7 +3,7 @@
 use crate::answer::Left;
 use anyhow::Result;
 use lsp_edit::Change;
-use lsp_text::{Position, Range};
+use lsp_text::Range;
 use serde_json::{Value, json};
 use std::alloc::Global;
 
@@ -26,20 +26,13 @@ fn changes_value(alloc: Global, changes: Vec<Change>) -> Result<Value> {
 fn change_value(alloc: Global, change: Change) -> Result<Value> {
     let Change { range, text } = change;
     match range {
-        Some(range) => {
-            let range = range_value(alloc, range)?;
-            Ok(json!(in alloc; {"range": range, "text": text})?)
-        }
+        Some(Range { start, stop }) => Ok(json!(in alloc; {
+            "range": {
+                "start": {"line": start.line, "character": start.character},
+                "end": {"line": stop.line, "character": stop.character}
+            },
+            "text": text
+        })?),
         None => Ok(json!(in alloc; {"text": text})?),
     }
-}
-
-fn range_value(alloc: Global, range: Range) -> Result<Value> {
-    let start = position_value(alloc, range.start)?;
-    let end = position_value(alloc, range.stop)?;
-    Ok(json!(in alloc; {"start": start, "end": end})?)
-}
-
-fn position_value(alloc: Global, position: Position) -> Result<Value> {
-    Ok(json!(in alloc; {"line": position.line, "character": position.character})?)
 }
