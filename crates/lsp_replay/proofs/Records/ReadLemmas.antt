@@ -149,8 +149,8 @@ held_ordered P Greater a b c p q r = r
 
 held_put : (k : List ℕ) (d : Data) (ms : Members) → IsHeld d → MembersAreHeld ms → MembersAreHeld (put k d ms)
 held_put k d no_members p q = (p, tt)
-held_put k d (member l e ms) p q = held_ordered MembersAreHeld _ (member k d (member l e ms)) (member l d ms) (member l e (put k d ms))
-    (p, q) (p, q.1) (q.0, held_put k d ms p q.1)
+held_put k d (member l e ms) p q = held_ordered MembersAreHeld _ (member k d (member l e ms)) (member l d ms)
+    (member l e (put k d ms)) (p, q) (p, q.1) (q.0, held_put k d ms p q.1)
 
 fits_negative : (n : ℕ) → 0 < n → n ≤ 2 ^ 63 → FitsSigned w64 (neg_ℤ (pos n))
 fits_negative zero some small = absurd (omega arith)

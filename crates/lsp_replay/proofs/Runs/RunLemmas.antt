@@ -190,8 +190,8 @@ unread_by : (start : RunStart) (state : PortState) (OnePart : Type 0) (input : L
 unread_by start state OnePart input received_now log reads rest done fault (inl is) failed not_ended =
     subst (λ (f : EngineFault). IsAnswer start state OnePart input received_now (Err f)) (sym is)
     (of_records start state OnePart input received_now log reads (Err Read) (λ _ _. done)
-    (open_none (last_of start.run_output log) state.ended log.rest (start.run_output log.records).stop (failed is)) done.1
-    (failed is, done.0, rest))
+    (open_none (last_of start.run_output log) state.ended log.rest (start.run_output log.records).stop (failed is))
+    done.1 (failed is, done.0, rest))
 unread_by start state OnePart input received_now log reads rest done fault (inr is) failed not_ended =
     subst (λ (f : EngineFault). IsAnswer start state OnePart input received_now (Err f)) (sym is)
     (of_done start state OnePart input received_now log reads (Err TooManyTurns) refl done
