@@ -10,10 +10,6 @@ use Rattle.lsp_replay.proofs.Canonical.SettledLemmas.{IsSettledChange, settled_c
 
 -- ---- what holds of a session whatever is judged
 
-both : (P : Judged → Type 0) (b : Bool) (x y : Judged) → P x → P y → P (if b then x else y)
-both P true x y p q = p
-both P false x y p q = q
-
 module _ (P : Judged → Type 0) (s : Session) where
   pub of_server : P (judged recorded s) → P (judged bad s) → ((encoding : Encoding)
       → P (judged recorded (record s { server = with_encoding s.server encoding; expected = None })))

@@ -39,20 +39,9 @@ no_text_literal : (name : List ℕ) (t : Token) (bytes : List ℕ) → HasText t
 no_text_literal name t bytes has = either_token (starts_with nat_eq bytes name && ends_word (drop (length name) bytes))
     t Token.bad has tt
 
-words : (a b c : Bool) (t e f g : Token) → HasText t → HasText e → HasText f → HasText g
-    → HasText (cond a t (cond b e (cond c f g)))
-words true b c t e f g p q r o = p
-words false true c t e f g p q r o = q
-words false false true t e f g p q r o = r
-words false false false t e f g p q r o = o
-
 no_text_word : (t : List ℕ) → HasText (word t)
 unfolding word
-no_text_word t =
-    words (head t == 116) (head t == 102) (head t == 110) (literal true_text (Token.boolean true) t)
-    (literal false_text (Token.boolean false) t) (literal null_text Token.null t) (number_before t (after_number t))
-    (no_text_literal true_text (Token.boolean true) t tt) (no_text_literal false_text (Token.boolean false) t tt)
-    (no_text_literal null_text Token.null t tt) (no_text_number t (after_number t))
+no_text_word t = grind (arith, common_steps, either_token, no_text_literal, no_text_number)
 
 no_text_operator : (x : ℕ) → LexemeText (operator_lexeme x)
 no_text_operator x = grind (arith, common_steps)
