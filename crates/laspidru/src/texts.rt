@@ -1,6 +1,6 @@
 //! The version of the library, what its codes mean, and the document of a message.
 
-ghost use Rattle.std.specs.Prelude.{◌≡◌, ◌≢◌, ◌⊎◌, option_map, slice_get};
+ghost use Rattle.std.specs.Prelude.{◌≡◌, ◌≢◌, ◌⊎◌, map, option_map, slice_get};
 ghost use Rattle.lsp_message.specs.Message.{reading};
 ghost use Rattle.lsp_message.specs.Incoming.{incoming_of};
 ghost use Rattle.lsp_message.specs.Seen.{incoming_view};
@@ -64,12 +64,20 @@ pub extern "C" fn laspidru_version() -> u32
     VERSION
 }
 
+/// Returns a text by its number.
+fn text_at(texts: &[&'static str], number: u32) -> Option<&'static str>
+    ensures { option_map (λ text. text.now) result
+        ≡ slice_get (map (λ text. text.now) texts.now) number }
+{
+    let text = texts.get(number as usize)?;
+    Some(*text)
+}
+
 /// Returns the name of a code and what it means.
 fn text_of(code: u32) -> Option<&'static str>
     ensures { option_map (λ text. text.now) result ≡ slice_get code_texts code }
 {
-    let text = TEXTS.as_slice().get(code as usize)?;
-    Some(*text)
+    text_at(TEXTS.as_slice(), code)
 }
 
 /// Copies the name of a code and what it means from `start` on, as many bytes as `out` has room
