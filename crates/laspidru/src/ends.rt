@@ -199,6 +199,14 @@ pub extern "C" fn laspidru_take(
     })
 }
 
+/// Copies the body that an end has buffered.
+fn end_body(held: &End, start: usize, out: &mut [u8], copied: &mut usize) -> u32
+    ensures answer { IsBodyAnswer held.now.stream.framing start result out.old out.new copied.new }
+    ensures unchanged { result ≢ OK → (out.new ≡ out.old) × (copied.new ≡ copied.old) }
+{
+    held.stream.copy_body(start, out, copied)
+}
+
 /// Copies the bytes of the body of the message that an end took last, or that a framer has
 /// buffered, from `start` on, as many as `out` has room for, and returns how many. The next call of
 /// `laspidru_take` or `laspidru_framer_next` releases it. Codes, in this order: EMPTY, OTHER_KIND,
@@ -220,7 +228,7 @@ pub extern "C" fn laspidru_body(
         handle,
         alloc,
         Object::Framer(framer) => copy_body(framer, start, out, copied),
-        Object::End(held) => held.stream.copy_body(start, out, copied),
+        Object::End(held) => end_body(held, start, out, copied),
     )
 }
 
