@@ -27,6 +27,7 @@ pub(crate) enum Scalar<'a> {
 
 /// Reads a value whose arrays and objects nest at most `depth` deep.
 #[inline(always)]
+#[tactic(auto, using(crate::proofs::Openings::first_tokens))]
 pub(crate) fn read_scalar<'a>(reader: &mut Reader<'a>, depth: usize) -> Result<Scalar<'a>, Invalid>
     ensures ok { IfOk result (λ s. (d : Data) × (value_at depth reader.old ≡ Some (d, reader.new))
         × (scalar_data s ≡ kept d)) }
