@@ -1,8 +1,8 @@
 //! Letters that are typed and deleted again, and documents that are closed and opened again: how
 //! many blocks and slots are left of them.
 
-use crate::text::made_text;
-use crate::timing::{Row, Work, done, time};
+use crate::text::{made_text, module_uri};
+use crate::timing::{done, time};
 use lsp_buffer::TextBuffer;
 use lsp_edit::MAX_TEXT;
 use ordered_map::OrderedMap;
@@ -18,43 +18,33 @@ const DOCUMENTS: u32 = 100;
 
 /// Types and deletes so many letters a round, and closes and opens so many documents.
 pub fn run<R: Runtime + AllocGlobal>(rt: &R, count: usize) -> io::Result<()> {
-    let mut typing = done(Typing::new(rt.alloc(), count))?;
+    let alloc = rt.alloc();
+    let mut text = done(buffered(alloc))?;
     let what = "blocks of a text after letters were typed and deleted, letters";
-    time(rt, Row::new(what, count, 1), &mut typing)?;
-    let mut opening = done(Opening::new(rt.alloc(), count))?;
+    time(rt, what, count, 1, |_| typed(&mut text, count))?;
+    let mut table = done(opened(alloc))?;
     let what = "slots of a table after documents were closed and opened, documents";
-    time(rt, Row::new(what, count, 1), &mut opening)
+    time(rt, what, count, 1, |_| reopened(&mut table, alloc, count))
 }
 
-/// A text, and how many letters are typed in its middle.
-#[derive(Drop)]
-struct Typing {
-    text: TextBuffer,
-    letters: usize,
-}
-
-impl Typing {
-    fn new(alloc: Global, letters: usize) -> Option<Self> {
-        let text = made_text(alloc, SIZE).ok()?;
-        if text.len() > MAX_TEXT {
-            return None;
-        }
-        let text = TextBuffer::new(alloc, text).ok()?;
-        Some(Typing { text, letters })
+fn buffered(alloc: Global) -> Option<TextBuffer> {
+    let text = made_text(alloc, SIZE).ok()?;
+    if text.len() > MAX_TEXT {
+        return None;
     }
+    TextBuffer::new(alloc, text).ok()
 }
 
-impl Work for Typing {
-    fn once(&mut self) -> Option<usize> {
-        let middle = self.text.len() / 2;
-        for letter in 0..self.letters {
-            put_letter(&mut self.text, middle.saturating_add(letter))?;
-        }
-        for letter in (0..self.letters).rev() {
-            delete_letter(&mut self.text, middle.saturating_add(letter))?;
-        }
-        Some(self.text.block_count())
+/// Types so many letters in the middle of a text, and deletes them again.
+fn typed(text: &mut TextBuffer, letters: usize) -> Option<usize> {
+    let middle = text.len() / 2;
+    for letter in 0..letters {
+        put_letter(text, middle.saturating_add(letter))?;
     }
+    for letter in (0..letters).rev() {
+        delete_letter(text, middle.saturating_add(letter))?;
+    }
+    Some(text.block_count())
 }
 
 fn put_letter(text: &mut TextBuffer, at: usize) -> Option<()> {
@@ -72,40 +62,26 @@ fn delete_letter(text: &mut TextBuffer, at: usize) -> Option<()> {
     text.replace_range(at, at + 1, "").ok()
 }
 
-/// A table with some documents, and how often one is closed and opened again.
-#[derive(Drop)]
-struct Opening {
-    alloc: Global,
-    table: OrderedMap<u32>,
-    count: usize,
+/// Returns a table with some documents.
+fn opened(alloc: Global) -> Option<OrderedMap<u32>> {
+    let mut table = OrderedMap::new(alloc);
+    for number in 0..DOCUMENTS {
+        open(&mut table, alloc, number)?;
+    }
+    Some(table)
 }
 
-impl Opening {
-    fn new(alloc: Global, count: usize) -> Option<Self> {
-        let mut table = OrderedMap::new(alloc);
-        for number in 0..DOCUMENTS {
-            open(&mut table, alloc, number)?;
-        }
-        Some(Opening {
-            alloc,
-            table,
-            count,
-        })
+/// Closes the document that was opened first, and opens it again, so often.
+fn reopened(table: &mut OrderedMap<u32>, alloc: Global, count: usize) -> Option<usize> {
+    for _ in 0..count {
+        let number = close_first(table)?;
+        open(table, alloc, number)?;
     }
-}
-
-impl Work for Opening {
-    fn once(&mut self) -> Option<usize> {
-        for _ in 0..self.count {
-            let number = close_first(&mut self.table)?;
-            open(&mut self.table, self.alloc, number)?;
-        }
-        Some(self.table.slots())
-    }
+    Some(table.slots())
 }
 
 fn open(table: &mut OrderedMap<u32>, alloc: Global, number: u32) -> Option<()> {
-    let uri = format!(in alloc; "file:///home/user/project/src/module_{number}.rs").ok()?;
+    let uri = module_uri(alloc, number).ok()?;
     table.insert_last(uri, number).ok()
 }
 

@@ -1,7 +1,7 @@
 //! Batches of changes of a text, beside `replace_range` on a text whose line starts are kept.
 
 use crate::text::{Plain, keystrokes, lines_of, made_text};
-use crate::timing::{Row, Work, done, time};
+use crate::timing::{done, time};
 use lsp_edit::{Change, IndexedText, MAX_OLD_TEXT, MAX_TEXT, fits};
 use lsp_text::Encoding;
 use std::alloc::Global;
@@ -20,50 +20,59 @@ static BATCHES: [(usize, u32, u32); 8] = [
     (4_000_000, 10_000, 2),
 ];
 
-/// What is done with a batch.
-#[derive(Clone, Copy)]
-enum Call {
-    Canonical,
-    Text,
-    Replace,
-}
-
-static CALLS: [(Call, &str); 3] = [
-    (Call::Canonical, "canonical batch of"),
-    (Call::Text, "text and lines after"),
-    (Call::Replace, "as many replace_range as"),
-];
-
 /// Times batches of letters all over texts.
 pub fn run<R: Runtime + AllocGlobal>(rt: &R) -> io::Result<()> {
     for (size, count, repeats) in &BATCHES {
         let text = done(indexed(rt.alloc(), *size))?;
         let changes = keystrokes(rt.alloc(), *count, 2, lines_of(*size))?;
-        let mut batch = Batch {
-            alloc: rt.alloc(),
-            text: &text,
-            changes: &changes,
-            count: *count,
-            plain: Plain::new(rt.alloc(), *size)?,
-            takes_out: 0,
-            call: Call::Canonical,
-        };
-        time_calls(rt, &mut batch, *repeats)?;
+        time_batch(rt, &text, &changes, *count, *repeats)?;
+        time_plain(rt, *size, *count, *repeats)?;
     }
     Ok(())
 }
 
-fn time_calls<R: Runtime + AllocGlobal>(
+fn time_batch<R: Runtime + AllocGlobal>(
     rt: &R,
-    batch: &mut Batch<'_>,
+    text: &IndexedText,
+    changes: &[Change],
+    count: u32,
     repeats: u32,
 ) -> io::Result<()> {
-    for (call, words) in &CALLS {
-        let what = format!(in rt.alloc(); "{words} {} changes, bytes", batch.count)?;
-        batch.call = *call;
-        time(rt, Row::new(&what, batch.text.len(), repeats), batch)?;
-    }
-    Ok(())
+    let alloc = rt.alloc();
+    let what = format!(in alloc; "canonical batch of {count} changes, bytes")?;
+    time(
+        rt,
+        &what,
+        text.len(),
+        repeats,
+        |_| canonical_len(text, changes),
+    )?;
+    let what = format!(in alloc; "text and lines after {count} changes, bytes")?;
+    time(
+        rt,
+        &what,
+        text.len(),
+        repeats,
+        |_| text_len(alloc, text, changes),
+    )
+}
+
+/// Times so many keystrokes in a text, each of which puts a letter in, or takes it out again.
+fn time_plain<R: Runtime + AllocGlobal>(
+    rt: &R,
+    size: usize,
+    count: u32,
+    repeats: u32,
+) -> io::Result<()> {
+    let what = format!(in rt.alloc(); "as many replace_range as {count} changes, bytes")?;
+    let mut plain = Plain::new(rt.alloc(), size)?;
+    time(
+        rt,
+        &what,
+        size,
+        repeats,
+        |turn| replace_all(&mut plain, count, turn % 2),
+    )
 }
 
 /// Returns a made text in blocks; none if it is too long, or memory runs out.
@@ -73,34 +82,6 @@ fn indexed(alloc: Global, size: usize) -> Option<IndexedText> {
         return None;
     }
     IndexedText::new(alloc, text).ok()
-}
-
-/// A text, and letters that are put into it.
-#[derive(Drop)]
-struct Batch<'a> {
-    alloc: Global,
-    text: &'a IndexedText,
-    changes: &'a [Change],
-    /// How many changes there are.
-    count: u32,
-    plain: Plain,
-    /// 1 where the plain program has the letters, and is to take them out again.
-    takes_out: u32,
-    call: Call,
-}
-
-impl Work for Batch<'_> {
-    fn once(&mut self) -> Option<usize> {
-        match self.call {
-            Call::Canonical => canonical_len(self.text, self.changes),
-            Call::Text => text_len(self.alloc, self.text, self.changes),
-            Call::Replace => {
-                let turn = self.takes_out;
-                self.takes_out = 1 - turn.min(1);
-                replace_all(&mut self.plain, self.count, turn)
-            }
-        }
-    }
 }
 
 /// Returns how many changes the canonical batch has.

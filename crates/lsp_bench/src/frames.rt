@@ -1,7 +1,7 @@
 //! Streams of frames, made and read again, beside a plain copy of each; and what each command of
 //! the program does at least: takes a log apart into its frames, and parses the body of each.
 
-use crate::timing::{Row, Work, done, time};
+use crate::timing::{done, time};
 use lsp_frame::{Framer, Limits, frame};
 use serde_json::Value;
 use std::alloc::{AllocError, Global};
@@ -34,13 +34,9 @@ pub fn run<R: Runtime + AllocGlobal>(rt: &R, megabytes: u16) -> io::Result<()> {
 }
 
 fn time_frames<R: Runtime + AllocGlobal>(rt: &R, size: usize, bytes: &[u8]) -> io::Result<()> {
+    let alloc = rt.alloc();
     for (piece, what) in &PIECES {
-        let mut framing = Framing {
-            alloc: rt.alloc(),
-            bytes,
-            piece: *piece,
-        };
-        time(rt, Row::new(what, size, 1), &mut framing)?;
+        time(rt, what, size, 1, |_| framed(alloc, bytes, *piece))?;
     }
     Ok(())
 }
@@ -66,22 +62,10 @@ pub fn time_copy<R: Runtime + AllocGlobal>(
     bytes: &[u8],
 ) -> io::Result<()> {
     let alloc = rt.alloc();
-    time(rt, Row::new(what, size, 1), &mut Copying { alloc, bytes })
+    time(rt, what, size, 1, |_| copied(alloc, bytes).ok())
 }
 
-#[derive(Drop)]
-struct Copying<'a> {
-    alloc: Global,
-    bytes: &'a [u8],
-}
-
-impl Work for Copying<'_> {
-    /// Returns how many bytes were copied.
-    fn once(&mut self) -> Option<usize> {
-        copied(self.alloc, self.bytes).ok()
-    }
-}
-
+/// Returns how many bytes were copied.
 fn copied(alloc: Global, bytes: &[u8]) -> Result<usize, AllocError> {
     let mut copy = Vec::with_capacity(alloc, MEGABYTE)?;
     for piece in bytes.chunks(PIECE) {
@@ -93,23 +77,13 @@ fn copied(alloc: Global, bytes: &[u8]) -> Result<usize, AllocError> {
     Ok(bytes.len())
 }
 
-/// A stream that is read in pieces.
-#[derive(Drop)]
-struct Framing<'a> {
-    alloc: Global,
-    bytes: &'a [u8],
-    piece: usize,
-}
-
-impl Work for Framing<'_> {
-    /// Returns how many bytes the bodies had.
-    fn once(&mut self) -> Option<usize> {
-        let mut reader = Reader::new(self.alloc, false)?;
-        for piece in self.bytes.chunks(self.piece.max(1)) {
-            reader.take(piece)?;
-        }
-        Some(reader.bytes)
+/// Returns how many bytes the bodies of a stream have, which is read in pieces.
+fn framed(alloc: Global, bytes: &[u8], piece: usize) -> Option<usize> {
+    let mut reader = Reader::new(alloc, false)?;
+    for piece in bytes.chunks(piece.max(1)) {
+        reader.take(piece)?;
     }
+    Some(reader.bytes)
 }
 
 /// Takes a stream apart, and counts what it has.

@@ -2,7 +2,7 @@
 
 use crate::frames::is_object;
 use crate::text::{changed, keystrokes, opened};
-use crate::timing::{Row, Work, time};
+use crate::timing::time;
 use lsp_message::{
     ErrorCode, Id, Message, Offers, Outgoing, SyncKind, params_change, params_open, read, write,
 };
@@ -13,29 +13,6 @@ use std::io;
 use std::rt::Runtime;
 
 const MEGABYTE: usize = 1_048_576;
-
-/// What is done with a message.
-#[derive(Clone, Copy)]
-enum Call {
-    Parse,
-    ReadChange,
-    ReadOpen,
-    Write,
-}
-
-/// What is done with a change.
-static OF_CHANGE: [(Call, &str); 3] = [
-    (Call::Parse, "Value::from_slice of a change, entries"),
-    (Call::ReadChange, "read and params_change, entries"),
-    (Call::Write, "write of a change, entries"),
-];
-
-/// What is done with a text that is opened.
-static OF_OPEN: [(Call, &str); 3] = [
-    (Call::Parse, "Value::from_slice of an open, bytes"),
-    (Call::ReadOpen, "read and params_open, bytes"),
-    (Call::Write, "write of an open, bytes"),
-];
 
 /// The messages of a client and of a server that have no document, in the order of [`small`].
 static SMALL: [&str; 7] = [
@@ -51,64 +28,45 @@ static SMALL: [&str; 7] = [
 /// Times a text of so many megabytes once in a round, and small messages a thousand times for each
 /// megabyte.
 pub fn run<R: Runtime + AllocGlobal>(rt: &R, megabytes: u16) -> io::Result<()> {
+    let alloc = rt.alloc();
     let repeats = u32::from(megabytes) * 1_000;
     time_change(rt, 1, repeats)?;
     time_change(rt, 1_000, repeats / 100)?;
     time_open(rt, usize::from(megabytes) * MEGABYTE)?;
     for (index, what) in SMALL.iter().enumerate() {
-        time_calls(rt, &small(index), &[(Call::Write, what)], 1, repeats)?;
+        let message = small(index);
+        time(rt, what, 1, repeats, |_| written_len(alloc, &message))?;
     }
     Ok(())
 }
 
 fn time_change<R: Runtime + AllocGlobal>(rt: &R, entries: u32, repeats: u32) -> io::Result<()> {
-    let message = change(rt.alloc(), entries)?;
-    time_calls(rt, &message, &OF_CHANGE, entries as usize, repeats)
+    let (alloc, size) = (rt.alloc(), entries as usize);
+    let message = change(alloc, entries)?;
+    let body = write(alloc, &message)?;
+    let what = "Value::from_slice of a change, entries";
+    time(rt, what, size, repeats, |_| objects_in(alloc, &body))?;
+    let what = "read and params_change, entries";
+    time(rt, what, size, repeats, |_| changes_in(alloc, &body))?;
+    let what = "write of a change, entries";
+    time(rt, what, size, repeats, |_| written_len(alloc, &message))
 }
 
 fn time_open<R: Runtime + AllocGlobal>(rt: &R, size: usize) -> io::Result<()> {
-    let message = Outgoing::DidOpen(opened(rt.alloc(), size)?);
-    time_calls(rt, &message, &OF_OPEN, size, 1)
+    let alloc = rt.alloc();
+    let message = Outgoing::DidOpen(opened(alloc, size)?);
+    let body = write(alloc, &message)?;
+    let what = "Value::from_slice of an open, bytes";
+    time(rt, what, size, 1, |_| objects_in(alloc, &body))?;
+    let what = "read and params_open, bytes";
+    time(rt, what, size, 1, |_| text_in(alloc, &body))?;
+    let what = "write of an open, bytes";
+    time(rt, what, size, 1, |_| written_len(alloc, &message))
 }
 
-fn time_calls<R: Runtime + AllocGlobal>(
-    rt: &R,
-    message: &Outgoing,
-    calls: &[(Call, &str)],
-    size: usize,
-    repeats: u32,
-) -> io::Result<()> {
-    let body = written(rt.alloc(), message)?;
-    for (call, what) in calls {
-        let mut work = Passing {
-            alloc: rt.alloc(),
-            message,
-            body: &body,
-            call: *call,
-        };
-        time(rt, Row::new(what, size, repeats), &mut work)?;
-    }
-    Ok(())
-}
-
-/// A message, its body, and what is done with it.
-#[derive(Drop)]
-struct Passing<'a> {
-    alloc: Global,
-    message: &'a Outgoing,
-    body: &'a [u8],
-    call: Call,
-}
-
-impl Work for Passing<'_> {
-    fn once(&mut self) -> Option<usize> {
-        match self.call {
-            Call::Parse => Some(usize::from(is_object(self.alloc, self.body)?)),
-            Call::ReadChange => changes_in(self.alloc, params_in(self.alloc, self.body)),
-            Call::ReadOpen => text_in(self.alloc, params_in(self.alloc, self.body)),
-            Call::Write => Some(written(self.alloc, self.message).ok()?.len()),
-        }
-    }
+/// Returns 1 for an object, else 0.
+fn objects_in(alloc: Global, body: &[u8]) -> Option<usize> {
+    Some(usize::from(is_object(alloc, body)?))
 }
 
 /// Returns the params of a notification, if it has any.
@@ -120,18 +78,23 @@ fn params_in(alloc: Global, body: &[u8]) -> Option<Value> {
 }
 
 /// Returns how many entries the change has.
-fn changes_in(alloc: Global, params: Option<Value>) -> Option<usize> {
-    Some(params_change(alloc, params).ok()?.changes.len())
+fn changes_in(alloc: Global, body: &[u8]) -> Option<usize> {
+    Some(
+        params_change(alloc, params_in(alloc, body))
+            .ok()?
+            .changes
+            .len(),
+    )
 }
 
 /// Returns how many bytes the text has that is opened.
-fn text_in(alloc: Global, params: Option<Value>) -> Option<usize> {
-    Some(params_open(alloc, params).ok()?.text.len())
+fn text_in(alloc: Global, body: &[u8]) -> Option<usize> {
+    Some(params_open(alloc, params_in(alloc, body)).ok()?.text.len())
 }
 
-/// Returns the body of a message.
-pub fn written(alloc: Global, message: &Outgoing) -> Result<Vec<u8>, AllocError> {
-    write(alloc, message)
+/// Returns how many bytes the body of a message has.
+fn written_len(alloc: Global, message: &Outgoing) -> Option<usize> {
+    Some(write(alloc, message).ok()?.len())
 }
 
 /// Returns a change of so many entries, each of which puts one character in.

@@ -9,6 +9,11 @@ use std::alloc::{AllocError, Global};
 /// The document that has the text.
 pub const URI: &str = "file:///home/user/project/src/main.rs";
 
+/// Returns the URI of one of many documents.
+pub fn module_uri(alloc: Global, number: u32) -> Result<String, AllocError> {
+    format!(in alloc; "file:///home/user/project/src/module_{number}.rs")
+}
+
 /// A line of 40 bytes.
 const LINE: &str = "    let answer = question.map(|x| x+1);\n";
 
@@ -26,13 +31,11 @@ pub fn made_text(alloc: Global, size: usize) -> Result<String, AllocError> {
 
 /// Returns the document with a text of so many bytes, as it is opened.
 pub fn opened(alloc: Global, size: usize) -> Result<OpenParams, AllocError> {
-    let text = made_text(alloc, size)?;
-    let uri = String::from_str(alloc, URI)?;
     Ok(OpenParams {
-        uri,
+        uri: String::from_str(alloc, URI)?,
         language: String::from_str(alloc, "rust")?,
         version: 1,
-        text,
+        text: made_text(alloc, size)?,
     })
 }
 
@@ -66,28 +69,18 @@ fn line_at(turn: u32, lines: usize) -> usize {
 /// out again on the next.
 pub fn keystroke(alloc: Global, turn: u32, lines: usize) -> Result<Change, AllocError> {
     let line = u32::try_from(line_at(turn, lines)).unwrap_or(u32::MAX);
-    if turn % 2 == 0 {
-        change(alloc, line, COLUMN, "x")
-    } else {
-        change(alloc, line, COLUMN + 1, "")
-    }
-}
-
-/// Returns a change of what a line has from where letters are put in to this column.
-fn change(alloc: Global, line: u32, stop: u32, text: &str) -> Result<Change, AllocError> {
-    let range = Range {
-        start: Position {
-            line,
-            character: COLUMN,
-        },
-        stop: Position {
-            line,
-            character: stop,
-        },
+    let is_typed = turn % 2 == 0;
+    let start = Position {
+        line,
+        character: COLUMN,
+    };
+    let stop = Position {
+        line,
+        character: COLUMN + u32::from(!is_typed),
     };
     Ok(Change {
-        range: Some(range),
-        text: String::from_str(alloc, text)?,
+        range: Some(Range { start, stop }),
+        text: String::from_str(alloc, if is_typed { "x" } else { "" })?,
     })
 }
 
