@@ -1,5 +1,5 @@
 -- What an end does with a body, and with a piece of its stream.
-use Rattle.laspidru.proofs.Prelude.{◌≡◌, ◌≢◌, Bool, true, false, ℕ, List, Option, Some, None, Result, Ok, Err, IsOkAnd, inl, inr, ap, arith, refl, subst, sym, ◌∙◌, none-some, if◌then◌else◌, ClientFault, IsDelivered, IsFaultOf, ClientData, Delivery, DeliveredData, delivery_of, delivery_result, is_listening, OK, OUT_OF_MEMORY, WRONG_PHASE, Object, End, Client, Taken, delivered_out, sent_frame, HasNoBody, IsBodyOf, IsFedTo, EndData, call_code, StreamData}
+use Rattle.laspidru.proofs.Prelude.{◌≡◌, ◌≢◌, Bool, true, false, ℕ, List, Option, Some, None, Result, Ok, Err, IsOkAnd, inl, inr, ap, arith, refl, subst, sym, ◌∙◌, none-some, if◌then◌else◌, ClientFault, IsDelivered, IsFaultOf, ClientData, Delivery, DeliveredData, delivery_of, delivery_result, is_listening, OK, OUT_OF_MEMORY, WRONG_PHASE, Object, End, Client, Taken, delivered_out, sent_frame, HasNoBody, IsBodyOf, IsFedTo, EndData, call_code, Stream}
 use Rattle.lsp_message.specs.Message.{reading}
 use Rattle.laspidru.specs.declared.answers.Answer.{Answer}
 use Rattle.laspidru.specs.declared.party.Party.{Party}
@@ -74,7 +74,7 @@ handled_in (Ok it) held party frame code stored out (inr is) left =
 -- ---- a piece of a stream
 
 -- The same with the code `OK`.
-fed_well : (old new : StreamData) (piece : List ℕ) (code : ℕ) (taken : Taken) → code ≡ OK
+fed_well : (old new : Stream) (piece : List ℕ) (code : ℕ) (taken : Taken) → code ≡ OK
     → IsFedTo old piece code new taken → IsFedTo old piece OK new taken
 fed_well old new piece code taken is fed = subst (λ c. IsFedTo old piece c new taken) is fed
 
@@ -112,7 +112,7 @@ done_by None it Fact none (inl memory) = absurd (apart memory)
 done_by None it Fact none (inr fact) = fact
 
 -- A message is whole, and was handled.
-pub one_taken : (old new : EndData) (stream : StreamData) (piece body frame : List ℕ) (party : Party) (code did : ℕ)
+pub one_taken : (old new : EndData) (stream : Stream) (piece body frame : List ℕ) (party : Party) (code did : ℕ)
     (taken : Taken) (before after : Answer)
     → IsFedTo old.stream piece code stream taken → code ≡ OK → IsBodyOf stream.framing body
     → closed old.party ≡ None → did ≡ OK

@@ -13,7 +13,7 @@ pub use Rattle.laspidru.specs.Edits.{edits_of, len_of, refused_edit}
 pub use Rattle.laspidru.specs.Clients.{IsCalled, IsRefusedCall, IsStoreReport, IsWritten, delivered_out, sent_frame}
 pub use Rattle.laspidru.specs.Framers.{HasNoBody, IsBodyAnswer, IsBodyOf, IsFedTo, IsNext, IsPieceFed, IsReleased, nothing_taken}
 pub use Rattle.laspidru.specs.Streams.{EndData}
-pub use Rattle.laspidru.specs.Streams.{StreamData}
+pub use Rattle.laspidru.specs.declared.stream.Stream.{Stream}
 pub use Rattle.laspidru.specs.declared.codes.TheConstants.{BAD_FRAME, OK, OUT_OF_MEMORY, WRONG_PHASE}
 pub use Rattle.laspidru.specs.declared.object.Object.{Object}
 pub use Rattle.laspidru.specs.declared.object.Object.TheVariants.{End}

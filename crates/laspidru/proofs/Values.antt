@@ -1,9 +1,8 @@
 -- A `Handle` by value: how it is stored, and how it is opened and closed. Assumes `Logic`.
 --     triple, triple_fits          its machine value at a pointer, a flag and an allocator, which has its type
 --     opens_handle, closes_handle  by value it is [what it owns; the allocator]
---     tuple_of                     a tuple of two values
---     is_there, says_full          what a full handle owns, and that the flag says whether it is full
-use Rattle.laspidru.proofs.Prelude.{◌≡◌, ℕ, Bool, true, false, List, [], ◌∷◌, ◌++◌, refl, subst, lit<, ◌&&◌, false≢true, T, Ura, ty_ptr, impl, tnil, dnil, Val, vbool, vstruct, vcons, vnil, of_list, has_ty, WT, ftrue, never, never_e, fst∗, Logic, sem, Item, Goal, Seq, Step, step, ‵, given, learn, ◌$◌, move, drop, use1, fsplit, fjoin, fjoin3, fpick, fpack, feq_i, feq_l, RattleType, Valss, lone, layout, Ptr, block_ptr, null_ptr, ptr_val, in_a_block, nothing, within, Tuple, shape, to, fields, Al, handle_tells, Good, Option, Some, None, IsSome, is_some, Global, ghosts, object_at, object_if}
+--     is_there                     what a full handle owns
+use Rattle.laspidru.proofs.Prelude.{◌≡◌, ℕ, Bool, true, false, List, [], ◌∷◌, ◌++◌, refl, subst, lit<, ◌&&◌, false≢true, T, Ura, ty_ptr, impl, tnil, dnil, Val, vbool, vstruct, vcons, vnil, of_list, has_ty, WT, ftrue, never, never_e, fst∗, Logic, sem, Item, Goal, Seq, Step, step, ‵, given, learn, ◌$◌, move, drop, use1, fsplit, fjoin, fpick, fpack, feq_i, feq_l, RattleType, Valss, lone, layout, Ptr, block_ptr, null_ptr, ptr_val, in_a_block, nothing, within, shape, to, fields, Al, handle_tells, Good, Option, Some, None, IsSome, is_some, Global, ghosts, object_at, object_if}
 use mir.Raw.{raw as bare}
 use Rattle.std.specs.contracts.alloc.Global as global
 use Rattle.std.proofs.alloc.Global.TheLaws as global-laws
@@ -60,10 +59,17 @@ module _ {M : Type 1} {𝓤 : Ura M} {𝓛 : Logic 𝓤} {K : Type 0} {Γ : List
       (subst (λ (ps : List Val). stored ps vss.1.0 vss.1.1.0) pointer whole))) fits)))))
 
   pub closes_handle : K → (p : Ptr) (full : Bool) (h : Val) (a : Global) (value : Option Object)
-      → Step K 𝓛 (‵ ((handle.the_row).own_val (record { pointer = p; is_full = full; alloc = a; value = value })
+      (is : full ≡ is_some value)
+      → Step K 𝓛 (‵ ((handle.the_row).own_val (record {
+        pointer = p;
+        is_full = full;
+        alloc = a;
+        value = value;
+        full = is;
+      })
       (triple p full h ∷ [])) ∷ Γ) G
       (‵ (object_if full a p value) ∷ ‵ (A.own_val a (h ∷ [])) ∷ Γ) G
-  closes_handle t p full h a value = step (λ next. let v : Val = triple p full h in
+  closes_handle t p full h a value is = step (λ next. let v : Val = triple p full h in
       nothing t $ move t (2 ∷ 0 ∷ []) $ fjoin t $
       feq_i t (List Val) (vbool full ∷ []) (vbool full ∷ []) refl $ fjoin t $
       feq_i t (List Val) (ptr_val p ∷ []) (ptr_val p ∷ []) refl $ fjoin t $
@@ -74,6 +80,7 @@ module _ {M : Type 1} {𝓤 : Ura M} {𝓛 : Logic 𝓤} {K : Type 0} {Γ : List
         is_full = full;
         alloc = a;
         value = value;
+        full = is;
       })) (v ∷ []))
       (ptr_val p ∷ [], (vbool full ∷ [], (h ∷ [], tt))) $ fjoin t $ next)
 
@@ -83,28 +90,5 @@ module _ {M : Type 1} {𝓤 : Ura M} {𝓛 : Logic 𝓤} {K : Type 0} {Γ : List
   is_there t true a p (Some x) is next = in_a_block t p (λ q. object_at a q x)
       (fst∗ 𝓤 (never 𝓤) (sem 𝓛 (ghosts.dealloc_token a (bare (lone (object.the_row).mir)) null_ptr)))
       (λ b o at. next b o x refl at refl)
-  is_there t true a p None is next = use1 𝓛 (given ⊥ (‵ ftrue)) (never_e 𝓤 _) $ learn t (λ z. absurd z)
-  is_there t false a p (Some x) is next = use1 𝓛 (given ⊥ (‵ ftrue)) (never_e 𝓤 _) $ learn t (λ z. absurd z)
   is_there t false a p None is next = absurd (false≢true is)
-
-  pub says_full : K → (full : Bool) (a : Global) (p : Ptr) (value : Option Object)
-      → (full ≡ is_some value → Seq K 𝓛 (‵ (object_if full a p value) ∷ Γ) G)
-      → Seq K 𝓛 (‵ (object_if full a p value) ∷ Γ) G
-  says_full t true a p (Some x) next = next refl
-  says_full t true a p None next = use1 𝓛 (given ⊥ (‵ ftrue)) (never_e 𝓤 _) $ learn t (λ z. absurd z)
-  says_full t false a p (Some x) next = use1 𝓛 (given ⊥ (‵ ftrue)) (never_e 𝓤 _) $ learn t (λ z. absurd z)
-  says_full t false a p None next = next refl
-
-abbrev pub two : Val → Val → Val
-two v w = vstruct (vcons v (vcons w vnil))
-
-module _ (P Q : RattleType) {M : Type 1} {𝓤 : Ura M} {𝓛 : Logic 𝓤} {K : Type 0} {Γ : List (Item 𝓤)}
-    {G : Goal 𝓤 𝓛.H} where
-  pub tuple_of : K → (x : P.Denot) (y : Q.Denot) (v w : Val)
-      → Step K 𝓛 (‵ ((Tuple (P ∷ Q ∷ [])).own_val (x, y) (two v w ∷ [])) ∷ Γ) G
-      (‵ (P.own_val x (v ∷ [])) ∷ ‵ (Q.own_val y (w ∷ [])) ∷ Γ) G
-  tuple_of t x y v w = step (λ next.
-      nothing t $ move t (1 ∷ 2 ∷ 0 ∷ []) $ fjoin3 t $ feq_i t (List Val) (two v w ∷ []) (two v w ∷ []) refl $ fjoin t $
-      fpack t (Valss (P ∷ Q ∷ []))
-      (within (record { name = []; args = []; types = []; fields = P ∷ Q ∷ [] }) (x, (y, tt)) (two v w ∷ []))
-      (v ∷ [], (w ∷ [], tt)) $ next)
+  is_there t _ a p _ is next = use1 𝓛 (given ⊥ (‵ ftrue)) (never_e 𝓤 _) $ learn t (λ z. absurd z)

@@ -1,6 +1,6 @@
 -- A client that C asks for, the calls on it, and what C gets of them.
 use Rattle.std.specs.Prelude.{◌≡◌, ◌⊎◌}
-use Rattle.laspidru.specs.Prelude.{ℕ, ℤ, false, List, [], length, Option, Some, Result, Ok, Err, frame, body_of, StoreFault, ClientFault, Call, ClientData, call_result, opens, edits, Order, Sending, DeliveredData, sends, noted, bad_server, new_client, Answer, BAD_ENCODING, BAD_SERVER, ERROR_ANSWER, IGNORED, NO_SYNC, NOT_AN_ANSWER, NOTED, OK, OTHER_KIND, OUT_OF_MEMORY, REPLIED, WRONG_PHASE, Object, End, Party, Server, Client, FaultAt, IsRefusedOr, and_then, EndData, StreamData, stream_of}
+use Rattle.laspidru.specs.Prelude.{ℕ, ℤ, false, List, [], length, Option, Some, Result, Ok, Err, frame, body_of, StoreFault, ClientFault, Call, ClientData, call_result, opens, edits, Order, Sending, DeliveredData, sends, noted, bad_server, new_client, Answer, BAD_ENCODING, BAD_SERVER, ERROR_ANSWER, IGNORED, NO_SYNC, NOT_AN_ANSWER, NOTED, OK, OTHER_KIND, OUT_OF_MEMORY, REPLIED, WRONG_PHASE, Object, End, Party, Server, Client, FaultAt, IsRefusedOr, and_then, EndData, Stream, stream_of}
 use Rattle.lsp_edit.specs.declared.fault.EditFault.TheVariants as edit
 use Rattle.lsp_store.specs.declared.fault.StoreFault.TheVariants as faults
 use Rattle.lsp_client.specs.declared.fault.ClientFault.TheVariants as client
@@ -28,12 +28,12 @@ client_asked settings =
     }))
 
 -- The client of an end, and the end's stream.
-abbrev pub client_in : Party → StreamData → Result (ClientData × StreamData) ℕ
+abbrev pub client_in : Party → Stream → Result (ClientData × Stream) ℕ
 client_in (Client client) stream = Ok (client, stream)
 client_in (Server server) stream = Err OTHER_KIND
 
 -- The client of an object, and its stream.
-abbrev pub as_client : Object → Result (ClientData × StreamData) ℕ
+abbrev pub as_client : Object → Result (ClientData × Stream) ℕ
 as_client (End held) = client_in held.party held.stream
 as_client other = Err OTHER_KIND
 
@@ -63,7 +63,7 @@ IsRefusedCall (client.Store fault) code = (code ≡ OUT_OF_MEMORY) ⊎ (code ≡
 IsRefusedCall client.NoMemory code = code ≡ OUT_OF_MEMORY
 
 -- A call is accepted: the client is in its new state, and has the frame to send.
-pub record IsAccepted (stream : StreamData) (sending : Sending) (code : ℕ) (stored : Option Object)
+pub record IsAccepted (stream : Stream) (sending : Sending) (code : ℕ) (stored : Option Object)
     (len : ℕ) : Type 0 where
   pub done : code ≡ OK
   pub client : stored ≡ Some (End (record {
@@ -74,13 +74,13 @@ pub record IsAccepted (stream : StreamData) (sending : Sending) (code : ℕ) (st
   pub frame_len : len ≡ length (frame (body_of sending.message))
 
 -- A call is accepted or out of memory, or refused.
-abbrev pub IsCalled : StreamData → Result Sending ClientFault → ℕ → Option Object → ℕ → Type 0
+abbrev pub IsCalled : Stream → Result Sending ClientFault → ℕ → Option Object → ℕ → Type 0
 IsCalled stream (Ok sending) code stored len =
     (code ≡ OUT_OF_MEMORY) ⊎ IsAccepted stream sending code stored len
 IsCalled stream (Err refusal) code stored len = IsRefusedCall refusal code
 
 -- A call of this client, which may be the code of its refusal.
-abbrev pub IsCallOn : Result (ClientData × StreamData) ℕ → Call → ℕ → Option Object → ℕ → Type 0
+abbrev pub IsCallOn : Result (ClientData × Stream) ℕ → Call → ℕ → Option Object → ℕ → Type 0
 IsCallOn client call code stored len = IsRefusedOr client code (λ it.
     IsCalled it.1 (call_result it.0 call) code stored len)
 

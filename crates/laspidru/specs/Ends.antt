@@ -1,6 +1,6 @@
 -- What either end of a session does with a body, and what is asked of it and of its documents.
 use Rattle.std.specs.Prelude.{◌≡◌, if◌then◌else◌, ◌⊎◌}
-use Rattle.laspidru.specs.Prelude.{ℕ, List, length, option_map, Option, Some, None, Result, Ok, Err, ok_or, FramerData, Encoding, Utf8, Utf16, Utf32, StoreData, entry_at, as_sent, Step, step, Delivery, delivery_of, is_listening, Answer, ENDED, NOT_OPEN, OK, OTHER_KIND, WRONG_PHASE, Object, End, Framer, Party, Server, Client, true, OUT_OF_MEMORY, Taken, and_then, unless, EndData, StreamData}
+use Rattle.laspidru.specs.Prelude.{ℕ, List, length, option_map, Option, Some, None, Result, Ok, Err, ok_or, FramerData, Encoding, Utf8, Utf16, Utf32, StoreData, entry_at, as_sent, Step, step, Delivery, delivery_of, is_listening, Answer, ENDED, NOT_OPEN, OK, OTHER_KIND, WRONG_PHASE, Object, End, Framer, Party, Server, Client, true, OUT_OF_MEMORY, Taken, and_then, unless, EndData, Stream}
 use Rattle.lsp_message.specs.Message.{reading}
 use Rattle.lsp_message.specs.Params.{DocumentItem}
 use Rattle.lsp_server.specs.declared.phase.Phase.{Phase}
@@ -88,26 +88,26 @@ listening held = and_then held (λ it. unless (closed it.party) (Ok it))
 -- ---- what it takes of its stream
 
 -- A piece was fed, and no message is whole; or there is a fault.
-pub record HasNoMessage (old : StreamData) (piece : List ℕ) (code : ℕ) (new : StreamData)
+pub record HasNoMessage (old : Stream) (piece : List ℕ) (code : ℕ) (new : Stream)
     (taken : Taken) : Type 0 where
   pub fed : IsFedTo old piece code new taken
   pub none : code ≡ OK → HasNoBody new.framing
 
 -- A piece was fed up to the end of a message with this body.
-pub record HasMessage (old : StreamData) (piece : List ℕ) (new : StreamData) (taken : Taken)
+pub record HasMessage (old : Stream) (piece : List ℕ) (new : Stream) (taken : Taken)
     (body : List ℕ) : Type 0 where
   pub fed : IsFedTo old piece OK new taken
   pub is : IsBodyOf new.framing body
 
 -- A message is whole, and out of memory. The next call handles it.
-abbrev pub IsWaiting : StreamData → List ℕ → ℕ → StreamData → Taken → Type 0
+abbrev pub IsWaiting : Stream → List ℕ → ℕ → Stream → Taken → Type 0
 IsWaiting old piece code new taken =
     (code ≡ OUT_OF_MEMORY) × ((body : List ℕ) × HasMessage old piece new taken body)
 
 -- A message is whole, and was handled.
 pub record IsOneTaken (old : EndData) (piece : List ℕ) (code : ℕ) (new : EndData)
     (taken : Taken) (after : Answer) : Type 0 where
-  pub stream : StreamData
+  pub stream : Stream
   pub body : List ℕ
   pub message : HasMessage old.stream piece stream taken body
   pub done : code ≡ OK

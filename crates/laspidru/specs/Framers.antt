@@ -1,6 +1,6 @@
 -- A framer that C asks for, and what it takes of a stream (LSP 3.17, Base Protocol).
 use Rattle.std.specs.Prelude.{◌≡◌, ◌≢◌, ◌≤◌, ◌<◌, ◌++◌, ◌⊎◌}
-use Rattle.laspidru.specs.Prelude.{ℕ, Bool, true, false, List, length, take, Result, Ok, Err, LimitsData, default_limits, IsFrameOf, FramerData, IsFrame, HoldsOne, IsFeedFault, released, FrameFault, BAD_FRAME, FAILED, NO_MESSAGE, OK, OTHER_KIND, OUT_OF_MEMORY, Object, Framer, Taken, IsAnswer, StreamData}
+use Rattle.laspidru.specs.Prelude.{ℕ, Bool, true, false, List, length, take, Result, Ok, Err, LimitsData, default_limits, IsFrameOf, FramerData, IsFrame, HoldsOne, IsFeedFault, released, FrameFault, BAD_FRAME, FAILED, NO_MESSAGE, OK, OTHER_KIND, OUT_OF_MEMORY, Object, Framer, Taken, IsAnswer, Stream}
 use Rattle.lsp_frame.specs.declared.fault.FrameFault.TheVariants as frame
 use Rattle.laspidru.specs.Objects.{IsCopy, rest_asked}
 use Rattle.laspidru.specs.Servers.{limits_asked}
@@ -112,7 +112,7 @@ IsNext false old new = new ≡ old
 
 -- A piece was fed to a stream. With another code than OK no byte of it was taken, and only a fault
 -- of F1 to F7 is written.
-pub record IsFedTo (old : StreamData) (piece : List ℕ) (code : ℕ) (new : StreamData)
+pub record IsFedTo (old : Stream) (piece : List ℕ) (code : ℕ) (new : Stream)
     (out : Taken) : Type 0 where
   pub at : FramerData
   pub next : IsNext old.is_handled old.framing at

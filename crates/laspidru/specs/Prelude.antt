@@ -10,10 +10,11 @@ pub use Rattle.laspidru.specs.declared.object.Object.TheVariants.{Batch, Documen
 pub use Rattle.laspidru.specs.declared.party.Party.{Party}
 pub use Rattle.laspidru.specs.declared.party.Party.TheVariants.{Client, Server}
 pub use Rattle.laspidru.specs.declared.structs.CPosition.{CPosition}
+pub use Rattle.laspidru.specs.declared.stream.Stream.{Stream}
 pub use Rattle.laspidru.specs.declared.structs.FaultAt.{FaultAt}
 pub use Rattle.laspidru.specs.declared.taken.Taken.{Taken}
 pub use Rattle.laspidru.specs.Codes.{IsAnswer, IsRefusedOr, and_then, unless}
-pub use Rattle.laspidru.specs.Streams.{EndData, StreamData, stream_of}
+pub use Rattle.laspidru.specs.Streams.{EndData, stream_of}
 pub use Rattle.lsp_client.specs.Step.{Call, ClientData, DeliveredData, Delivery, Order, Sending, bad_server, call_result, closes, delivery_of, edits, is_listening, new_client, noted, opens, orders, sends, shuts_down, starts}
 pub use Rattle.lsp_client.specs.declared.fault.ClientFault.{ClientFault}
 pub use Rattle.lsp_edit.specs.Edited.{content_change}

@@ -1,6 +1,6 @@
 //! The functions on clients alone.
 
-ghost use Rattle.std.specs.Prelude.{◌≡◌, ◌≢◌, IfErr, IfOk, Some, Err, Ok};
+ghost use Rattle.std.specs.Prelude.{◌≡◌, ◌≢◌, Some};
 ghost use Rattle.laspidru.specs.declared.object.Object.TheVariants.{End as EndOf};
 ghost use Rattle.laspidru.specs.Clients.{client_asked};
 ghost use Rattle.laspidru.specs.Codes.{IsAnswerOrNoMemory, unless};
@@ -23,20 +23,6 @@ use lsp_client::Client;
 use lsp_message::Offers;
 use std::alloc::Global;
 
-/// Makes a client's end of settings, or returns the code for why there is none.
-fn editor_of(alloc: Global, settings: &ClientSettings) -> Result<End, u32>
-    ensures ok { IfOk result (λ held. client_asked settings.now ≡ Ok held) }
-    ensures error { IfErr result (λ code. client_asked settings.now ≡ Err code) }
-{
-    let limits = limits_in!(settings)?;
-    let offers = Offers::new(settings.utf8, settings.utf32);
-    Ok(End {
-        party: Party::Client(Client::new(alloc, limits, offers)),
-        frame: Vec::new(alloc),
-        stream: Stream::new(alloc, limits),
-    })
-}
-
 /// Makes a client in an empty handle, at the start of a session. Codes, in this order: IN_USE,
 /// BAD_MAX_BODY, BAD_MAX_TEXT, BAD_MAX_DOCS, BAD_MAX_CHANGES; OUT_OF_MEMORY.
 #[unsafe(no_mangle)]
@@ -51,6 +37,12 @@ pub extern "C" fn laspidru_client_new(
     ensures unchanged { result ≢ OK → handle.new.value ≡ handle.old.value }
 {
     or_return!(handle.check_empty(alloc));
-    let held = or_return!(editor_of(alloc, settings));
+    let limits = or_return!(limits_in!(settings));
+    let offers = Offers::new(settings.utf8, settings.utf32);
+    let held = End {
+        party: Party::Client(Client::new(alloc, limits, offers)),
+        frame: Vec::new(alloc),
+        stream: Stream::new(alloc, limits),
+    };
     handle.fill(alloc, Object::End(held))
 }

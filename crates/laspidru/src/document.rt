@@ -1,6 +1,6 @@
 //! The functions on documents. `positions` has those on positions and lines.
 
-ghost use Rattle.std.specs.Prelude.{◌≡◌, ◌≢◌, ◌≤◌, ◌+◌, IfErr, IfOk, None, Ok, Some, length};
+ghost use Rattle.std.specs.Prelude.{◌≡◌, ◌≢◌, ◌≤◌, ◌+◌, IfOk, None, Some, length};
 ghost use Rattle.std.specs.Str.{chars};
 ghost use Rattle.lsp_text.specs.TextLines.{line_ends};
 ghost use Rattle.laspidru.specs.declared.object.Object.TheVariants.{Document};
@@ -22,17 +22,6 @@ use lsp_edit::{IndexedText, MAX_OLD_TEXT};
 use lsp_text::Encoding;
 use std::alloc::{AllocError, Global};
 
-/// Returns the text to be opened, or the code for why it can't be.
-fn text_of(bytes: &[u8]) -> Result<&str, u32>
-    ensures ok { IfOk result (λ text. text_asked bytes.now ≡ Ok text.now) }
-    ensures error { IfErr result (λ code. text_asked bytes.now ≡ Err code) }
-{
-    if bytes.len() > MAX_OLD_TEXT {
-        return Err(TOO_LONG);
-    }
-    checked_text(bytes)
-}
-
 /// Makes a document of a copy of a text.
 fn opened(alloc: Global, text: &str) -> Result<IndexedText, AllocError>
     requires { length text.now ≤ MAX_OLD_TEXT }
@@ -51,7 +40,10 @@ pub extern "C" fn laspidru_document_open(alloc: Global, handle: &mut Handle, tex
     ensures unchanged { result ≢ OK → handle.new.value ≡ handle.old.value }
 {
     or_return!(handle.check_empty(alloc));
-    let text = or_return!(text_of(text));
+    if text.len() > MAX_OLD_TEXT {
+        return TOO_LONG;
+    }
+    let text = or_return!(checked_text(text));
     let Ok(document) = opened(alloc, text) else {
         return OUT_OF_MEMORY;
     };

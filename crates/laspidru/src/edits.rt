@@ -1,12 +1,10 @@
 //! The functions on text edits.
 
-ghost use Rattle.std.specs.Prelude.{◌≡◌, ◌≢◌, ◌≤◌, ◌⊎◌, IfErr, IfOk, None, Ok, OnErr, OnOk, Some};
-ghost use Rattle.std.specs.Prelude.{length, map};
-ghost use Rattle.lsp_edit.specs.Edited.{content_change};
+ghost use Rattle.std.specs.Prelude.{◌≡◌, ◌≢◌, ◌⊎◌, IfErr, IfOk, None, Some, map};
 ghost use Rattle.laspidru.specs.declared.object.Object.TheVariants.{Document as DocumentOf};
 ghost use Rattle.laspidru.specs.Edits.{AreApplied, AreBatched, AreFaulty, IsBatchOfAsked};
-ghost use Rattle.laspidru.specs.Edits.{IsEditsReport, IsTooMuch, IsUnlessFaulty, edits_asked};
-ghost use Rattle.laspidru.specs.Edits.{replacement_by, replacement_of, text_left};
+ghost use Rattle.laspidru.specs.Edits.{IsEditsReport, IsUnlessFaulty, edits_asked};
+ghost use Rattle.laspidru.specs.Edits.{replacement_by, replacement_of};
 ghost use Rattle.laspidru.specs.inside.Passed.{edits_in, replacements_in, replacements_on};
 ghost use Rattle.laspidru.specs.Codes.{IsAnswerOrNoMemory, unless};
 ghost use Rattle.laspidru.specs.Objects.{as_document, in_handle, in_use};
@@ -20,7 +18,7 @@ use crate::handle::{Handle, with_object};
 use crate::object::Object;
 use crate::structs::{Edit, EditsFault};
 use lsp_buffer::TextBuffer;
-use lsp_edit::{BatchFault, Change, IndexedText, MAX_OLD_TEXT, TextEdit, TextEditFault};
+use lsp_edit::{BatchFault, Change, IndexedText, MAX_OLD_TEXT, TextEdit, TextEditFault, fits};
 use lsp_store::Document;
 use lsp_text::{Encoding, Position, Range};
 use std::alloc::{AllocError, Global};
@@ -181,25 +179,6 @@ pub extern "C" fn laspidru_document_batch_of_edits(
     })
 }
 
-/// Makes a batch without a faulty change on a text, or answers why there is none.
-fn change_by(document: &mut IndexedText, encoding: Encoding, batch: &[Change]) -> Result<(), u32>
-    requires { length document.old ≤ MAX_OLD_TEXT }
-    ensures ok { OnOk result
-        (text_left encoding document.old (map content_change batch.now) ≡ Ok document.new) }
-    ensures error { IfErr result (λ code. (code ≡ OUT_OF_MEMORY)
-        ⊎ ((code ≡ TOO_LONG) × IsTooMuch encoding document.old batch.now)) }
-    ensures unchanged { OnErr result (document.new ≡ document.old) }
-{
-    if !lsp_edit::fits(batch) {
-        return Err(TOO_LONG);
-    }
-    match document.change(encoding, batch, MAX_OLD_TEXT) {
-        Ok(()) => Ok(()),
-        Err(BatchFault::TooLong) => Err(TOO_LONG),
-        Err(BatchFault::Edit(_) | BatchFault::NoMemory) => Err(OUT_OF_MEMORY),
-    }
-}
-
 /// Makes text edits on a document.
 fn apply_edits(
     alloc: Global,
@@ -216,8 +195,14 @@ fn apply_edits(
     or_return!(passed.check_on(document.text()));
     let subject = Subject::Own(document);
     let batch = or_return!(batch_of(alloc, &subject, encoding, passed, fault));
-    or_return!(change_by(document, encoding, &batch));
-    OK
+    if !fits(&batch) {
+        return TOO_LONG;
+    }
+    match document.change(encoding, &batch, MAX_OLD_TEXT) {
+        Ok(()) => OK,
+        Err(BatchFault::TooLong) => TOO_LONG,
+        Err(BatchFault::Edit(_) | BatchFault::NoMemory) => OUT_OF_MEMORY,
+    }
 }
 
 /// Makes text edits, or none of them (LSP 3.17, TextEdit[]). All their ranges count in the text as

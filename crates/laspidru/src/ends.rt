@@ -199,14 +199,6 @@ pub extern "C" fn laspidru_take(
     })
 }
 
-/// Copies the body that an end has buffered.
-fn end_body(held: &End, start: usize, out: &mut [u8], copied: &mut usize) -> u32
-    ensures answer { IsBodyAnswer held.now.stream.framing start result out.old out.new copied.new }
-    ensures unchanged { result ≢ OK → (out.new ≡ out.old) × (copied.new ≡ copied.old) }
-{
-    held.stream.copy_body(start, out, copied)
-}
-
 /// Copies the bytes of the body of the message that an end took last, or that a framer has
 /// buffered, from `start` on, as many as `out` has room for, and returns how many. The next call of
 /// `laspidru_take` or `laspidru_framer_next` releases it. Codes, in this order: EMPTY, OTHER_KIND,
@@ -228,7 +220,7 @@ pub extern "C" fn laspidru_body(
         handle,
         alloc,
         Object::Framer(framer) => copy_body(framer, start, out, copied),
-        Object::End(held) => end_body(held, start, out, copied),
+        Object::End(held) => held.stream.copy_body(start, out, copied),
     )
 }
 
@@ -254,19 +246,6 @@ pub extern "C" fn laspidru_frame(
     })
 }
 
-/// Returns the state of an end's session.
-fn state_of(party: &Party) -> State
-    ensures { IsState result party.now }
-{
-    let (phase, reason) = phase_of_party(party);
-    State {
-        phase,
-        reason,
-        encoding: number_of(encoding_of_session(party)),
-        documents: store_of(party).len(),
-    }
-}
-
 /// Returns the phase of the session, the encoding that was agreed on (LSP 3.17,
 /// PositionEncodingKind), and how many documents are open. Codes, in this order: EMPTY, OTHER_KIND.
 #[unsafe(no_mangle)]
@@ -277,7 +256,13 @@ pub extern "C" fn laspidru_session_state(alloc: Global, handle: &mut Handle, out
     ensures unchanged { result ≢ OK → out.new ≡ out.old }
 {
     with_object!(handle, alloc, Object::End(held) => {
-        *out = state_of(&held.party);
+        let (phase, reason) = phase_of_party(&held.party);
+        *out = State {
+            phase,
+            reason,
+            encoding: number_of(encoding_of_session(&held.party)),
+            documents: store_of(&held.party).len(),
+        };
         OK
     })
 }

@@ -52,6 +52,7 @@ pub struct Handle {
     is_full: bool,
     alloc: Global,
     pub ghost value: { Option StoredObject },
+    ghost full: { is_full ≡ is_some value },
 }
 
 impl Model for Handle {
@@ -82,26 +83,6 @@ impl Handle {
         }
     }
 
-    /// Returns whether it has an object, and the handle itself.
-    fn parts(self) -> (bool, Self)
-        ensures full { result.0 ≡ is_some self.value }
-        ensures value { result.1.value ≡ self.value }
-    {
-        let Handle {
-            pointer,
-            is_full,
-            alloc,
-        } = self;
-        (
-            is_full,
-            Handle {
-                pointer,
-                is_full,
-                alloc,
-            },
-        )
-    }
-
     /// Returns the object of a full handle.
     fn into_raw(self) -> RawBox<Object, Global>
         requires { IsSome self.value }
@@ -123,8 +104,8 @@ impl Handle {
         ensures taken { option_map (λ object. object.value) result ≡ self.old.value }
         ensures left { self.new.value ≡ None }
     {
-        let (is_full, taken) = replace(self, Handle::empty(alloc)).parts();
-        if is_full {
+        let taken = replace(self, Handle::empty(alloc));
+        if taken.is_full {
             Some(taken.into_raw().into_box())
         } else {
             None

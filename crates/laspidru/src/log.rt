@@ -1,42 +1,23 @@
 //! The functions on logs.
 
-ghost use Rattle.std.specs.Prelude.{◌≡◌, ◌≢◌, ◌⊎◌, None, length};
+ghost use Rattle.std.specs.Prelude.{◌≡◌, ◌≢◌, ◌⊎◌, None};
 ghost use Rattle.laspidru.specs.Codes.{IsAnswer, IsAnswerOrNoMemory, unless};
-ghost use Rattle.laspidru.specs.Logs.{IsCommandRun, IsKept, IsKeptRun, IsUnlessEnded, RunAsked};
-ghost use Rattle.laspidru.specs.Logs.{as_output, ending_out, run_asked};
+ghost use Rattle.laspidru.specs.Logs.{IsCommandRun, IsKeptRun, IsUnlessEnded, as_output, run_asked};
 ghost use Rattle.laspidru.specs.Objects.{IsCopy, in_handle, in_use, rest_asked};
 
 mod compared;
 
 use crate::bytes::{checked_text, copy_from};
 use crate::codes::{OK, OUT_OF_MEMORY, OUT_OF_RANGE, or_return};
-use crate::command::{Command, CommandName, CommandRun, command_named, command_of, run_command};
+use crate::command::{Command, CommandRun, command_named, command_of, run_command};
 use crate::endings::{Ending, LogSettings, ending_of, log_settings_of};
 use crate::handle::{Handle, with_object};
 use crate::object::Object;
 use lsp_replay::Settings;
 use std::alloc::Global;
 
-/// Puts the output of a run into an empty handle. After a fault that isn't the log's the output
-/// isn't kept.
-fn keep(alloc: Global, handle: &mut Handle, run: CommandRun, out: &mut Ending) -> u32
-    requires { handle.old.value ≡ None }
-    ensures answer { let ended = ending_out (length run.output.items) run.answer in
-        (result ≡ OUT_OF_MEMORY)
-        ⊎ IsKept ended run.output.items result handle.new.value out.new }
-    ensures unchanged { IsUnlessEnded result
-        ((handle.new.value ≡ handle.old.value) × (out.new ≡ out.old)) }
-{
-    let CommandRun { answer, output } = run;
-    let (code, ending) = or_return!(ending_of(output.len(), answer));
-    if handle.fill(alloc, Object::Output(output)) != OK {
-        return OUT_OF_MEMORY;
-    }
-    *out = ending;
-    code
-}
-
-/// Runs a command, and puts its output into an empty handle.
+/// Runs a command, and puts its output into an empty handle. After a fault that isn't the log's the
+/// output isn't kept.
 #[tactic(auto, using(crate::proofs::Runs::ran_and_kept))]
 fn run_into(
     alloc: Global,
@@ -52,34 +33,13 @@ fn run_into(
     ensures unchanged { IsUnlessEnded result
         ((handle.new.value ≡ handle.old.value) × (out.new ≡ out.old)) }
 {
-    let run = run_command(alloc, command, settings, log);
-    keep(alloc, handle, run, out)
-}
-
-/// Runs the command of a name, and puts its output into an empty handle.
-#[tactic(auto, using(crate::proofs::Runs::command_ran))]
-fn run_named(
-    alloc: Global,
-    handle: &mut Handle,
-    name: CommandName,
-    taken: Settings,
-    settings: &LogSettings,
-    uri: &str,
-    log: &[u8],
-    out: &mut Ending,
-) -> u32
-    requires { handle.old.value ≡ None }
-    ensures answer { let asked : RunAsked =
-        record { name = name; uri = uri.now; settings = taken } in
-        (result ≡ OUT_OF_MEMORY)
-        ⊎ IsCommandRun asked settings.now log.now result handle.new.value out.new }
-    ensures unchanged { IsUnlessEnded result
-        ((handle.new.value ≡ handle.old.value) × (out.new ≡ out.old)) }
-{
-    let Ok(command) = command_of(alloc, name, settings, uri) else {
+    let CommandRun { answer, output } = run_command(alloc, command, settings, log);
+    let (code, ending) = or_return!(ending_of(output.len(), answer));
+    if handle.fill(alloc, Object::Output(output)) != OK {
         return OUT_OF_MEMORY;
-    };
-    run_into(alloc, handle, command, taken, log, out)
+    }
+    *out = ending;
+    code
 }
 
 /// Runs a command over the bytes of a log, and puts its output into an empty handle: of
@@ -91,6 +51,7 @@ fn run_named(
 /// BAD_MAX_BODY, BAD_MAX_TEXT, BAD_MAX_DOCS, BAD_MAX_CHANGES; OUT_OF_MEMORY, or the fault: CUT,
 /// BAD_FRAME, BAD_LOG, of `normalise` also BODY_TOO_LONG. Costs that call, and keeps the output in
 /// memory.
+#[tactic(auto, using(crate::proofs::Runs::command_ran))]
 #[unsafe(no_mangle)]
 pub extern "C" fn laspidru_log_run(
     alloc: Global,
@@ -114,7 +75,10 @@ pub extern "C" fn laspidru_log_run(
     };
     let uri = or_return!(checked_text(uri));
     let taken = or_return!(log_settings_of(settings));
-    run_named(alloc, handle, name, taken, settings, uri, log, out)
+    let Ok(command) = command_of(alloc, name, settings, uri) else {
+        return OUT_OF_MEMORY;
+    };
+    run_into(alloc, handle, command, taken, log, out)
 }
 
 /// Copies the bytes of a command's output, or of a canonical message's frame, from `start` on, as

@@ -1,8 +1,6 @@
 //! Positions, byte offsets and lines of a text.
 
-ghost use Rattle.std.specs.Prelude.{◌≡◌, ◌≢◌, ◌<◌, ◌≤◌, IfNone, IfSome, Ok, OnSome};
-ghost use Rattle.std.specs.Str.{chars};
-ghost use Rattle.lsp_text.specs.TextLines.{line_ends};
+ghost use Rattle.std.specs.Prelude.{◌≡◌, ◌≢◌, Ok};
 ghost use Rattle.laspidru.specs.Codes.{IsAnswer};
 ghost use Rattle.laspidru.specs.Objects.{IsLineExtent, IsPositionAt, line_asked, offset_asked};
 ghost use Rattle.laspidru.specs.Objects.{position_at};
@@ -50,27 +48,17 @@ pub(crate) fn text_position(
     OK
 }
 
-/// Returns the byte offsets at which a line starts and ends, if the text has the line.
-fn line_of(text: &TextBuffer, line: u32) -> Option<Line>
-    ensures some { IfSome result (λ found. IsLineExtent line found text.now) }
-    ensures there { OnSome result (line ≤ line_ends (chars text.now)) }
-    ensures none { IfNone result (line_ends (chars text.now) < line) }
-{
-    let found = text.line(line)?;
-    Some(Line {
-        start: found.start,
-        end: found.end,
-    })
-}
-
 /// Writes the byte offsets at which a line of a text starts and ends to `out`.
 pub(crate) fn text_line(text: &TextBuffer, line: u32, out: &mut Line) -> u32
     ensures answer { IsAnswer (line_asked line (Ok text.now)) result (IsLineExtent line out.new) }
     ensures unchanged { result ≢ OK → out.new ≡ out.old }
 {
-    let Some(found) = line_of(text, line) else {
+    let Some(found) = text.line(line) else {
         return OUT_OF_RANGE;
     };
-    *out = found;
+    *out = Line {
+        start: found.start,
+        end: found.end,
+    };
     OK
 }

@@ -6,25 +6,16 @@ ghost use Rattle.laspidru.specs.Streams.{stream_of};
 
 use crate::codes::OK;
 use crate::framer::copy_body;
-use crate::taken::{Taken, feed, nothing, release};
+use crate::taken::{Taken, feed, nothing};
 use lsp_frame::{Framer, Limits};
 use std::alloc::Global;
-use std::marker::Model;
 
 /// The stream that an end takes its messages from: a framer, and whether the message that it has
 /// buffered was handled.
 #[derive(Drop)]
 pub struct Stream {
-    framer: Framer,
+    framing: Framer,
     is_handled: bool,
-}
-
-impl Model for Stream {
-    ghost use Rattle.laspidru.specs.Streams.{StreamData};
-
-    ghost Value = { StreamData };
-
-    ghost view = { λ it. record { framing = it.framer; is_handled = it.is_handled } };
 }
 
 impl Stream {
@@ -33,7 +24,7 @@ impl Stream {
         ensures { result ≡ stream_of limits }
     {
         Stream {
-            framer: Framer::new(alloc, limits),
+            framing: Framer::new(alloc, limits),
             is_handled: false,
         }
     }
@@ -45,7 +36,7 @@ impl Stream {
         ensures unhandled { self.new.is_handled ≡ false }
     {
         if self.is_handled {
-            release(&mut self.framer);
+            self.framing.next();
             self.is_handled = false;
         }
     }
@@ -57,7 +48,7 @@ impl Stream {
     {
         *out = nothing();
         self.release();
-        feed(&mut self.framer, piece, out)
+        feed(&mut self.framing, piece, out)
     }
 
     /// Returns the body of the buffered message, once it is whole.
@@ -65,7 +56,7 @@ impl Stream {
         ensures { MatchOption result (HasNoBody self.now.framing)
             (λ body. IsBodyOf self.now.framing body.now) }
     {
-        self.framer.body()
+        self.framing.body()
     }
 
     /// Copies the body of the buffered message.
@@ -73,7 +64,7 @@ impl Stream {
         ensures answer { IsBodyAnswer self.now.framing start result out.old out.new copied.new }
         ensures unchanged { result ≢ OK → (out.new ≡ out.old) × (copied.new ≡ copied.old) }
     {
-        copy_body(&self.framer, start, out, copied)
+        copy_body(&self.framing, start, out, copied)
     }
 
     /// Notes that the buffered message was handled, so that the next piece comes after it.

@@ -1,7 +1,7 @@
 //! What is taken of a piece of a stream.
 
 ghost use Rattle.std.specs.Prelude.{◌≡◌, ◌≢◌};
-ghost use Rattle.laspidru.specs.Framers.{HasBody, IsFrameReport, IsPieceFed, IsReleased};
+ghost use Rattle.laspidru.specs.Framers.{HasBody, IsFrameReport, IsPieceFed};
 ghost use Rattle.laspidru.specs.Framers.{frame_code, nothing_taken, number_and_offset};
 
 use crate::codes::{BAD_FRAME, FAILED, OK, OUT_OF_MEMORY};
@@ -92,13 +92,6 @@ fn report_frame(fault: FrameFault, out: &mut Taken) -> u32
         };
     }
     code
-}
-
-/// Releases the message that a framer has buffered, if it is whole.
-pub(crate) fn release(framer: &mut Framer)
-    ensures { IsReleased framer.old framer.new }
-{
-    framer.next();
 }
 
 /// Feeds a piece of a stream to a framer.

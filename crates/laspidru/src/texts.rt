@@ -1,6 +1,6 @@
 //! The version of the library, what its codes mean, and the document of a message.
 
-ghost use Rattle.std.specs.Prelude.{◌≡◌, ◌≢◌, ◌⊎◌, map, option_map, slice_get};
+ghost use Rattle.std.specs.Prelude.{◌≡◌, ◌≢◌, ◌⊎◌, option_map, slice_get};
 ghost use Rattle.lsp_message.specs.Message.{reading};
 ghost use Rattle.lsp_message.specs.Incoming.{incoming_of};
 ghost use Rattle.lsp_message.specs.Seen.{incoming_view};
@@ -64,20 +64,12 @@ pub extern "C" fn laspidru_version() -> u32
     VERSION
 }
 
-/// Returns a text by its number.
-fn text_at(texts: &[&'static str], number: u32) -> Option<&'static str>
-    ensures { option_map (λ text. text.now) result
-        ≡ slice_get (map (λ text. text.now) texts.now) number }
-{
-    let text = texts.get(number as usize)?;
-    Some(*text)
-}
-
 /// Returns the name of a code and what it means.
 fn text_of(code: u32) -> Option<&'static str>
     ensures { option_map (λ text. text.now) result ≡ slice_get code_texts code }
 {
-    text_at(TEXTS.as_slice(), code)
+    let text = TEXTS.as_slice().get(code as usize)?;
+    Some(*text)
 }
 
 /// Copies the name of a code and what it means from `start` on, as many bytes as `out` has room
@@ -106,18 +98,6 @@ fn uri_of(incoming: &Incoming) -> Option<&str>
     }
 }
 
-/// Copies the URI of a message, or returns the code for why there is none.
-fn copy_uri(incoming: &Incoming, start: usize, out: &mut [u8], copied: &mut usize) -> u32
-    ensures answer { IsAnswer (rest_asked start (named_document (incoming_view incoming.now)))
-        result (IsCopy out.old out.new copied.new) }
-    ensures unchanged { result ≢ OK → (out.new ≡ out.old) × (copied.new ≡ copied.old) }
-{
-    let Some(uri) = uri_of(incoming) else {
-        return NO_DOCUMENT;
-    };
-    copy_from(uri.as_bytes(), start, out, copied)
-}
-
 /// Copies the URI of the document that a body opens, changes or closes (LSP 3.17, Text Document
 /// Synchronization) from `start` on, as many bytes as `out` has room for, and returns how many.
 /// Codes: OUT_OF_MEMORY; NO_DOCUMENT of any other body, OUT_OF_RANGE. Costs a pass over the body.
@@ -137,5 +117,8 @@ pub extern "C" fn laspidru_message_uri(
     let Ok(incoming) = Incoming::read(alloc, body) else {
         return OUT_OF_MEMORY;
     };
-    copy_uri(&incoming, start, out, copied)
+    let Some(uri) = uri_of(&incoming) else {
+        return NO_DOCUMENT;
+    };
+    copy_from(uri.as_bytes(), start, out, copied)
 }

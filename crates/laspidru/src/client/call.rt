@@ -1,6 +1,6 @@
 //! A call of a client.
 
-ghost use Rattle.std.specs.Prelude.{◌≡◌, ◌≢◌, IfErr, IfOk, OnErr, string_bytes};
+ghost use Rattle.std.specs.Prelude.{◌≡◌, ◌≢◌, IfErr, IfOk, OnErr};
 ghost use Rattle.lsp_client.specs.Seen.{IsFaultOf, IsSent};
 ghost use Rattle.lsp_client.specs.Step.{call_result, edits, orders};
 ghost use Rattle.laspidru.specs.Clients.{IsCallOn, IsWritten, as_client, open_asked};
@@ -17,7 +17,7 @@ use crate::party::Party;
 use crate::reports::report_call;
 use crate::structs::FaultAt;
 use lsp_client::{Client, ClientFault, Phase};
-use std::alloc::{AllocError, Global};
+use std::alloc::Global;
 
 /// A call of a client. An edit is of a URI, to a version.
 #[derive(Clone, Copy)]
@@ -28,26 +28,6 @@ pub enum Call<'a> {
     Open(&'a str, &'a str, i32, &'a str),
     Edit(&'a str, i32, Passed<'a>),
     Close(&'a str),
-}
-
-/// The three texts of a document, each in a string of its own.
-#[derive(Drop)]
-struct Texts {
-    uri: String,
-    language: String,
-    text: String,
-}
-
-/// Copies the texts of a document that is to be opened.
-fn texts_of(alloc: Global, uri: &str, language: &str, text: &str) -> Result<Texts, AllocError>
-    ensures { IfOk result (λ texts. (string_bytes texts.uri ≡ uri.now)
-        × (string_bytes texts.language ≡ language.now) × (string_bytes texts.text ≡ text.now)) }
-{
-    Ok(Texts {
-        uri: uri.to_string(alloc)?,
-        language: language.to_string(alloc)?,
-        text: text.to_string(alloc)?,
-    })
 }
 
 /// Opens a document of a client in phase Ready.
@@ -68,8 +48,10 @@ fn opened(
 {
     match client.phase() {
         Phase::Ready => {
-            let texts = texts_of(alloc, uri, language, text)?;
-            client.open(texts.uri, texts.language, version, texts.text)
+            let uri = uri.to_string(alloc)?;
+            let language = language.to_string(alloc)?;
+            let text = text.to_string(alloc)?;
+            client.open(uri, language, version, text)
         }
         phase => Err(ClientFault::WrongPhase { phase }),
     }

@@ -1,9 +1,8 @@
 //! The function that compares a log with a saved text.
 
-ghost use Rattle.std.specs.Prelude.{◌≡◌, ◌⊎◌, IfOk, None};
+ghost use Rattle.std.specs.Prelude.{◌≡◌, IfOk};
 ghost use Rattle.line_diff.specs.Compared.{new_comparison};
 ghost use Rattle.laspidru.specs.Codes.{IsAnswerOrNoMemory, unless};
-ghost use Rattle.laspidru.specs.declared.command.Command.TheVariants.{Compare};
 ghost use Rattle.laspidru.specs.Logs.{IsKeptRun, IsUnlessEnded, comparison_asked};
 ghost use Rattle.laspidru.specs.Objects.{in_use};
 
@@ -13,7 +12,7 @@ use crate::command::Command;
 use crate::endings::{Ending, LogSettings, log_settings_of};
 use crate::handle::Handle;
 use crate::log::run_into;
-use lsp_replay::{Comparison, Settings};
+use lsp_replay::Comparison;
 use std::alloc::{AllocError, Global};
 
 /// Returns a comparison with a saved text, before the log was read.
@@ -23,30 +22,6 @@ fn comparison_of(alloc: Global, uri: &str, saved: &str) -> Result<Comparison, Al
     let uri = uri.to_string(alloc)?;
     let saved = saved.to_string(alloc)?;
     Ok(Comparison::new(uri, saved))
-}
-
-/// Compares a log with a saved text, and puts the output into an empty handle.
-fn compare_into(
-    alloc: Global,
-    handle: &mut Handle,
-    taken: Settings,
-    uri: &str,
-    saved: &str,
-    log: &[u8],
-    out: &mut Ending,
-) -> u32
-    requires { handle.old.value ≡ None }
-    ensures answer { let command = Compare (new_comparison uri.now saved.now) in
-        (result ≡ OUT_OF_MEMORY)
-        ⊎ IsKeptRun command taken log.now result handle.new.value out.new }
-    ensures unchanged { IsUnlessEnded result
-        ((handle.new.value ≡ handle.old.value) × (out.new ≡ out.old)) }
-{
-    let Ok(comparison) = comparison_of(alloc, uri, saved) else {
-        return OUT_OF_MEMORY;
-    };
-    let command = Command::Compare(comparison);
-    run_into(alloc, handle, command, taken, log, out)
 }
 
 /// Compares the last text of a document of a log with a saved one, and puts the output of
@@ -77,5 +52,9 @@ pub extern "C" fn laspidru_log_compare(
     let uri = or_return!(checked_text(uri));
     let saved = or_return!(checked_text(saved));
     let taken = or_return!(log_settings_of(settings));
-    compare_into(alloc, handle, taken, uri, saved, log, out)
+    let Ok(comparison) = comparison_of(alloc, uri, saved) else {
+        return OUT_OF_MEMORY;
+    };
+    let command = Command::Compare(comparison);
+    run_into(alloc, handle, command, taken, log, out)
 }

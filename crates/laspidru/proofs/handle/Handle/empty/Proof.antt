@@ -26,7 +26,7 @@ empty_spec 𝓤 𝓛 𝓜 𝓡 wired =
     enter ! 𝓣.C 𝓣.Λ f (v ∷ []) Post $ alloc_all ! (λ l. pass_all ! refl (v-fits, tt) $
     sets ! (agg ! (and_then ! (lit ! tt) (and_then ! (false_lit !) (and_then ! (get ! refl) (no_more !))))) refl
     (triple_fits null_ptr false h fits) $
-    nothing ! $ closes_handle ! null_ptr false h alloc None $
+    nothing ! $ closes_handle ! null_ptr false h alloc None refl $
     use0 𝓛 (raw (fact 𝓤 (none ≡ none))) (fact_i 𝓤 (none ≡ none) (emp 𝓤) refl) $ nothing ! $ nothing ! $ fjoin ! $
     returns ! (look_at ! 0 refl) $ free_all ! refl $ keep ! (4 ∷ 0 ∷ 2 ∷ 1 ∷ []) $
     by ! (leaves 𝓛 ended stays c y (triple null_ptr false h) (record {
@@ -34,4 +34,5 @@ empty_spec 𝓤 𝓛 𝓜 𝓡 wired =
       is_full = false;
       alloc = alloc;
       value = None;
+      full = refl;
     }) (tt, tt) (tt, tt)))))

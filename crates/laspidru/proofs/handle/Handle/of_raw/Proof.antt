@@ -33,7 +33,7 @@ of_raw_spec 𝓤 𝓛 𝓜 𝓡 wired =
     sets ! (of_opd ! (get_in ! (fld ! refl (stop !)) (sub ! 1 refl (whole !)))) refl fits $
     sets ! (of_opd ! (get ! refl)) refl (tt, tt) $
     sets ! (agg ! (and_then ! (get ! refl) (and_then ! (true_lit !) (and_then ! (get ! refl) (no_more !))))) refl full $
-    closes_handle ! (block_ptr b o) true h owned.alloc (Some owned.value) $
+    closes_handle ! (block_ptr b o) true h owned.alloc (Some owned.value) refl $
     use0 𝓛 (raw (fact 𝓤 (Some owned.value ≡ Some owned.value))) (fact_i 𝓤 (Some owned.value ≡ Some owned.value) (emp 𝓤)
     refl) $ nothing ! $ nothing ! $ fjoin ! $
     returns ! (look_at ! 0 refl) $ free_all ! refl $ keep ! (4 ∷ 0 ∷ 2 ∷ 1 ∷ []) $
@@ -42,4 +42,5 @@ of_raw_spec 𝓤 𝓛 𝓜 𝓡 wired =
       is_full = true;
       alloc = owned.alloc;
       value = Some owned.value;
+      full = refl;
     }) (tt, tt) (tt, tt)))))
