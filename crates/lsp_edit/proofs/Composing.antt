@@ -1,8 +1,6 @@
 -- The pieces of a text that changes leave, change by change.
 pub mod AppliedLemmas
-pub mod CurrentLemmas
 pub mod EditedLemmas
 pub mod EndLemmas
 pub mod RoomLemmas
-pub mod SpannedLemmas
 pub mod ThenLemmas

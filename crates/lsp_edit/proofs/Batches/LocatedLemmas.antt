@@ -1,14 +1,12 @@
 -- What text edits leave by indexes is what they leave once they are sorted by their byte offsets.
-use Rattle.lsp_edit.proofs.Prelude.{ℕ, suc, ◌≡◌, ◌+◌, ◌-◌, ◌<◌, ◌≤◌, ◌⊎◌, zero, Bool, true, false, cond, ◌==◌, nat_lt, nat_le, List, [], ◌∷◌, ◌++◌, length, map, filter, flat_map, slice_index_or as get_or, Ok, refl, sym, ap, ap₂, ◌∙◌, subst, arith, ⊎_elim, inl, inr, append-nil, lt-ltb, le-ltb, ltb-false, ne_eqb, eq-eqb, Contains, AllByRecursion, IsPermutation, IsNonDecreasingBy, ties, chars, IsUtf8, cases_Bool, cases_eq, cases_lt, length-map, recursion_from_All, filter_agree, All-permutation, Contains-permutation, IsNonDecreasingBy-from_sort, IsPermutation-map, IsPermutation-sym, list_any-IsPermutation, IsPlace, place_of, numbers_from, place_rises, Placed, TextEdit, TextEditFault, ContentChange, meaning, canonical, Item, Old, New, Keeps, Part, AreParts, index_of, items_of, LocatedEdit, located, new_at, is_taken_out, left_at, items_left, ComesBefore, NoneOverlap, IsBatchOfEdits, HasRangeFault, EditsOverlap, IsEditsFault, located_of, Lies, ArePlaced, IsInOrder, AreApart, old_parts, parts_left, AreLeftByEdits, DoOverlap, PlacedOverlap, IsPlacingFault, common_steps}
+use Rattle.lsp_edit.proofs.Prelude.{ℕ, suc, ◌≡◌, ◌+◌, ◌-◌, ◌<◌, ◌≤◌, zero, Bool, true, false, cond, ◌==◌, nat_lt, nat_le, List, [], ◌∷◌, ◌++◌, length, map, filter, flat_map, slice_index_or as get_or, Ok, refl, sym, ap, ap₂, ◌∙◌, subst, arith, ⊎_elim, inl, inr, append-nil, lt-ltb, le-ltb, ltb-false, ne_eqb, eq-eqb, Contains, AllByRecursion, IsPermutation, ties, chars, IsUtf8, cases_Bool, cases_eq, cases_lt, length-map, recursion_from_All, filter_agree, All-permutation, Contains-permutation, IsNonDecreasingBy-from_sort, IsPermutation-map, IsPermutation-sym, list_any-IsPermutation, IsPlace, place_of, numbers_from, place_rises, Placed, TextEdit, TextEditFault, ContentChange, meaning, canonical, Item, Old, New, Keeps, Part, AreParts, index_of, items_of, LocatedEdit, located, new_at, is_taken_out, left_at, items_left, ComesBefore, NoneOverlap, IsBatchOfEdits, EditsOverlap, located_of, Lies, ArePlaced, IsInOrder, AreApart, old_parts, parts_left, AreLeftByEdits, DoOverlap, common_steps, flat_map-append}
 use Rattle.std.specs.List.{All, AllPairs}
 use Rattle.std.specs.Ordering.{is_lt, nat_cmp}
 use Rattle.std.proofs.lemmas.List.{get_or-map, get_or_default}
 use Rattle.std.proofs.lemmas.List.Kept.{AllPairs-filter}
-use Rattle.lsp_edit.specs.declared.text_edits.TextEditFault.TheVariants.{NoMemory}
 use Rattle.lsp_edit.proofs.Canonical.RebuiltLemmas.{canonical_makes}
-use Rattle.lsp_edit.proofs.Composing.EditedLemmas.{index_first, index_last}
-use Rattle.lsp_edit.proofs.Deltas.OwnedLemmas.{items_both}
-use Rattle.lsp_edit.proofs.Parts.IndexLemmas.{index_of-place, index_rises}
+use Rattle.lsp_edit.proofs.Composing.EditedLemmas.{index_last}
+use Rattle.lsp_edit.proofs.Parts.IndexLemmas.{index_of-place, index_rises, index_first}
 use Rattle.lsp_edit.proofs.Parts.PutLemmas.{new_items}
 use Rattle.lsp_edit.proofs.Batches.TextEditLemmas.{no_edit, at_first, at_index, at_whole, at_within, left_are}
 use Rattle.lsp_edit.proofs.Batches.LocatedRowLemmas.{StandApart, stops_in_order, rises, none_overlap, at_one, agree, left_from, left_keeps, runs_through}
@@ -113,8 +111,7 @@ module _ (old : List ℕ) where
         (λ (l : p.start < q.start). inl (places_less p.start q.start (lie i no_edit (omega arith)).at_start
         (lie j no_edit within).at_start l))
         (λ (l : q.start ≤ p.start).
-        let up : IsNonDecreasingBy (λ (e : Placed). e.start) ordered =
-        IsNonDecreasingBy-from_sort (λ (e : Placed). e.start) ordered order.sorted in
+        let up = IsNonDecreasingBy-from_sort (λ (e : Placed). e.start) ordered order.sorted in
         let e : p.start ≡ q.start = omega (arith, up i j no_edit (omega arith) within) in
         inr (
           ap (index_of old) e,
@@ -158,15 +155,14 @@ module _ (old : List ℕ) where
     lies_at : (k : ℕ) (p : Placed) → k < length ordered → get_or ordered k p ≡ p → Lies old p
     lies_at k p within is = subst (Lies old) is (lie k p within)
 
-    overlap_by_indexes : (fault : TextEditFault) → DoOverlap ordered fault → EditsOverlap units old edits fault
+    pub overlap_by_indexes : (fault : TextEditFault) → DoOverlap ordered fault → EditsOverlap units old edits fault
     overlap_by_indexes fault over =
         let first : LocatedEdit = located_of old over.first in
         let second : LocatedEdit = located_of old over.second in
         let k : ℕ = over.index in
         let low : k < length ordered = omega (arith, over.within) in
         let a : get_or (all_of ordered) k first ≡ first = located_at k over.first low over.first_is in
-        let b : get_or (all_of ordered) (k + 1) second ≡ second =
-        located_at (k + 1) over.second over.within over.second_is in
+        let b = located_at (k + 1) over.second over.within over.second_is in
         let a_in : k < length (all_of ordered) = omega (arith, long) in
         let b_in : k + 1 < length (all_of ordered) = omega (arith, long, over.within) in
         record {
@@ -216,19 +212,6 @@ module _ (old : List ℕ) where
         (λ i from to. ap₂ (at_one i) (new_same i (omega arith)) (taken_same i)))
         (ap (map New) (new_same (length old) (omega arith)))
 
-  pub fault_by_indexes : (units : ℕ → ℕ) (edits : List TextEdit) (fault : TextEditFault)
-      → IsPlacingFault units old edits fault → IsEditsFault units old edits fault
-  fault_by_indexes units edits fault why =
-      ⊎_elim
-      (λ (none : fault ≡ NoMemory). inl none)
-      (λ (some : HasRangeFault units old edits fault ⊎ PlacedOverlap units old edits fault). inr
-      (⊎_elim
-      (λ (range : HasRangeFault units old edits fault). inl range)
-      (λ (over : PlacedOverlap units old edits fault).
-      inr (overlap_by_indexes units edits over.placed over.ordered over.at over.order fault over.over))
-      some))
-      why
-
 module _ (before : List ℕ) (utf8 : IsUtf8 before) where
   old_row : (from to : ℕ) → items_of (chars before) (old_parts from to)
       ≡ map Old (numbers_from (index_of (chars before) from) (index_of (chars before) to - index_of (chars before)
@@ -240,7 +223,7 @@ module _ (before : List ℕ) (utf8 : IsUtf8 before) where
       ≡ left_from (length (chars before)) (index_of (chars before) low) (all_of (chars before) ps)
   parts_by_indexes low [] all = grind (arith, common_steps, old_row, index_last)
   parts_by_indexes low (p ∷ ps) all =
-      grind (arith, common_steps, items_both, ap₂, old_row, new_items, (parts_by_indexes p.stop ps all.1))
+      grind (arith, common_steps, flat_map-append, ap₂, old_row, new_items, (parts_by_indexes p.stop ps all.1))
 
   module _ (units : ℕ → ℕ) (edits : List TextEdit) (parts : List Part)
       (left : AreLeftByEdits units before edits parts) where
@@ -270,8 +253,7 @@ module _ (before : List ℕ) (utf8 : IsUtf8 before) where
         → IsBatchOfEdits units before edits answered
     batch_by_indexes some answered is =
         let all : List LocatedEdit = all_of (chars before) left.placed in
-        let items : items_of (chars before) parts ≡ items_left all (length (chars before)) =
-        items_are ∙ (sym (runs_through (chars before) 0 (length (chars before)) ordered stand (omega arith))
+        let items = items_are ∙ (sym (runs_through (chars before) 0 (length (chars before)) ordered stand (omega arith))
         ∙ sym (left_same (chars before) units edits left.placed left.ordered left.at left.order)) in
         record {
           all = all;

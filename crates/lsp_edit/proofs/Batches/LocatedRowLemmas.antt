@@ -1,11 +1,10 @@
 -- Text edits by indexes, each behind the one before it: they don't overlap, and what they leave at each index is the
 -- row of what each leaves.
-use Rattle.lsp_edit.proofs.Prelude.{ℕ, zero, suc, ◌≡◌, ◌+◌, ◌-◌, ◌<◌, ◌≤◌, Bool, true, false, if◌then◌else◌, List, [], ◌∷◌, ◌++◌, length, map, flat_map, slice_index_or as get_or, refl, sym, ap, ap₂, ◌∙◌, subst, arith, ⊎_elim, inl, append_assoc, append-nil, lt-ltb, le-ltb, le-leb, ne_eqb, eq-eqb, Contains, AllByRecursion, All-from_recursion, cases_lt, lt-leb, map-append, flat_map-append, flat_map_single, numbers_from, splits_crlf, Item, Old, New, Keeps, LocatedEdit, new_at, is_taken_out, left_at, ComesBefore, NoneOverlap, common_steps}
+use Rattle.lsp_edit.proofs.Prelude.{ℕ, zero, suc, ◌≡◌, ◌+◌, ◌-◌, ◌<◌, ◌≤◌, Bool, true, false, if◌then◌else◌, List, [], ◌∷◌, ◌++◌, length, map, flat_map, slice_index_or as get_or, refl, sym, ap, ap₂, ◌∙◌, subst, arith, ⊎_elim, inl, append_assoc, append-nil, lt-ltb, le-ltb, le-leb, ne_eqb, eq-eqb, AllByRecursion, All-from_recursion, cases_lt, lt-leb, map-append, flat_map-append, flat_map_single, numbers_from, splits_crlf, Item, Old, New, Keeps, LocatedEdit, new_at, is_taken_out, left_at, ComesBefore, NoneOverlap, common_steps, numbers_split}
 use Rattle.std.specs.List.{AllPairs}
 use Rattle.std.proofs.lemmas.List.{get_or_default}
 use Rattle.std.proofs.lemmas.List.Kept.{AllPairs-cons}
 use Rattle.lsp_edit.proofs.Canonical.KeepsLemmas.{keeps_from_lower, new_keeps, row_keeps}
-use Rattle.lsp_edit.proofs.Canonical.RebuiltLemmas.{numbers-append}
 
 -- Each edit starts where the one before it stops or later, and no end splits a CRLF.
 abbrev pub StandApart : List ℕ → ℕ → List LocatedEdit → Type 0
@@ -70,8 +69,7 @@ nothing_there : (old : List ℕ) (low i : ℕ) (es : List LocatedEdit) → Stand
     → (new_at es i ≡ []) × (is_taken_out es i ≡ false)
 nothing_there old low i [] stand less = (refl, refl)
 nothing_there old low i (e ∷ es) stand less =
-    let rest : (new_at es i ≡ []) × (is_taken_out es i ≡ false) =
-    nothing_there old e.stop i es stand.4 (omega (arith, stand.0, stand.1)) in (
+    let rest = nothing_there old e.stop i es stand.4 (omega (arith, stand.0, stand.1)) in (
       rw (ne_eqb e.start i (λ s. omega (arith, stand.0))) rest.0,
       rw (lt-leb e.start i (omega (arith, stand.0))) rest.1,
     )
@@ -120,7 +118,7 @@ split_row : (f : ℕ → List Item) (low a rest all : ℕ) → all ≡ a + rest 
     ≡ flat_map f (numbers_from low a) ++ flat_map f (numbers_from (low + a) rest)
 split_row f low a rest all is =
     ap (λ (n : ℕ). flat_map f (numbers_from low n)) is
-    ∙ (ap (flat_map f) (numbers-append low a rest) ∙ flat_map-append f (numbers_from low a) (numbers_from
+    ∙ (ap (flat_map f) (numbers_split low a rest) ∙ flat_map-append f (numbers_from low a) (numbers_from
     (low + a) rest))
 
 run_keeps : (old : List ℕ) (low count : ℕ) (items : List Item) → low + count ≤ length old
@@ -140,8 +138,7 @@ pub left_keeps : (old : List ℕ) (low : ℕ) (es : List LocatedEdit) → StandA
 left_keeps old low [] stand = row_keeps old low (length old - low) (omega (arith, stand.0))
 left_keeps old low (e ∷ es) stand =
     let n : e.start ≡ low + (e.start - low) = omega (arith, stand.0) in
-    let rest : Keeps old e.start (map New e.text ++ left_from (length old) e.stop es) =
-    new_keeps old e.start e.text (left_from (length old) e.stop es) stand.3
+    let rest = new_keeps old e.start e.text (left_from (length old) e.stop es) stand.3
     (keeps_from_lower old e.start e.stop (left_from (length old) e.stop es) stand.1 stand.3
     (stand_whole old e.stop es stand.4) (left_keeps old e.stop es stand.4)) in
     run_keeps old low (e.start - low) (map New e.text ++ left_from (length old) e.stop es)

@@ -1,6 +1,6 @@
 -- Parts with the bytes between two places replaced: what they stand for, and how many they are.
 use Rattle.lsp_edit.proofs.Prelude.{ℕ, suc, ◌≡◌, ◌+◌, ◌-◌, ◌≤◌, true, false, List, [], ◌∷◌, ◌++◌, length, map, take, drop, ◌==◌, sym, ap, ap₂, ◌∙◌, arith, append_assoc, append-nil, lt-ltb, le-ltb, ne_eqb, eq-eqb, eqb-true, ⊎_elim, chars, IsUtf8, is_utf8, cases_eq, cases_lt, cases_Bool, map-append, length-append, nil_from_length, flat_map-append, chars-nil, place_of, numbers_from, Item, Old, New, text_of, Part, OldPart, NewPart, index_of, items_in, items_of, part_len, IsPartOf, AreParts, new_parts, front_parts, back_parts, joined, put_part, put_parts, replaced_parts, common_steps}
-use Rattle.lsp_edit.proofs.Canonical.RebuiltLemmas.{numbers-append}
+use Rattle.lsp_edit.proofs.Canonical.RebuiltLemmas.{numbers_between}
 use Rattle.lsp_edit.proofs.Parts.IndexLemmas.{index_rises}
 use Rattle.lsp_edit.proofs.Parts.CutPartsLemmas.{AreCutAt, cut_parts}
 
@@ -28,8 +28,7 @@ cut_adds (part ∷ parts) start stop order =
 
 joined_few : (first part : Part) → length (joined first part) ≤ 2
 joined_few (OldPart from to) (OldPart next end) = grind (arith, common_steps, cases_Bool)
-joined_few (OldPart from to) (NewPart bytes) = omega arith
-joined_few (NewPart bytes) part = omega arith
+joined_few first part = omega arith
 
 put_one_more : (parts : List Part) (part : Part) → length (put_part parts part) ≤ suc (length parts)
 put_one_more [] part = omega arith
@@ -68,20 +67,14 @@ module _ (old : List ℕ) where
       rows : (a b c : ℕ) → a ≤ b → b ≤ c → map Old (numbers_from a (c - a)) ≡ map Old (numbers_from a (b - a))
           ++ map Old (numbers_from b (c - b))
       rows a b c low high =
-          let n : (b - a) + (c - b) ≡ c - a = omega arith in
-          let m : a + (b - a) ≡ b = omega arith in
-          let r : numbers_from a ((b - a) + (c - b)) ≡ numbers_from a (b - a) ++ numbers_from (a + (b - a)) (c - b) =
-          numbers-append a (b - a) (c - b) in
-          let s : numbers_from a (c - a) ≡ numbers_from a (b - a) ++ numbers_from b (c - b) = rw (n, m) at r in
-          ap (map Old) s ∙ map-append Old (numbers_from a (b - a)) (numbers_from b (c - b))
+          ap (map Old) (numbers_between a b c low high)
+          ∙ map-append Old (numbers_from a (b - a)) (numbers_from b (c - b))
 
       touching : to ≡ next → (to == next) ≡ true → (items_of (chars old) (joined (OldPart from to) (OldPart next end))
           ≡ items_in (chars old) (OldPart from to) ++ items_in (chars old) (OldPart next end))
           × AreParts old (joined (OldPart from to) (OldPart next end))
       touching same e =
-          let here : items_in (chars old) (OldPart from end) ≡ items_in (chars old) (OldPart from to)
-          ++ items_in (chars old) (OldPart to end)
-          = rows (index_of (chars old) from) (index_of (chars old) to) (index_of (chars old) end)
+          let here = rows (index_of (chars old) from) (index_of (chars old) to) (index_of (chars old) end)
           (index_rises (chars old) from to (omega (arith, is.0)))
           (index_rises (chars old) to end (omega (arith, was.0))) in
           rw e (grind (arith, common_steps, append-nil), ((omega (arith, is.0, was.0), is.1, was.2), tt))
@@ -97,7 +90,7 @@ module _ (old : List ℕ) where
   put_items (first ∷ second ∷ parts) part are is =
       grind (arith, common_steps, append_assoc, (put_items (second ∷ parts) part are.1 is))
 
-  are_both : (parts more : List Part) → AreParts old parts → AreParts old more → AreParts old (parts ++ more)
+  pub are_both : (parts more : List Part) → AreParts old parts → AreParts old more → AreParts old (parts ++ more)
   are_both [] more are were = were
   are_both (part ∷ parts) more are were = (are.0, are_both parts more are.1 were)
 
@@ -106,8 +99,7 @@ module _ (old : List ℕ) where
       × AreParts old (put_parts parts more)
   put_all_items parts [] are were = (sym (append-nil (items_of (chars old) parts)), are)
   put_all_items parts (first ∷ rest) are were =
-      let p : (items_of (chars old) (put_part parts first) ≡ items_of (chars old) parts ++ items_in (chars old) first)
-      × AreParts old (put_part parts first) = put_items parts first are were.0 in (
+      let p = put_items parts first are were.0 in (
         grind (arith, common_steps, flat_map-append, append_assoc),
         are_both (put_part parts first) rest p.1 were.1,
       )
@@ -127,17 +119,12 @@ module _ (old : List ℕ) where
       (place_of (text_of (chars old) (items_of (chars old) parts)) stop) bytes)
   replaced_items old_utf8 parts start stop bytes are utf8 order within =
       let text : List ℕ = text_of (chars old) (items_of (chars old) parts) in
-      let a : AreCutAt old old_utf8 parts start (place_of text start) =
-      cut_parts old old_utf8 parts start are (omega arith) in
+      let a = cut_parts old old_utf8 parts start are (omega arith) in
       let b : AreCutAt old old_utf8 parts stop (place_of text stop) = cut_parts old old_utf8 parts stop are within in
-      let n : (items_of (chars old) (new_parts bytes) ≡ map New (chars bytes)) × AreParts old (new_parts bytes) =
-      new_items bytes utf8 in
+      let n = new_items bytes utf8 in
       let front : List Part = front_parts parts (place_of text start) ++ new_parts bytes in
-      let front_is : items_of (chars old) front ≡ take start (items_of (chars old) parts) ++ map New (chars bytes) =
-      flat_map-append (items_in (chars old)) (front_parts parts (place_of text start)) (new_parts bytes)
+      let front_is = flat_map-append (items_in (chars old)) (front_parts parts (place_of text start)) (new_parts bytes)
       ∙ ap₂ (λ (x y : List Item). x ++ y) a.front n.0 in
-      let all : (items_of (chars old) (put_parts front (back_parts parts (place_of text stop)))
-      ≡ items_of (chars old) front ++ items_of (chars old) (back_parts parts (place_of text stop)))
-      × AreParts old (put_parts front (back_parts parts (place_of text stop)))
-      = put_all_items front (back_parts parts (place_of text stop)) (are_both (front_parts parts (place_of text start))
+      let all =
+      put_all_items front (back_parts parts (place_of text stop)) (are_both (front_parts parts (place_of text start))
       (new_parts bytes) a.front_are n.1) b.back_are in (grind (arith, common_steps, ap₂, append_assoc), all.1)
