@@ -1,5 +1,5 @@
 -- The parts of a message with one change of a range, by their bytes.
-use Rattle.lsp_message.proofs.Prelude.{◌≡◌, ℕ, List, [], ◌∷◌, ◌++◌, take, drop, length, get_or, true, false, Option, Some, None, ◌≤◌, ◌<◌, max, refl, sym, ap, ap₂, ◌∙◌, subst, arith, codes, ◌==◌, ◌⊎◌, inl, inr, get_or-take, length-take-le, take-append-drop, drop-cons, suc, or_cases, eqb-true, ◌||◌, not, option_map, option_and_then, append_assoc, ends_word, is_stop, IsNumber, escape, Data, Members, number, string, array, object, no_members, no_items, item, put, unsigned, number_of, of_members, read, tokens, json_tokens, members_tokens, Range, content_change_in, member_at, natural_in, range_of, IsTaken, IsValueAt, IsLengthAt, common_steps}
+use Rattle.lsp_message.proofs.Prelude.{◌≡◌, ℕ, List, [], ◌∷◌, ◌++◌, take, drop, length, get_or, true, false, Option, Some, None, ◌≤◌, ◌<◌, max, refl, sym, ap, ap₂, ◌∙◌, arith, codes, ◌==◌, get_or-take, length-take-le, take-append-drop, drop-cons, suc, or_cases, eqb-true, ◌||◌, not, option_map, option_and_then, append_assoc, ends_word, is_stop, IsNumber, escape, Data, Members, number, string, array, object, no_members, no_items, item, put, unsigned, number_of, of_members, read, tokens, json_tokens, members_tokens, Range, content_change_in, member_at, natural_in, range_of, IsTaken, IsValueAt, IsLengthAt, common_steps}
 use Rattle.json.specs.Json as json
 use Rattle.json.specs.Text.{content}
 use Rattle.json.specs.Token as kind
@@ -8,7 +8,7 @@ use Rattle.json.specs.Lex.{token, comma, colon, lex, between, punctuate, fresh, 
 use Rattle.json.proofs.Printed.Strings.{content-escape, lex-escape}
 use Rattle.json.proofs.Printed.Numbers.{lex-number}
 use Rattle.json.proofs.Printed.Plain.{escape_on_plain}
-use Rattle.lsp_message.proofs.Converted.{read_json}
+use Rattle.lsp_message.proofs.Grammar.{read_json}
 
 -- ---- blanks
 
@@ -29,16 +29,7 @@ no_bytes (x ∷ xs) e = let never : ⊥ = omega (arith, eqb-true (length (x ∷ 
 pub blank_read : (text : List ℕ) (i : ℕ) → i < length text → (get_or text i 0 == 32 || get_or text i 0 == 10) ≡ true
     → lex between (drop (suc i) text) ≡ lex between (drop i text)
 blank_read text i within blank =
-    by_case (or_cases (get_or text i 0 == 32) (get_or text i 0 == 10) blank) where
-      split : drop i text ≡ get_or text i 0 ∷ drop (suc i) text
-      split = drop-cons text i 0 within
-
-      by_case : ((get_or text i 0 == 32) ≡ true) ⊎ ((get_or text i 0 == 10) ≡ true)
-          → lex between (drop (suc i) text) ≡ lex between (drop i text)
-      by_case (inl e) = sym (ap (lex between) (split ∙ ap (λ x. x ∷ drop (suc i) text) (eqb-true (get_or text i 0) 32 e))
-          ∙ space_read (drop (suc i) text))
-      by_case (inr e) = sym (ap (lex between) (split ∙ ap (λ x. x ∷ drop (suc i) text) (eqb-true (get_or text i 0) 10 e))
-          ∙ line_feed_read (drop (suc i) text))
+    grind (arith, common_steps, or_cases, eqb-true, drop-cons, space_read, line_feed_read)
 
 -- ---- texts and numbers
 
@@ -187,11 +178,14 @@ abbrev pub with_length : Option ℕ → Members → Members
 with_length None ms = ms
 with_length (Some n) ms = put (codes "rangeLength") (number (unsigned n)) ms
 
-pub length_later : {e : List ℕ} {into : Members → Members} (old new : List ℕ) (length : Option ℕ)
-    → IsLengthAt old length new → AreLaterAt 0 new into e → AreLaterAt 0 old (λ ms. into (with_length length ms)) e
+pub length_later : {a b c : List ℕ} {into : Members → Members} (old new text : List ℕ) (length : Option ℕ)
+    → IsLengthAt old length new → IsTaken new (codes "\"text\":") a → IsValueAt 0 a (string text) b
+    → AreLaterAt 0 b into c
+    → AreLaterAt 0 old (λ ms. into (put (codes "text") (string text) (with_length length ms))) c
 unfolding lex content
-length_later {e} {into} old new None same rest = subst (λ t. AreLaterAt 0 t into e) (sym same) rest
-length_later old new (Some n) (a, b, t, u, v) rest = later (codes "rangeLength") t u (λ r. refl) v rest
+length_later old new text None t u v rest = later (codes "text") t u (λ r. refl) v rest
+length_later old new text (Some n) (name, value, end, t, m, l, w) u v rest =
+    later (codes "rangeLength") t m (λ r. refl) l (later (codes "text") w u (λ r. refl) v rest)
 
 abbrev pub change_data : Option ℕ → Data → List ℕ → Data
 change_data length range text =

@@ -28,15 +28,14 @@ id_in-id_value : (id : IdData) → IsProperId id → id_in (values.id_value id) 
 id_in-id_value (whole (pos n)) h = ap (option_map whole) (as_i64-of_integer (pos n) h)
 id_in-id_value _ h = refl
 
-message_of-error_reply : (id : Option IdData) (error : ErrorCode) → IfSome id IsProperId
-    → message_of (values.error_reply_value id error) ≡ message (sent (spec.error_reply id error))
-message_of-error_reply (Some (whole n)) error h = rw (id_in-id_value (whole n) h) refl
-message_of-error_reply _ error h = refl
+id_found-id_or_null : (id : Option IdData) → IfSome id IsProperId → id_found (Some (values.id_or_null id)) ≡ id
+id_found-id_or_null None h = refl
+id_found-id_or_null (Some id) h = id_in-id_value id h
 
 message_of-value_of : (m : OutgoingData) → IsProper m → message_of (values.value_of m) ≡ message (sent m)
 message_of-value_of (spec.initialize_result (whole n) encoding kind) h = rw (id_in-id_value (whole n) h) refl
 message_of-value_of (spec.shutdown_result (whole n)) h = rw (id_in-id_value (whole n) h) refl
-message_of-value_of (spec.error_reply id error) h = message_of-error_reply id error h
+message_of-value_of (spec.error_reply id error) h = grind (arith, common_steps, id_found-id_or_null)
 message_of-value_of _ h = refl
 
 pub reading-body_of : (m : OutgoingData) → IsProper m → reading (spec.body_of m) ≡ message (sent m)
@@ -63,21 +62,15 @@ content_changes_in-edits : (es : List ContentChangeData) → All IsProperEdit es
 content_changes_in-edits [] h = refl
 content_changes_in-edits (e ∷ es) h =
     let first = h 0 e (omega arith) in
-    rw (
-      content_change_in-content_change_value e.range e.text first.range,
-      content_changes_in-edits es (λ k d l. h (suc k) d
-          (omega arith)),
-    ) refl
+    let later = content_changes_in-edits es (λ k d l. h (suc k) d (omega arith)) in
+    rw (content_change_in-content_change_value e.range e.text first.range, later) refl
 
 open_of-open_params : (p : DocumentItem) → IsProperDocument p → open_of (Some (values.open_params p)) ≡ Some p
 open_of-open_params p h = rw (version_in-of_integer p.version h.version) refl
 
 change_of-change_params : (p : ChangeData) → IsProperChange p → change_of (Some (values.change_params p)) ≡ Some p
-change_of-change_params p h = rw (
-  version_in-of_integer p.version h.version,
-  content_changes_in-edits p.changes
-      h.changes,
-) refl
+change_of-change_params p h =
+    rw (version_in-of_integer p.version h.version, content_changes_in-edits p.changes h.changes) refl
 
 offers_of-initialize_params : (utf8 utf32 : Bool) → let offers : Offers = record { utf8 = utf8; utf32 = utf32 } in
     offers_of (Some (values.initialize_params offers)) ≡ Some offers
@@ -146,10 +139,6 @@ written_by None d = replied (id_found (get (codes "id") d)) (get (codes "error")
 
 abbrev written_as : Data → Option OutgoingData
 written_as d = written_by (text_in (get (codes "method") d)) d
-
-id_found-id_or_null : (id : Option IdData) → IfSome id IsProperId → id_found (Some (values.id_or_null id)) ≡ id
-id_found-id_or_null None h = refl
-id_found-id_or_null (Some id) h = id_in-id_value id h
 
 error_named-text : (e : ErrorCode) → error_named (spec.error_message e) ≡ Some e
 error_named-text ParseError = refl

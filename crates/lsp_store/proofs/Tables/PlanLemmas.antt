@@ -1,5 +1,5 @@
 -- What a plan is of, and what it makes of a store.
-use Rattle.lsp_store.proofs.Prelude.{◌≡◌, ◌≤◌, ℕ, ℤ, zero, suc, Bool, List, [], ◌∷◌, length, map, nat_lt, Option, Some, None, Result, Ok, Err, IfOk, OnOk, option_map, slice_get, position, String, string_bytes, bytes_eq, refl, sym, ap, ◌∙◌, subst, arith, cases_Bool, slice_get-map, bytes_eq-Decides, lookup, lookup_key, Global, set_value_at, LimitsData, Encoding, units_in, Item, ContentChange, meaning, canonical, IsDeltaOf, IsOn, bytes_after, delta_encoding, meant_by, DocumentItem, Plan, Stored, StoreData, Takes, entry_of, entry_under, IsPlanOf, IsPlanOn, after_plan, planned, planned_table, StoreFault, IsRefusal, body_refusal, canonical_batch, canonical_body, change_body, message_refusal, Refusal, after_change, changed, changes, entry_at, entry_refusal, common_steps}
+use Rattle.lsp_store.proofs.Prelude.{◌≡◌, ◌≤◌, ℕ, ℤ, zero, suc, Bool, List, [], ◌∷◌, length, map, nat_lt, Option, Some, None, Result, Ok, Err, IfOk, OnOk, option_map, slice_get, position, String, string_bytes, bytes_eq, refl, sym, ap, ◌∙◌, subst, arith, cases_Bool, slice_get-map, bytes_eq-Decides, lookup, lookup_key, Global, set_value_at, LimitsData, Encoding, units_in, Item, ContentChange, meaning, canonical, IsDeltaOf, IsOn, bytes_after, delta_encoding, meant_by, DocumentItem, Plan, Stored, StoreData, Takes, entry_of, entry_under, IsPlanOf, IsPlanOn, after_plan, planned, planned_table, StoreFault, IsRefusal, body_refusal, canonical_batch, canonical_body, change_body, message_refusal, after_change, changed, changes, entry_at, entry_refusal, common_steps}
 use Rattle.std.specs.List.{position_or_len}
 use Rattle.std.specs.Str.{IsUtf8, chars}
 use Rattle.lsp_edit.specs.declared.delta.Delta.{Delta}
@@ -7,22 +7,14 @@ use Rattle.lsp_edit.specs.declared.delta.Delta.TheVariants.{Put, Left}
 use Rattle.lsp_edit.proofs.Deltas.DeltaLemmas.{IsWithin, within_told}
 use Rattle.lsp_store.proofs.Messages.MessageLemmas.{accepted_left}
 use Rattle.lsp_store.proofs.Tables.RefusalLemmas.{meaning_accepted, meaning_short}
-use Rattle.lsp_store.proofs.Tables.StoreLemmas.{get_found, may_take, seen}
-use Rattle.lsp_store.proofs.Tables.TableLemmas.{at_uri}
+use Rattle.lsp_store.proofs.Tables.StoreLemmas.{seen}
+use Rattle.lsp_store.proofs.Tables.TableLemmas.{at_uri, entry_found}
 
--- what follows where a call succeeds, or fails
-pub on_ok_on : {A E P O Q : Type 0} (r : Result A E) → (P → O → Q) → OnOk r P → OnOk r O → OnOk r Q
-on_ok_on (Ok a) then p o = then p o
-on_ok_on (Err e) then p o = tt
-
+-- what follows from two facts of a call that succeeds
 pub if_ok_on : {A E O : Type 0} {P Q : A → Type 0} (r : Result A E) → ((a : A) → P a → O → Q a) → IfOk r P → OnOk r O
     → IfOk r Q
 if_ok_on (Ok a) then p o = then a p o
 if_ok_on (Err e) then p o = tt
-
-pub ok_from : {A E Q : Type 0} {P : A → Type 0} (r : Result A E) → ((a : A) → P a → Q) → IfOk r P → OnOk r Q
-ok_from (Ok a) then p = then a p
-ok_from (Err e) then p = tt
 
 -- ---- the text that a delta is of
 
@@ -92,46 +84,40 @@ module _ (units : ℕ → ℕ) (uri : List ℕ) (version : ℤ) (batch : List Co
 
 -- ---- a plan
 
+module _ (limits : LimitsData) (es : List (String Global × Stored)) (uri : List ℕ) (version given : ℤ)
+    (given_is : given ≡ version) (encoding : Encoding) (batch : List ContentChange) (index : ℕ) (key : String Global)
+    (stored : Stored) (delta : Delta) where
+  pub plan_is : Some index ≡ position (at_uri uri) (map (λ e. e.0) es) → Some key ≡ lookup_key (at_uri uri) es
+      → Some stored ≡ lookup (at_uri uri) es → slice_get es index ≡ Some (key, stored)
+      → ((u : List ℕ) → entry_refusal limits (units_in encoding) (entry_under u stored) version batch ≡ None)
+      → IsDeltaOf (units_in encoding) limits.max_text stored.text batch delta → limits.max_text ≤ 1073741824
+      → IsPlanOf (seen limits es) uri version encoding batch (record { index = index; version = given; delta = delta })
+  plan_is at_index at_key found at accepted made short = record {
+    on = record {
+      entry = entry_under (string_bytes key) stored;
+      at = slice_get-map entry_of es index ∙ ap (option_map entry_of) at;
+      on = made.on;
+      short = omega (arith, short, meaning_short limits stored.text _ _ made.is);
+    };
+    is_open = there;
+    accepted = rw there (accepted (string_bytes key));
+    delta = made;
+    version_is = given_is;
+    after =
+        rw given_is
+        (after_planned (units_in encoding) uri version batch key stored delta
+        (λ u. ap (λ (text : List ℕ). record (entry_under u stored) { version = version; text = text })
+        (meaning_accepted limits stored.text _ _ made.is).1)
+        es index (index_found (at_uri uri) (map (λ e. e.0) es) index at_index) at);
+    left = rw there (accepted_left limits (units_in encoding) (entry_under (string_bytes key) stored) version batch
+        (accepted (string_bytes key)));
+  }
+    where
+      there : entry_at (map entry_of es) uri ≡ Some (entry_under (string_bytes key) stored)
+      there = sym (entry_found uri es key stored at_key found)
+
 module _ (limits : LimitsData) (es : List (String Global × Stored)) (kept : StoreData)
     (view : seen limits es ≡ kept) where
-  module _ (uri : List ℕ) (version given : ℤ) (given_is : given ≡ version) (encoding : Encoding)
-      (batch : List ContentChange)
-      (index : ℕ) (key : String Global) (stored : Stored) (delta : Delta) where
-    pub plan_is : Some index ≡ position (at_uri uri) (map (λ e. e.0) es) → Some key ≡ lookup_key (at_uri uri) es
-        → Some stored ≡ lookup (at_uri uri) es → slice_get es index ≡ Some (key, stored)
-        → ((u : List ℕ) → entry_refusal limits (units_in encoding) (entry_under u stored) version batch ≡ None)
-        → IsDeltaOf (units_in encoding) limits.max_text stored.text batch delta → limits.max_text ≤ 1073741824
-        → IsPlanOf kept uri version encoding batch (record { index = index; version = given; delta = delta })
-    plan_is at_index at_key found at accepted made short =
-        subst (λ (d : StoreData). IsPlanOf d uri version encoding batch (record {
-          index = index;
-          version = given;
-          delta = delta;
-        })) view (record {
-          on = record {
-            entry = entry_under (string_bytes key) stored;
-            at = slice_get-map entry_of es index ∙ ap (option_map entry_of) at;
-            on = made.on;
-            short = omega (arith, short, meaning_short limits stored.text _ _ made.is);
-          };
-          is_open = there;
-          accepted = rw there (accepted (string_bytes key));
-          delta = made;
-          version_is = given_is;
-          after =
-              rw given_is
-              (after_planned (units_in encoding) uri version batch key stored delta
-              (λ u. ap (λ (text : List ℕ). record (entry_under u stored) { version = version; text = text })
-              (meaning_accepted limits stored.text _ _ made.is).1)
-              es index (index_found (at_uri uri) (map (λ e. e.0) es) index at_index) at);
-          left = may_take (seen limits es) uri version batch (entry_under (string_bytes key) stored) there
-              (accepted_left limits (units_in encoding) (entry_under (string_bytes key) stored) version batch
-              (accepted (string_bytes key)));
-        })
-      where
-        there : entry_at (map entry_of es) uri ≡ Some (entry_under (string_bytes key) stored)
-        there = sym (get_found limits es (seen limits es) refl uri key stored at_key found)
-
   -- the document that a plan is of
   module _ (plan : Plan) (p : IsPlanOn kept plan) (stored : Stored) (h : HasEntry es plan.index stored) where
     entry_is : Some (entry_under (string_bytes h.key) stored) ≡ Some p.entry
@@ -147,10 +133,10 @@ module _ (limits : LimitsData) (es : List (String Global × Stored)) (kept : Sto
     plan_text = ap (λ (e : DocumentItem). e.text) same_entry
 
     pub plan_on : IsOn stored.text plan.delta
-    plan_on = subst (λ (e : DocumentItem). IsOn e.text plan.delta) same_entry p.on
+    plan_on = rw same_entry at p.on
 
     pub plan_short : length (bytes_after stored.text plan.delta) ≤ 1073741824
-    plan_short = subst (λ (e : DocumentItem). length (bytes_after e.text plan.delta) ≤ 1073741824) same_entry p.short
+    plan_short = rw same_entry at p.short
 
     pub plan_applied : (new : Stored)
         → ((uri : List ℕ) → entry_under uri new ≡ planned (entry_under uri stored) plan.version plan.delta)
@@ -161,9 +147,7 @@ module _ (limits : LimitsData) (es : List (String Global × Stored)) (kept : Sto
     pub plan_unchanged : (new : Stored) → ((uri : List ℕ) → entry_under uri new ≡ entry_under uri stored)
         → (next : List (String Global × Stored)) → next ≡ set_value_at es plan.index new → seen limits next ≡ kept
     plan_unchanged new is next set =
-        ap (seen limits) set
-        ∙ ap (λ (table : List DocumentItem). record (seen limits es) { table = table })
-        (put_unchanged es plan.index h.key stored new h.at is) ∙ view
+        rw (set, put_unchanged es plan.index h.key stored new h.at is) view
 
 -- ---- the message of a plan
 
@@ -196,15 +180,14 @@ module _ (kept : StoreData) (uri : List ℕ) (version : ℤ) (encoding : Encodin
     pub planned_body : (key : List ℕ) → q.on.entry.uri ≡ key → (given : ℤ) → given ≡ plan.version
         → change_body key given answered ≡ canonical_body (units_in encoding) kept.table uri version batch
     planned_body key key_is given given_is =
-        ap (λ (u : List ℕ). change_body u given answered) (sym key_is ∙ entry_uri kept.table uri q.on.entry q.is_open)
-        ∙ (ap (λ (v : ℤ). change_body uri v answered) (given_is ∙ q.version_is)
-        ∙ ap (λ (b : List ContentChange). change_body uri version b) (planned_is ∙ sym batch_there))
+        let uri_is = sym key_is ∙ entry_uri kept.table uri q.on.entry q.is_open in
+        rw (uri_is, given_is ∙ q.version_is, planned_is, batch_there) refl
 
   module _ (limits : LimitsData) (limits_is : limits ≡ kept.limits) (body : List ℕ)
       (body_is : body ≡ canonical_body (units_in encoding) kept.table uri version batch) where
     body_refused : body_refusal limits body
         ≡ body_refusal kept.limits (canonical_body (units_in encoding) kept.table uri version batch)
-    body_refused = ap (λ (l : LimitsData). body_refusal l body) limits_is ∙ ap (body_refusal kept.limits) body_is
+    body_refused = rw (limits_is, body_is) refl
 
     message_is : message_refusal kept.limits (units_in encoding) kept.table uri version batch ≡ body_refusal limits body
     message_is = grind (arith, common_steps, body_refused)
@@ -215,7 +198,7 @@ module _ (kept : StoreData) (uri : List ℕ) (version : ℤ) (encoding : Encodin
 
     pub planned_refused : (fault : StoreFault) → IsRefusal (body_refusal limits body) fault
         → IsRefusal (message_refusal kept.limits (units_in encoding) kept.table uri version batch) fault
-    planned_refused fault why = subst (λ (r : Option Refusal). IsRefusal r fault) (sym message_is) why
+    planned_refused fault why = rw message_is why
 
 -- A plan that was applied is its command.
 pub plan_takes : (kept new : StoreData) (uri : List ℕ) (version : ℤ) (encoding : Encoding) (batch : List ContentChange)
