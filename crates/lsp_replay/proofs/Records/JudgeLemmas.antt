@@ -1,8 +1,8 @@
 -- What becomes of a record is told by its body, its side and its log's version; the canonical body of an accepted
 -- change is judged as the
 -- change was.
-use Rattle.lsp_replay.proofs.Prelude.{◌≡◌, ℕ, ◌≤◌, Bool, true, false, List, length, Option, Some, None, refl, sym, ap, ◌∙◌, subst, arith, if◌then◌else◌, LimitsData, AreInRange, Encoding, IdData, reading, ChangeData, AnswerData, Sent, reply, changed, dropped, ignored, already_ended, refused, exits, as_sent, IncomingData, not_json, not_a_message, response, initialize, shutdown, other_request, exit, did_open, did_change, did_close, other_notification, incoming_of, Version, One, Two, Sender, Client, Server, Head, Record, Session, Verdict, answered, recorded, bad, Judged, judged, judge, judge_from, judge_client, judge_server, encoding_for, handled, is_ended, is_early, expected_of, one_more, change_in, canonical_if, canonical_of_record, canonical_change_body, judge_at, common_steps}
-use Rattle.lsp_server.specs.Step.{ServerData, Step, step_on, with_encoding}
+use Rattle.lsp_replay.proofs.Prelude.{◌≡◌, ℕ, ◌≤◌, List, length, Option, Some, None, refl, sym, ap, ◌∙◌, subst, arith, LimitsData, AreInRange, Encoding, IdData, reading, ChangeData, AnswerData, Sent, changed, as_sent, IncomingData, did_change, incoming_of, Version, One, Two, Sender, Client, Server, Head, Record, Session, Verdict, answered, recorded, bad, Judged, judged, judge, judge_from, judge_client, judge_server, encoding_for, handled, expected_of, one_more, change_in, canonical_if, canonical_of_record, canonical_change_body, judge_at, common_steps}
+use Rattle.lsp_server.specs.Step.{ServerData, step_on, with_encoding}
 use Rattle.lsp_replay.proofs.Canonical.CanonicalLogLemmas.{accepted, heard_has_none}
 use Rattle.lsp_replay.proofs.Records.AskedLemmas.{IsProperIncoming, asked_proper}
 use Rattle.lsp_replay.proofs.Records.StateLemmas.{IsHeldState, step_on_held}
@@ -40,26 +40,21 @@ judged_held limits s r received = from_held limits s r.head.version r.head.side 
 
 -- ---- the record of an accepted change
 
-record IsNormalCase (server : ServerData) (m : IncomingData) (verdict : Verdict) (body : List ℕ) : Type 0 where
-  change : ChangeData
-  asks : m ≡ did_change (Some change)
-  error : verdict ≡ answered changed
-  is : body ≡ canonical_change_body server change
+pub record IsNormalCase (server : ServerData) (m : IncomingData) (verdict : Verdict) (body : List ℕ) : Type 0 where
+  pub change : ChangeData
+  pub asks : m ≡ did_change (Some change)
+  pub error : verdict ≡ answered changed
+  pub is : body ≡ canonical_change_body server change
 
 pub asks_change : (m : IncomingData) (p : ChangeData) → change_in m ≡ Some p → m ≡ did_change (Some p)
 asks_change (did_change params) p e = ap did_change e
 asks_change m p e = absurd (let wrong : None ≡ Some p = e in cc)
 
-by_change : (server : ServerData) (m : IncomingData) (change : Option ChangeData) (verdict : Verdict) (body : List ℕ)
-    → ((p : ChangeData) → change ≡ Some p → m ≡ did_change (Some p)) → canonical_if server change verdict ≡ Some body
-    → IsNormalCase server m verdict body
-by_change server m (Some p) (answered changed) body asks e =
-    record { change = p; asks = asks p refl; error = refl; is = let same : Some body ≡ Some _ = sym e in cc }
-by_change server m change verdict body asks e = absurd (let wrong : None ≡ Some body = e in cc)
-
-case_of : (server : ServerData) (m : IncomingData) (verdict : Verdict) (body : List ℕ)
+pub case_of : (server : ServerData) (m : IncomingData) (verdict : Verdict) (body : List ℕ)
     → canonical_if server (change_in m) verdict ≡ Some body → IsNormalCase server m verdict body
-case_of server m verdict body = by_change server m (change_in m) verdict body (asks_change m)
+case_of server (did_change (Some p)) (answered changed) body e =
+    record { change = p; asks = refl; error = refl; is = let same : Some body ≡ Some _ = sym e in cc }
+case_of server _ _ body e = absurd (let wrong : None ≡ Some body = e in cc)
 
 -- ---- the canonical body is judged as the change was
 
