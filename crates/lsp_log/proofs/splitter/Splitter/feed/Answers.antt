@@ -18,8 +18,8 @@ returns-in_err-feed-clause-error c =
     (not_none c.args.self.now.side c.is_none.result c.is_none.ensures c.if-is_none.false)
     c.in_err-feed.ensures.error c.requires.fed.sound at)
 
-pub returns-in-Some-of_mark-clause-is_after : goal.returns-in-Some-of_mark-clause-is_after
-returns-in-Some-of_mark-clause-is_after c = λ log_rules input records at.
+pub returns-then-is_none-clause-is_after : goal.returns-then-is_none-clause-is_after
+returns-then-is_none-clause-is_after c = λ log_rules input records at.
     let between = none_there c.args.self.now.side c.is_none.result c.is_none.ensures c.if-is_none.true in
     marked_stands log_rules input c.args.piece.now (drop 1 c.args.piece.now) c.in-Some.mark.now records c.args.self.now
     c.in-Some-of_mark.side c.skip.new.self between (c.requires.fed.between between)
