@@ -13,9 +13,10 @@ same_number a b same = rw (eq-eqb a b same) refl
 -- lines that are equal are there
 within_by : (lines others : List (List ℕ)) (k j : ℕ) (line other : Option (List ℕ)) → slice_get lines k ≡ line
     → slice_get others j ≡ other → are_equal line other ≡ true → (k < length lines) × (j < length others)
+within_by lines others k j None other at other_at hit = cc
+within_by lines others k j (Some line) None at other_at hit = cc
 within_by lines others k j (Some line) (Some other) at other_at hit =
     (slice_get_within lines k line at, slice_get_within others j other other_at)
-within_by lines others k j _ _ at other_at hit = cc
 
 pub equal_within : (lines others : List (List ℕ)) (k j : ℕ)
     → are_equal (slice_get lines k) (slice_get others j) ≡ true → (k < length lines) × (j < length others)

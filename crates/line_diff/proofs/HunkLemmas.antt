@@ -31,3 +31,7 @@ module _ (farthest start other_start : ℕ) (lines others : List (List ℕ)) whe
       ≡ hunks_from steps farthest start other_start (drop start lines) (drop other_start others)
   none_near zero missed = refl
   none_near (suc steps) missed = rw (← missed) refl
+
+  pub none_left : (n step : ℕ) → step ≡ n → last_hunk start other_start (drop start lines) (drop other_start others)
+      ≡ hunks_from (n - step) farthest start other_start (drop start lines) (drop other_start others)
+  none_left n step end = grind (arith, common_steps)
