@@ -2,7 +2,7 @@
 //!
 //! A copy of a text shares its blocks, and a change copies a block that is shared. They are
 //! counted by `Arc`: with `Rc` no document could go to another thread.
-ghost use Rattle.std.specs.Prelude.{◌≡◌, ◌≢◌, ◌+◌, ◌-◌, ◌≤◌, ◌↔◌, ◌++◌, IsTrue, IfOk, IfNone, IfSome, OnOk, OnErr, Some, List, ℕ, length, option_map, string_bytes, string_capacity, string_len};
+ghost use Rattle.std.specs.Prelude.{◌≡◌, ◌+◌, ◌-◌, ◌≤◌, ◌↔◌, IsTrue, IfOk, OnOk, OnErr, Some, List, ℕ, length, option_map, string_bytes, string_capacity, string_len};
 ghost use Rattle.std.specs.List.{concat, replace_range};
 ghost use Rattle.std.specs.Result.{result_ok};
 ghost use Rattle.std.specs.Str.{IsCharBoundary, IsUtf8, chars};
@@ -291,25 +291,13 @@ pub fn shared_blocks(alloc: Global, blocks: &[Block]) -> Result<Vec<Block>, Allo
     Ok(shared)
 }
 
-/// Returns the bytes after `front`, if they begin with it.
-fn rest_after<'a>(bytes: &'a [u8], front: &[u8]) -> Option<&'a [u8]>
-    ensures some { IfSome result (λ rest. bytes.now ≡ front.now ++ rest.now) }
-    ensures none { IfNone result ((rest : List ℕ) → bytes.now ≢ front.now ++ rest) }
-{
-    if bytes.len() < front.len() {
-        return None;
-    }
-    let (start, rest) = bytes.split_at(front.len());
-    if start == front { Some(rest) } else { None }
-}
-
 /// Returns whether these bytes are those of some blocks, one after another.
 pub fn are_text(blocks: &[Block], bytes: &[u8]) -> bool
     ensures { IsTrue result ↔ (concat blocks.now ≡ bytes.now) }
 {
     let mut rest = bytes;
     for block in blocks {
-        match rest_after(rest, block.text().as_bytes()) {
+        match rest.strip_prefix(block.text().as_bytes()) {
             Some(back) => rest = back,
             None => return false,
         }

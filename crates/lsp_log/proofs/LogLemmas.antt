@@ -27,14 +27,12 @@ due_later (q ∷ rs) = refl
 
 pub due_now : (version : Version) (rs : List Record) → due_after (is_line_due version []) rs ≡ is_line_due version rs
 due_now One [] = refl
-due_now One (q ∷ rs) = refl
-due_now Two [] = refl
 due_now Two (q ∷ rs) = refl
+due_now _ _ = refl
 
 pub not_due : (version : Version) (rs : List Record) (r : Record) → is_line_due version (rs ++ r ∷ []) ≡ false
-not_due One rs r = refl
 not_due Two [] r = refl
-not_due Two (q ∷ rs) r = refl
+not_due _ _ r = refl
 
 -- one record more
 pub are_push : (max_body : ℕ) (version : Version) (place : ℕ) (due : Bool) (rs : List Record) (r : Record)

@@ -45,13 +45,6 @@ pub next_read : (old mid new : Option (List ℕ)) (len n : ℕ) (buf part : List
 next_read old mid new len n buf part within long few before now = grind (arith, common_steps, next_bytes)
 
 -- A version that is known stays.
-two_stays : (versions : Bool) (bytes more : List ℕ) → IsVersion versions Two bytes
-    → IsVersion versions Two (bytes ++ more)
-two_stays versions bytes more two = (
-  two.0,
-  (two.1.0 ++ more, ap (λ z. z ++ more) two.1.1 ∙ append_assoc version_line two.1.0 more),
-)
-
 pub stays : (versions : Bool) (version : Version) (bytes more : List ℕ)
     → (versions ≡ true → IsLineFront bytes → more ≡ []) → IsVersion versions version bytes
     → IsVersion versions version (bytes ++ more)
@@ -69,4 +62,7 @@ stays versions One bytes more last one = λ looks rest e.
           let is : take 18 bytes ≡ version_line = sym some ∙ ap (take 18) e ∙ line in
           one looks (drop 18 bytes) (sym (take-append-drop 18 bytes) ∙ ap (λ z. z ++ drop 18 bytes) is)
     ]
-stays versions Two bytes more last two = two_stays versions bytes more two
+stays versions Two bytes more last two = (
+  two.0,
+  (two.1.0 ++ more, ap (λ z. z ++ more) two.1.1 ∙ append_assoc version_line two.1.0 more),
+)

@@ -1,15 +1,14 @@
 -- What is left where no whole record is buffered.
 use Rattle.lsp_log.proofs.Prelude.{◌≡◌, ◌≢◌, ◌⊎◌, ℕ, List, [], ◌∷◌, ◌++◌, length, drop, Option, refl, ◌∙◌, ap, subst, arith, append-nil, inl, inr, length-append, IsFrameOf, Version, One, Two, Sender, Client, Server, Splitter, LogRules, Record, HasNoRecord, mark_of, IsReady, IsAfter, log_at, buffered_of, mark_part, BufferedLaw, RestLaw, common_steps}
-use Rattle.lsp_log.proofs.SplitLemmas.{given_reads, some_side, some_or}
+use Rattle.lsp_log.proofs.SplitLemmas.{known_reads, known_side, some_side, some_or}
 
 -- Two marks of one version have one length.
 behind_mark : (version : Version) (side other : Sender) (a b : List ℕ) → mark_of version side ++ a ≡ mark_of version other
     ++ b → a ≡ b
 behind_mark One side other a b e = e
 behind_mark Two Client Client a b e = ap (drop 1) e
-behind_mark Two Client Server a b e = ap (drop 1) e
-behind_mark Two Server Client a b e = ap (drop 1) e
 behind_mark Two Server Server a b e = ap (drop 1) e
+behind_mark Two _ _ a b e = ap (drop 1) e
 
 -- At the end of the input no whole record is held.
 no_record : (log_rules : LogRules) (input : List ℕ) (records : List Record) (s : Splitter) → IsReady s
@@ -34,6 +33,6 @@ rest_law log_rules input records s ready at =
 
 pub buffered_law : BufferedLaw
 buffered_law log_rules input more body records s fed is_frame_of at =
-    given_reads log_rules input more body records s
-    (some_side s fed (record { body = body; is_frame_of = is_frame_of }))
+    let known = known_side s.side (some_side s fed (record { body = body; is_frame_of = is_frame_of })) in
+    known_reads log_rules input more body records s known.0 known.1
     (subst (λ (m : ℕ). IsFrameOf m s.framer.buffered body) at.limit is_frame_of) at

@@ -2,9 +2,9 @@
 use Rattle.lsp_log.proofs.Prelude.{◌≡◌, ℕ, ◌+◌, ◌-◌, ◌≤◌, ◌^◌, Bool, true, false, List, [], ◌∷◌, ◌++◌, length, take, drop, Option, Some, None, refl, sym, ◌∙◌, ap, subst, arith, append_assoc, inl, inr, ◌⊎◌, min, not, is_some, length-append, take-append-drop, IsFrameOf, place_after, IsDecided, FramerData, IsFrame, IsPart, HoldsOne, IsFeedFault, IsStreamFault, released, Version, One, Two, Sender, Client, Splitter, LogRules, Record, IsRecord, IsReadAs, IsMalformed, line_of, mark_of, is_line_due, together, record_bytes, IsFed, IsReady, IsAfter, IsSplitFault, IsSide, IsOpen, mark_part, buffered_of, log_at, side_of, record_at, common_steps}
 use Rattle.lsp_stream.specs.Faults.{engine_fault}
 use Rattle.lsp_frame.specs.declared.fault.FrameFault.{FrameFault}
-use Rattle.lsp_frame.proofs.FramedLemmas.{nothing_part}
+use Rattle.lsp_frame.proofs.FaultLemmas.{part_one}
+use Rattle.lsp_frame.proofs.FramedLemmas.{nothing_part, no_empty_frame}
 use Rattle.lsp_log.proofs.LogLemmas.{together_push, input_len, are_push, due_now, not_due}
-use Rattle.lsp_stream.specs.declared.fault.EngineFault.TheVariants as engine
 use Rattle.lsp_frame.specs.declared.fault.FrameFault.TheVariants as fault_of
 
 -- A frame has at least two bytes, so nothing is none.
@@ -12,20 +12,12 @@ pub frame_len : (max_body : ℕ) (raw body : List ℕ) → IsFrameOf max_body ra
 frame_len max_body raw body s = grind (arith, common_steps, length-append)
 
 pub nothing_one : (max_body : ℕ) → HoldsOne max_body []
-nothing_one max_body raw body more s e =
-    absurd (omega (arith, frame_len max_body raw body s, ap length e, length-append raw more))
-
-pub no_empty_frame : (max_body : ℕ) → IsFrame max_body [] → ⊥
-no_empty_frame max_body frame = omega (arith, frame_len max_body [] frame.body frame.is_frame_of)
+nothing_one max_body = part_one max_body [] (nothing_part max_body)
 
 -- Who wrote the record that comes in is known.
-record KnownSide (o : Option Sender) : Type 0 where
-  side : Sender
-  is : o ≡ Some side
-
-known_side : (o : Option Sender) → (o ≡ None → ⊥) → KnownSide o
+pub known_side : (o : Option Sender) → (o ≡ None → ⊥) → (side : Sender) × (o ≡ Some side)
 known_side None some = absurd (some refl)
-known_side (Some side) some = record { side = side; is = refl }
+known_side (Some side) some = (side, refl)
 
 pub some_or : (o : Option Sender) → ((side : Sender) × (o ≡ Some side)) ⊎ (o ≡ None)
 some_or None = inr refl
@@ -33,6 +25,10 @@ some_or (Some side) = inl (side, refl)
 
 pub not_none : (o : Option Sender) (none : Bool) → is_some o ≡ not none → none ≡ false → o ≡ None → ⊥
 not_none o none said some is = let two : false ≡ true = sym (ap is_some is) ∙ said ∙ ap not some in cc
+
+pub none_there : (o : Option Sender) (none : Bool) → is_some o ≡ not none → none ≡ true → o ≡ None
+none_there None none said is = refl
+none_there (Some side) none said is = let two : true ≡ false = said ∙ ap not is in cc
 
 -- Bytes were taken.
 fed_bytes : (buffered piece : List ℕ) (k : ℕ) → (buffered ++ take k piece) ++ drop k piece ≡ buffered ++ piece
@@ -91,50 +87,19 @@ split_fault : (log_rules : LogRules) (input piece : List ℕ) (records : List Re
     (n : FramerData) (fault : FrameFault) → s.side ≡ Some side
     → IsFeedFault s.framer n piece fault → s.framer.failed ≡ false → IsAfter log_rules input piece records s
     → IsSplitFault log_rules.max_body input (log_at s records piece) (engine_fault fault)
-split_fault log_rules input piece records s side n (fault_of.BadHeader place) is why sound at =
-    malformed log_rules input piece records s side n (fault_of.BadHeader place) is why at
-split_fault log_rules input piece records s side n (fault_of.HeaderTooLong place) is why sound at =
-    malformed log_rules input piece records s side n (fault_of.HeaderTooLong place) is why at
-split_fault log_rules input piece records s side n (fault_of.MissingLength place) is why sound at =
-    malformed log_rules input piece records s side n (fault_of.MissingLength place) is why at
-split_fault log_rules input piece records s side n (fault_of.RepeatedHeader place) is why sound at =
-    malformed log_rules input piece records s side n (fault_of.RepeatedHeader place) is why at
-split_fault log_rules input piece records s side n (fault_of.BadLength place) is why sound at =
-    malformed log_rules input piece records s side n (fault_of.BadLength place) is why at
-split_fault log_rules input piece records s side n (fault_of.BodyTooLong place) is why sound at =
-    malformed log_rules input piece records s side n (fault_of.BodyTooLong place) is why at
-split_fault log_rules input piece records s side n (fault_of.BadCharset place) is why sound at =
-    malformed log_rules input piece records s side n (fault_of.BadCharset place) is why at
 split_fault log_rules input piece records s side n fault_of.Failed is why sound at =
     let failed : s.framer.failed ≡ true = why.0 in let two : true ≡ false = sym failed ∙ sound in cc
 split_fault log_rules input piece records s side n fault_of.NoMemory is why sound at = tt
+split_fault log_rules input piece records s side n fault is why sound at =
+    malformed log_rules input piece records s side n fault is why at
 
 pub feed_fault : (log_rules : LogRules) (input piece : List ℕ) (records : List Record) (s : Splitter) (n : FramerData)
     (fault : FrameFault) → (s.side ≡ None → ⊥)
     → IsFeedFault s.framer n piece fault → s.framer.failed ≡ false → IsAfter log_rules input piece records s
     → IsSplitFault log_rules.max_body input (log_at s records piece) (engine_fault fault)
 feed_fault log_rules input piece records s n fault some why sound at =
-    grind (arith, common_steps, known_side, split_fault)
-
--- Where the framer is out of memory it is as it was.
-no_memory : (f n : FramerData) (piece : List ℕ) (fault : FrameFault) → IsFeedFault f n piece fault
-    → engine_fault fault ≡ engine.NoMemory → n ≡ f
-no_memory f n piece (fault_of.BadHeader place) why is =
-    let bad : engine.Frame (fault_of.BadHeader place) ≡ engine.NoMemory = is in cc
-no_memory f n piece (fault_of.HeaderTooLong place) why is =
-    let bad : engine.Frame (fault_of.HeaderTooLong place) ≡ engine.NoMemory = is in cc
-no_memory f n piece (fault_of.MissingLength place) why is =
-    let bad : engine.Frame (fault_of.MissingLength place) ≡ engine.NoMemory = is in cc
-no_memory f n piece (fault_of.RepeatedHeader place) why is =
-    let bad : engine.Frame (fault_of.RepeatedHeader place) ≡ engine.NoMemory = is in cc
-no_memory f n piece (fault_of.BadLength place) why is =
-    let bad : engine.Frame (fault_of.BadLength place) ≡ engine.NoMemory = is in cc
-no_memory f n piece (fault_of.BodyTooLong place) why is =
-    let bad : engine.Frame (fault_of.BodyTooLong place) ≡ engine.NoMemory = is in cc
-no_memory f n piece (fault_of.BadCharset place) why is =
-    let bad : engine.Frame (fault_of.BadCharset place) ≡ engine.NoMemory = is in cc
-no_memory f n piece fault_of.Failed why is = let bad : engine.Frame fault_of.Failed ≡ engine.NoMemory = is in cc
-no_memory f n piece fault_of.NoMemory why is = why.1
+    let known = known_side s.side some in
+    split_fault log_rules input piece records s known.0 n fault known.1 why sound at
 
 -- A mark was taken.
 two_between : (version : Version) → IsSide version None → version ≡ Two
@@ -170,8 +135,8 @@ one_side : (version : Version) (side : Sender) → IsSide version (Some side) �
 one_side One side is e = is
 one_side Two side is e = let other : Two ≡ One = e in cc
 
-known_reads : (log_rules : LogRules) (input more body : List ℕ) (records : List Record) (s : Splitter) (was : Sender)
-    → s.side ≡ Some was → IsFrameOf log_rules.max_body s.framer.buffered body
+pub known_reads : (log_rules : LogRules) (input more body : List ℕ) (records : List Record) (s : Splitter)
+    (was : Sender) → s.side ≡ Some was → IsFrameOf log_rules.max_body s.framer.buffered body
     → IsAfter log_rules input more records s → IsReadAs log_rules input (record {
       version = s.version;
       records = records ++ record_at s body ∷ [];
@@ -193,20 +158,23 @@ known_reads log_rules input more body records s was is is_frame_of at =
       each = grind (arith, common_steps, are_push, due_now);
     }
 
-given_known : (log_rules : LogRules) (input more body : List ℕ) (records : List Record) (s : Splitter) (f : FramerData)
-    (was : Sender) (side : Option Sender) (mark place : ℕ) → s.side ≡ Some was
+pub some_side : (s : Splitter) → IsFed s → IsFrame s.framer.limits.max_body s.framer.buffered → s.side ≡ None → ⊥
+some_side s fed frame none =
+    no_empty_frame s.framer.limits.max_body (subst (λ (z : List ℕ). IsFrame s.framer.limits.max_body z)
+    (fed.between none) frame)
+
+pub given_stands : (log_rules : LogRules) (input more body : List ℕ) (records : List Record) (s : Splitter)
+    (f : FramerData) (side : Option Sender) (mark place : ℕ) → (s.side ≡ None → ⊥)
     → f ≡ released s.framer → IsSide s.version side → mark_part s.version side ≡ []
-    → mark ≡ length (mark_of s.version was)
+    → ((was : Sender) → mark ≡ length (mark_of s.version was))
     → place ≡ min (min (s.place + mark) (2 ^ 64 - 1) + length s.framer.buffered) (2 ^ 64 - 1)
     → IsFrameOf log_rules.max_body s.framer.buffered body → IsAfter log_rules input more records s
-    → IsAfter log_rules input more (records ++ record_at s body ∷ []) (record {
-      framer = f;
-      version = s.version;
-      side = side;
-      place = place;
-      line_due = false;
-    })
-given_known log_rules input more body records s f was side mark place is e sided none marked placed is_frame_of at =
+    → IsAfter log_rules input more (records ++ record_at s body ∷ [])
+    (record { framer = f; version = s.version; side = side; place = place; line_due = false })
+given_stands log_rules input more body records s f side mark place some e sided none marked placed is_frame_of at =
+    let known = known_side s.side some in
+    let is : s.side ≡ Some known.0 = known.1 in
+    let counted : mark ≡ length (mark_of s.version known.0) = marked known.0 in
     let len = input_len log_rules input (log_at s records more) at.reads in
     let buffered : length (buffered_of s) ≡ mark + length s.framer.buffered =
     grind (arith, common_steps, length-append) in
@@ -214,7 +182,7 @@ given_known log_rules input more body records s f was side mark place is e sided
     length-append (buffered_of s) more in
     let framed : length (s.framer.buffered ++ more) ≡ length s.framer.buffered + length more =
     length-append s.framer.buffered more in
-    let reads = known_reads log_rules input more body records s was is is_frame_of at in
+    let reads = known_reads log_rules input more body records s known.0 known.1 is_frame_of at in
     let is_after : IsAfter log_rules input more (records ++ record_at s body ∷ []) (record {
       framer = released s.framer;
       version = s.version;
@@ -233,35 +201,6 @@ given_known log_rules input more body records s f was side mark place is e sided
     } in
     subst (λ (g : FramerData). IsAfter log_rules input more (records ++ record_at s body ∷ [])
     (record { framer = g; version = s.version; side = side; place = place; line_due = false })) (sym e) is_after
-
-pub some_side : (s : Splitter) → IsFed s → IsFrame s.framer.limits.max_body s.framer.buffered → s.side ≡ None → ⊥
-some_side s fed frame none =
-    no_empty_frame s.framer.limits.max_body (subst (λ (z : List ℕ). IsFrame s.framer.limits.max_body z)
-    (fed.between none) frame)
-
-pub given_reads : (log_rules : LogRules) (input more body : List ℕ) (records : List Record) (s : Splitter)
-    → (s.side ≡ None → ⊥) → IsFrameOf log_rules.max_body s.framer.buffered body
-    → IsAfter log_rules input more records s → IsReadAs log_rules input (record {
-      version = s.version;
-      records = records ++ record_at s body ∷ [];
-      rest = more;
-    })
-given_reads log_rules input more body records s some is_frame_of at =
-    let known : KnownSide s.side = known_side s.side some in
-    known_reads log_rules input more body records s known.side known.is is_frame_of at
-
-pub given_stands : (log_rules : LogRules) (input more body : List ℕ) (records : List Record) (s : Splitter)
-    (f : FramerData) (side : Option Sender) (mark place : ℕ) → (s.side ≡ None → ⊥)
-    → f ≡ released s.framer → IsSide s.version side → mark_part s.version side ≡ []
-    → ((was : Sender) → mark ≡ length (mark_of s.version was))
-    → place ≡ min (min (s.place + mark) (2 ^ 64 - 1) + length s.framer.buffered) (2 ^ 64 - 1)
-    → IsFrameOf log_rules.max_body s.framer.buffered body → IsAfter log_rules input more records s
-    → IsAfter log_rules input more (records ++ record_at s body ∷ [])
-    (record { framer = f; version = s.version; side = side; place = place; line_due = false })
-given_stands log_rules input more body records s f side mark place some e sided none marked placed is_frame_of at =
-    let known : KnownSide s.side = known_side s.side some in
-    given_known log_rules input more body records s f known.side side mark place known.is e sided none
-    (marked known.side) placed is_frame_of at
 
 pub given_ready : (s : Splitter) (f : FramerData) (side : Option Sender) (place : ℕ) → f ≡ released s.framer
     → s.framer.failed ≡ false

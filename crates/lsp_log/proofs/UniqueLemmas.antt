@@ -2,10 +2,9 @@
 use Rattle.lsp_log.proofs.Prelude.{◌≡◌, ◌≢◌, ℕ, ◌+◌, Bool, false, List, [], ◌∷◌, ◌++◌, length, refl, sym, ap, ◌∙◌, subst, arith, append_assoc, append-nil, append_cancel_left, IsFrameOf, FrontLaw, SameFrame, Version, One, Two, Sender, Client, Server, Record, IsRecord, AreRecords, HasNoRecord, together, record_bytes, mark_of, line_of, is_line_due, UniqueLaw, FirstLaw, VersionLaw, common_steps}
 
 pub same_version : VersionLaw
-same_version versions One One input is also = refl
-same_version versions Two Two input is also = refl
 same_version versions One Two input is also = absurd (is also.0 also.1.0 also.1.1)
 same_version versions Two One input is also = absurd (also is.0 is.1.0 is.1.1)
+same_version versions _ _ input is also = refl
 
 pub first_byte : (x y : ℕ) (xs ys : List ℕ) → x ∷ xs ≡ y ∷ ys → x ≡ y
 first_byte x y xs ys e = cc
@@ -79,19 +78,13 @@ first_records front max_body version place due (r ∷ rs) (q ∷ all) rest end e
     }
 
 -- With no record behind them they are all.
-none_more : (max_body : ℕ) (version : Version) (place : ℕ) (due : Bool) (more : List Record) (rest end : List ℕ)
-    → AreRecords max_body version place due more → rest ≡ together version more end → IsEnd max_body version rest
-    → more ≡ []
-none_more max_body version place due [] rest end each is ends = refl
-none_more max_body version place due (r ∷ more) rest end each is ends =
-    absurd (ends r.head.side r.raw r.body (together version more end) each.0.is_frame_of
-    (is ∙ append_assoc (mark_of version r.head.side) r.raw (together version more end)))
-
 none_after : (max_body : ℕ) (version : Version) (place : ℕ) (due : Bool) (rs more : List Record) (rest end : List ℕ)
     → AreRecords max_body version place due (rs ++ more) → rest ≡ together version more end
     → IsEnd max_body version rest → more ≡ []
-none_after max_body version place due [] more rest end each is ends =
-    none_more max_body version place due more rest end each is ends
+none_after max_body version place due [] [] rest end each is ends = refl
+none_after max_body version place due [] (r ∷ more) rest end each is ends =
+    absurd (ends r.head.side r.raw r.body (together version more end) each.0.is_frame_of
+    (is ∙ append_assoc (mark_of version r.head.side) r.raw (together version more end)))
 none_after max_body version place due (r ∷ rs) more rest end each is ends =
     none_after max_body version (place + length (record_bytes version r)) false rs more rest end each.1 is ends
 

@@ -74,41 +74,17 @@ impl Splitter {
             × (self.old.side ≢ None) × (0 < length piece.now) }
     {
         if self.side.is_none() {
-            return self.take_mark(piece);
+            let Some(mark) = piece.first() else {
+                return Ok(0);
+            };
+            let Some(side) = Sender::of_mark(*mark) else {
+                return Err(EngineFault::BadLog { place: self.place });
+            };
+            self.side = Some(side);
+            self.framer.skip(1);
+            return Ok(1);
         }
         Ok(self.framer.feed(piece)?)
-    }
-
-    /// Takes the mark of a record.
-    fn take_mark(&mut self, piece: &[u8]) -> Result<usize, EngineFault>
-        requires ready { IsReady self.old }
-        requires between { self.old.side ≡ None }
-        ensures taken { IfOk result (λ k. k ≤ length piece.now) }
-        ensures some { IfOk result (λ k. 0 < length piece.now → 0 < k) }
-        ensures fed { OnOk result (IsFed self.new) }
-        ensures version { self.new.version ≡ self.old.version }
-        ensures is_after { IfOk result
-            (λ k. (log_rules : LogRules) (input : List ℕ) (records : List log.Record) →
-            IsAfter log_rules input piece.now records self.old →
-            IsAfter log_rules input (drop k piece.now) records self.new) }
-        ensures kind { IfErr result IsSplitterFault }
-        ensures error { IfErr result
-            (λ fault. (log_rules : LogRules) (input : List ℕ) (records : List log.Record) →
-            IsAfter log_rules input piece.now records self.old →
-            IsSplitFault log_rules.max_body input (log_at self.old records piece.now) fault) }
-        ensures memory { result ≢ Err EngineFault.NoMemory }
-    {
-        let Some(mark) = piece.first() else {
-            return Ok(0);
-        };
-        match Sender::of_mark(*mark) {
-            Some(side) => {
-                self.side = Some(side);
-                self.framer.skip(1);
-                Ok(1)
-            }
-            None => Err(EngineFault::BadLog { place: self.place }),
-        }
     }
 
     /// Returns the buffered record, once it is complete.

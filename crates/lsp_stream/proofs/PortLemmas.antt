@@ -1,8 +1,7 @@
 -- What was written in several calls.
 use Rattle.std.proofs.Common.{◌≡◌, ◌≤◌, ◌<◌, ◌⊎◌, inl, inr, ℕ, ◌+◌, ◌-◌, Bool, true, false, List, [], ◌++◌, length, take, drop, Option, refl, sym, ap, ◌∙◌, subst, arith, append-nil}
-use Rattle.std.proofs.lemmas.List.{take-append-drop, length-drop, length-take}
-use Rattle.std.proofs.lemmas.Slice.{between_to_end}
-use Rattle.std.proofs.Math.Seq.{take-append-add}
+use Rattle.std.proofs.lemmas.List.{take-append-drop, take_rest, length-drop}
+use Rattle.std.proofs.Math.Seq.{take-add}
 use Rattle.std.proofs.KnownBytes.{Appends-trans, Appends-kept}
 use Rattle.std.specs.Io.KnownBytes.{Appends, Keeps}
 use Rattle.lsp_stream.specs.Turns.{AppendsFront, AppendsShort}
@@ -27,23 +26,14 @@ nothing_more old mid new bytes buf at n wrote more none =
     (take at bytes, drop at bytes, sym (take-append-drop at bytes), all)
 
 -- the bytes up to a place, and the next ones
-take_more : (bytes : List ℕ) (at n : ℕ) → at ≤ length bytes → n ≤ length bytes - at
-    → take at bytes ++ take n (take (length bytes - at) (drop at bytes)) ≡ take (at + n) bytes
-take_more bytes at n within room =
-    let rest : take (length bytes - at) (drop at bytes) ≡ drop at bytes =
-    between_to_end bytes at (length bytes) (omega arith) in
-    let all : take (length (take at bytes) + n) (take at bytes ++ drop at bytes) ≡ take at bytes
-    ++ take n (drop at bytes) = take-append-add (take at bytes) (drop at bytes) n in
-    let front : length (take at bytes) ≡ at = omega (arith, length-take at bytes) in
-    rw rest (sym (rw (front, take-append-drop at bytes) at all))
+take_more : (bytes : List ℕ) (at n : ℕ) → take at bytes ++ take n (take (length bytes - at) (drop at bytes))
+    ≡ take (at + n) bytes
+take_more bytes at n = ap (λ xs. take at bytes ++ take n xs) (take_rest bytes at) ∙ sym (take-add at n bytes)
 
-pub more_written : (old mid new : Option (List ℕ)) (bytes : List ℕ) (at n : ℕ) → at ≤ length bytes
-    → n ≤ length (take (length bytes - at) (drop at bytes)) → Appends old mid (take at bytes)
+pub more_written : (old mid new : Option (List ℕ)) (bytes : List ℕ) (at n : ℕ) → Appends old mid (take at bytes)
     → Appends mid new (take n (take (length bytes - at) (drop at bytes))) → Appends old new (take (at + n) bytes)
-more_written old mid new bytes at n within room wrote more =
-    subst (λ xs. Appends old new xs)
-    (take_more bytes at n within (omega (arith, length-take (length bytes - at) (drop at bytes), length-drop at bytes)))
-    (Appends-trans old mid new _ _ wrote more)
+more_written old mid new bytes at n wrote more =
+    subst (λ xs. Appends old new xs) (take_more bytes at n) (Appends-trans old mid new _ _ wrote more)
 
 -- not all of the bytes were written
 pub not_all : (old new : Option (List ℕ)) (bytes : List ℕ) (at : ℕ) → Appends old new (take at bytes)
@@ -56,11 +46,12 @@ not_all old new bytes at wrote within = (
   inl (omega (arith, within, length-drop at bytes)),
 )
 
-some_left : (unflushed : Bool) (rest : List ℕ) → (0 < length rest) ⊎ (false ≡ true) → (0 < length rest)
-    ⊎ (unflushed ≡ true)
-some_left unflushed rest (inl some) = inl some
-some_left unflushed rest (inr never) = absurd (let wrong : false ≡ true = never in cc)
-
 pub short_of : (unflushed : Bool) (old new : Option (List ℕ)) (bytes : List ℕ) → AppendsShort false old new bytes
     → AppendsShort unflushed old new bytes
-short_of unflushed old new bytes short = (short.0, short.1, short.2, short.3, some_left unflushed short.1 short.4)
+short_of unflushed old new bytes short = (
+  short.0,
+  short.1,
+  short.2,
+  short.3,
+  elim short.4 [ inl some ↦ inl some | inr never ↦ absurd (let wrong : false ≡ true = never in cc) ],
+)

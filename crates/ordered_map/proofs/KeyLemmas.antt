@@ -41,11 +41,6 @@ module _ {V : Type 0} where
   fails bytes (key, Some value) lacks = lacks
   fails bytes (key, None) lacks = refl
 
-  passes : (bytes : List ℕ) (content : String Global × Option V) (entry : String Global × V)
-      → is_key bytes content.0 ≡ true → slot_entry content ≡ Some entry → has_key bytes (slot_entry content) ≡ true
-  passes bytes (key, Some value) entry has live = has
-  passes bytes (key, None) entry has live = absurd (cc)
-
   -- ---- what a key finds
 
   module _ (bytes : List ℕ) (slots : List (String Global × Option V)) where
@@ -138,17 +133,15 @@ module _ {V : Type 0} where
 
   pub taken : (slots : List (String Global × Option V)) (slot : ℕ) → map slot_entry (set_value_at slots slot None)
       ≡ set (map slot_entry slots) slot None
-  taken [] slot = refl
-  taken (first ∷ slots) zero = refl
   taken (first ∷ slots) (suc slot) = ap (λ rest. slot_entry first ∷ rest) (taken slots slot)
+  taken _ _ = refl
 
   pub written : (slots : List (String Global × Option V)) (slot : ℕ) (value : V)
       → is_some (get_or (map slot_entry slots) slot None) ≡ true
       → map slot_entry (set_value_at slots slot (Some value)) ≡ with_value_in (map slot_entry slots) slot value
-  written [] slot value live = refl
-  written ((key, Some there) ∷ slots) zero value live = refl
   written ((key, None) ∷ slots) zero value live = absurd (let bad : false ≡ true = live in cc)
   written (first ∷ slots) (suc slot) value live = ap (λ rest. slot_entry first ∷ rest) (written slots slot value live)
+  written _ _ value live = refl
 
   -- ---- slots that are packed
 
@@ -183,12 +176,10 @@ module _ {V : Type 0} where
   set_at : (slots : List (String Global × Option V)) (slot : ℕ) (put : String Global × Option V) (other : ℕ)
       (content : String Global × Option V) → slice_get (set slots slot put) other ≡ Some content
       → (other ≡ slot → ⊥) → slice_get slots other ≡ Some content
-  set_at [] slot put other content at differ = at
   set_at (first ∷ slots) zero put zero content at differ = absurd (differ refl)
-  set_at (first ∷ slots) zero put (suc other) content at differ = at
-  set_at (first ∷ slots) (suc slot) put zero content at differ = at
   set_at (first ∷ slots) (suc slot) put (suc other) content at differ =
       set_at slots slot put other content at (λ same. differ (ap suc same))
+  set_at _ _ put _ content at differ = at
 
   set_here : (slots : List (String Global × Option V)) (slot : ℕ) (put content : String Global × Option V)
       → slice_get (set slots slot put) slot ≡ Some content → content ≡ put

@@ -21,23 +21,20 @@ module _ {V : Type 0} where
 
   live_written : (items : List (Option (String Global × V))) (slot : ℕ) (value : V) (bound : ℕ)
       → live_to (with_value_in items slot value) bound ≡ live_to items bound
-  live_written [] slot value bound = refl
   live_written (item ∷ items) zero value zero = refl
   live_written (None ∷ items) zero value (suc bound) = refl
-  live_written (Some entry ∷ items) zero value (suc bound) = refl
-  live_written (item ∷ items) (suc slot) value zero = refl
   live_written (item ∷ items) (suc slot) value (suc bound) =
       ap (λ n. here item + n) (live_written items slot value bound)
+  live_written _ _ value _ = refl
 
   somes_written : (items : List (Option (String Global × V))) (slot : ℕ) (entry : String Global × V) (value : V)
       → slice_get items slot ≡ Some (Some entry)
       → somes (with_value_in items slot value) ≡ set_value_at (somes items) (live_to items slot) value
-  somes_written [] slot entry value at = absurd (cc)
-  somes_written (None ∷ items) zero entry value at = absurd (cc)
   somes_written (Some first ∷ items) zero entry value at = refl
   somes_written (None ∷ items) (suc slot) entry value at = rw zero-add (somes_written items slot entry value at)
   somes_written (Some first ∷ items) (suc slot) entry value at =
       rw one-add (ap (λ rest. first ∷ rest) (somes_written items slot entry value at))
+  somes_written _ _ entry value at = absurd (cc)
 
   pub view_written : (items : List (Option (String Global × V))) (slot index : ℕ)
       (entry : String Global × V) (value : V) → slice_get items slot ≡ Some (Some entry) → live_to items slot ≡ index
@@ -48,11 +45,9 @@ module _ {V : Type 0} where
 
   length_written : (items : List (Option (String Global × V))) (slot : ℕ) (value : V)
       → length (somes (with_value_in items slot value)) ≡ length (somes items)
-  length_written [] slot value = refl
-  length_written (None ∷ items) zero value = refl
-  length_written (Some entry ∷ items) zero value = refl
   length_written (None ∷ items) (suc slot) value = length_written items slot value
   length_written (Some entry ∷ items) (suc slot) value = ap suc (length_written items slot value)
+  length_written _ _ value = refl
 
   pub written_map : (items : List (Option (String Global × V))) (counts : List ℕ) (live : ℕ)
       → IsOrderedMap items counts live → (slot : ℕ) (value : V)

@@ -39,10 +39,9 @@ module _ {X : Type 0} where
   live_past (Some item ∷ items) (suc bound) past = omega (arith, live_past items bound (omega (arith, past)))
 
   pub live_rises : (items : List (Option X)) (few many : ℕ) → few ≤ many → live_to items few ≤ live_to items many
-  live_rises [] few many less = omega arith
-  live_rises (item ∷ items) zero many less = omega arith
   live_rises (item ∷ items) (suc few) zero less = absurd (omega (arith, less))
   live_rises (item ∷ items) (suc few) (suc many) less = omega (arith, live_rises items few many (omega (arith, less)))
+  live_rises _ _ many less = omega arith
 
   pub live_below : (items : List (Option X)) (bound : ℕ) → live_to items bound ≤ bound
   live_below [] bound = omega arith
@@ -57,12 +56,6 @@ module _ {X : Type 0} where
   live_gap (item ∷ items) zero many less = omega (arith, live_below (item ∷ items) many)
   live_gap (item ∷ items) (suc few) zero less = absurd (omega (arith, less))
   live_gap (item ∷ items) (suc few) (suc many) less = omega (arith, live_gap items few many (omega (arith, less)))
-
-  pub live_within : (items : List (Option X)) (bound : ℕ) → live_to items bound ≤ length (somes items)
-  live_within [] bound = omega arith
-  live_within (item ∷ items) zero = omega arith
-  live_within (None ∷ items) (suc bound) = omega (arith, live_within items bound)
-  live_within (Some item ∷ items) (suc bound) = omega (arith, live_within items bound)
 
   -- where each slot has an item
   pub live_all : (items : List (Option X)) (bound : ℕ) → length (somes items) ≡ length items → bound ≤ length items
@@ -96,11 +89,10 @@ module _ {X : Type 0} where
   -- an item is in the list of items, after as many as there are before it
   pub somes_at : (items : List (Option X)) (slot : ℕ) (item : X) → slice_get items slot ≡ Some (Some item)
       → slice_get (somes items) (live_to items slot) ≡ Some item
-  somes_at [] slot item at = absurd (cc)
-  somes_at (None ∷ items) zero item at = absurd (cc)
   somes_at (Some first ∷ items) zero item at = let same : first ≡ item = cc in rw same refl
   somes_at (None ∷ items) (suc slot) item at = rw zero-add (somes_at items slot item at)
   somes_at (Some first ∷ items) (suc slot) item at = rw one-add (somes_at items slot item at)
+  somes_at _ _ item at = absurd (cc)
 
   -- ---- an item that is taken out
 
@@ -115,12 +107,10 @@ module _ {X : Type 0} where
 
   pub live_taken_before : (items : List (Option X)) (slot bound : ℕ) → bound ≤ slot
       → live_to (set items slot None) bound ≡ live_to items bound
-  live_taken_before [] slot bound before = refl
-  live_taken_before (first ∷ items) zero zero before = refl
-  live_taken_before (first ∷ items) (suc slot) zero before = refl
   live_taken_before (first ∷ items) zero (suc bound) before = absurd (omega (arith, before))
   live_taken_before (first ∷ items) (suc slot) (suc bound) before =
       omega (arith, live_taken_before items slot bound (omega (arith, before)))
+  live_taken_before _ _ _ before = refl
 
   pub somes_taken : (items : List (Option X)) (slot : ℕ) (item : X) → slice_get items slot ≡ Some (Some item)
       → length (somes (set items slot None)) + 1 ≡ length (somes items)

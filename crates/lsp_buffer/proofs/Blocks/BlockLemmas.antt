@@ -111,9 +111,8 @@ split_text blocks index is =
 
 -- Some of the first blocks, and some after these.
 pub full_take : (n : ℕ) (blocks : List (List ℕ)) → AreFull blocks → AreFull (take n blocks)
-full_take zero blocks full = tt
-full_take (suc n) [] full = tt
 full_take (suc n) (b ∷ blocks) full = (full.0, full_take n blocks full.1)
+full_take _ _ full = tt
 
 pub full_at : (index : ℕ) (blocks : List (List ℕ)) → index < length blocks → AreFull blocks
     → IsFull (get_or blocks index [])

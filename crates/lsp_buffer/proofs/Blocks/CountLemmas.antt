@@ -1,5 +1,6 @@
 -- What texts count, one after the other.
-use Rattle.lsp_buffer.proofs.Prelude.{ℕ, zero, suc, ◌≡◌, ◌+◌, ◌<◌, ◌≤◌, List, [], ◌∷◌, ◌++◌, length, take, drop, get_or, sym, ap, ◌∙◌, arith, subst, concat, chars, IsUtf8, take-add, length-append, concat-append, chars-append, chars-nil, encodes-chars, length-le-encodes, Encoding, Utf8, Utf16, Utf32, line_at, line_ends, units_in, line_step, units_total, Counts, AreBlocks, block_ends, carried, counts_of, head_of, HaveRoom, counts_sum, AreFull, Closes, common_steps}
+use Rattle.lsp_buffer.proofs.Prelude.{ℕ, ◌≡◌, ◌+◌, ◌<◌, ◌≤◌, List, [], ◌∷◌, ◌++◌, length, take, drop, get_or, sym, ap, ◌∙◌, arith, subst, concat, chars, IsUtf8, take-add, length-append, concat-append, chars-append, chars-nil, encodes-chars, length-le-encodes, Encoding, Utf8, Utf16, Utf32, line_ends, units_in, units_total, Counts, AreBlocks, block_ends, carried, counts_of, head_of, HaveRoom, counts_sum, AreFull, Closes, common_steps}
+use Rattle.lsp_text.proofs.Positions.ExactLemmas.{line_low}
 use Rattle.lsp_buffer.proofs.Blocks.BlockLemmas.{chars_close, concat_split, full_closes, full_utf8, split}
 use Rattle.lsp_buffer.proofs.Blocks.CutLemmas.{concat_more}
 use Rattle.lsp_buffer.proofs.Blocks.PartLemmas.{head_of_both}
@@ -13,10 +14,6 @@ none_count = λ i. record {
   utf16 = ap (head (units_in Utf16)) chars-nil i;
   utf32 = ap (head (units_in Utf32)) chars-nil i;
 }
-
-pub line_low : (text : List ℕ) (k : ℕ) → line_at text k ≤ k
-line_low text zero = omega arith
-line_low text (suc k) = omega (arith, (line_step text k).1, line_low text k)
 
 -- There are no more line ends than bytes.
 pub ends_low : (bytes : List ℕ) → IsUtf8 bytes → block_ends bytes ≤ length bytes

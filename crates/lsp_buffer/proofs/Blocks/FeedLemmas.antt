@@ -1,6 +1,7 @@
 -- The end of a block: its place, and a line feed there.
-use Rattle.lsp_buffer.proofs.Prelude.{ℕ, zero, suc, ◌≡◌, ◌+◌, ◌-◌, ◌<◌, ◌≤◌, true, List, [], ◌∷◌, ◌++◌, length, take, drop, get_or, slice_index, sum_by, ⊎_elim, refl, ap, ◌∙◌, arith, encode_utf8_all, chars, IsUtf8, encode, cases_lt, length-append, get_or-append_right, append-nil, encodes-chars, encode_ascii, length-encode, len_utf8_bounds, place_of, starts_line, line_at, line_ends, line_start, line_feed, IsPlace, units_between, line_rises, splits_none_past, in_content_line, line_has_start, place_end, head_of, common_steps}
+use Rattle.lsp_buffer.proofs.Prelude.{ℕ, zero, suc, ◌≡◌, ◌+◌, ◌-◌, ◌<◌, ◌≤◌, true, List, [], ◌∷◌, ◌++◌, length, take, drop, get_or, slice_index, sum_by, refl, sym, ap, ◌∙◌, arith, encode_utf8_all, chars, IsUtf8, encode, cases_lt, length-append, get_or-append_right, append-nil, encodes-chars, encode_ascii, length-encode, len_utf8_bounds, place_of, starts_line, line_ends, line_start, line_feed, IsPlace, units_between, splits_none_past, place_end, head_of, common_steps}
 use Rattle.lsp_text.proofs.TextLines.StartLemmas.{AllHigh, encode_high}
+use Rattle.lsp_text.proofs.TextLines.StartRowLemmas.{end_starts}
 use Rattle.lsp_buffer.proofs.Blocks.SeamLemmas.{head}
 use Rattle.std.proofs.lemmas.Grind.{common_steps}
 
@@ -39,21 +40,8 @@ empty_line : (units : ℕ → ℕ) (text : List ℕ) → EndsLine text → head 
 empty_line units text feed =
     let count : suc (length text - 1) ≡ length text = omega (arith, feed.some) in
     let ends : starts_line text (suc (length text - 1)) ≡ true = rw feed.feed refl in
-    let last : line_at text (suc (length text - 1)) ≡ suc (line_at text (length text - 1)) = rw ends refl in
-    let start = line_has_start text (line_ends text) (omega arith) in
-    let at = in_content_line text (line_ends text) (line_start text (line_ends text)) start.passes in
     let end : line_start text (line_ends text) ≡ length text =
-    ⊎_elim
-    (λ (h : line_start text (line_ends text) < length text).
-    absurd (omega (
-      arith,
-      at,
-      ap (line_at text) count,
-      last,
-      line_rises text (line_start text (line_ends text)) (length text - 1) (omega (arith, h)),
-    )))
-    (λ (h : length text ≤ line_start text (line_ends text)). omega (arith, start.in_row, h))
-    (cases_lt (line_start text (line_ends text)) (length text)) in
+    end_starts text (length text) (omega arith) feed.some (ap (starts_line text) (sym count) ∙ ends) in
     ap (λ s. units_between units text s (length text)) end ∙
     ap (λ n. sum_by units (take n (drop (length text) text))) (let e : length text - length text ≡ 0 = omega arith in e)
 

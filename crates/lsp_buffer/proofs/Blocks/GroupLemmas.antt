@@ -90,9 +90,6 @@ groups_front blocks more groups now first are within some now_is =
     front_length : length (take first blocks) ≡ first
     front_length = length-take-le first blocks within
 
-    count : length (take (first / 32) groups) ≤ first / 32
-    count = omega (arith, length-take (first / 32) groups)
-
     front_same : (from : ℕ) → from + 32 ≤ first → take 32 (drop from blocks)
         ≡ take 32 (drop from (take first blocks ++ more))
     front_same from h =

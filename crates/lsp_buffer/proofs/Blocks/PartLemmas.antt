@@ -30,10 +30,6 @@ module _ (a r : List ℕ) (closes : Closes a) where
       grind (arith, common_steps, position_back, denoted_right))
       closes
     where
-      same : (o : Option ℕ) → o ≡ option_map (λ k. 0 + k) o
-      same None = refl
-      same (Some k) = ap Some (omega arith)
-
       at_none : a ≡ [] → denoted units (a ++ r) p ≡ option_map (λ k. length a + k)
           (denoted units r (position_after (line_ends a) (head units a) p))
       at_none e = grind (arith, common_steps, carried_none)

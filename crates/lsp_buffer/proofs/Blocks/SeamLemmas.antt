@@ -6,18 +6,10 @@ use Rattle.std.proofs.lemmas.List.Elements.{filter-append}
 use Rattle.std.proofs.lemmas.List.Sums.{sum_by-append}
 use Rattle.lsp_text.proofs.TextLines.StartRowLemmas.{first_starts}
 use Rattle.lsp_text.proofs.Counting.UnitLemmas.{units_rise}
-use Rattle.lsp_text.proofs.TextLines.SpliceLemmas.{filter_moved}
+use Rattle.lsp_text.proofs.TextLines.SpliceLemmas.{filter_moved, numbers_split}
 use Rattle.std.proofs.lemmas.Grind.{common_steps}
 
 -- Rows of numbers.
-numbers_split : (first m n : ℕ) → numbers_from first (m + n) ≡ numbers_from first m ++ numbers_from (first + m) n
-numbers_split first zero n = grind (arith, common_steps)
-numbers_split first (suc m) n =
-    let a : suc m + n ≡ suc (m + n) = omega arith in
-    let b : suc first + m ≡ first + suc m = omega arith in
-    ap (numbers_from first) a ∙ ap (λ xs. first ∷ xs) (numbers_split (suc first) m n
-    ∙ ap (λ f. numbers_from (suc first) m ++ numbers_from f n) b)
-
 none_pass : (test : ℕ → Bool) (low n : ℕ) → ((k : ℕ) → low ≤ k → k < low + n → test k ≡ false)
     → filter test (numbers_from low n) ≡ []
 none_pass test low zero none = refl
@@ -244,9 +236,6 @@ module _ (a b : List ℕ) (clear : EndsClear a) where
       let size : suc (length a) ≡ length a + 1 = omega arith in
       ap (λ n. filter (is_in_content a line) (numbers_from 0 n)) size ∙
       (grind (arith, common_steps, numbers_split, filter-append, append-nil))
-    where
-      not_there : (k : ℕ) → length a ≤ k → is_in_content a line k ≡ false
-      not_there k o = grind (arith, common_steps, in_content_line, line_rises, cases_Bool)
 
   -- The row of a line that the second has: first what the first text has of it.
   row_right : (line : ℕ) → line_content (a ++ b) (line_ends a + line)
@@ -383,9 +372,6 @@ module _ (a b : List ℕ) (clear : EndsClear a) where
 
       fails_last : (units_between units a (line_start a p.line) (length a) == p.character) ≡ false
       fails_last = grind (arith, common_steps, false_from_ne_true, eqb-true)
-
-      within : line_start a p.line ≤ length a
-      within = omega (arith, (line_has_start a p.line (omega (arith, there))).in_row)
 
       searched : find (λ k. units_between units (a ++ b) (line_start (a ++ b) p.line) k == p.character)
           (line_content (a ++ b) p.line) ≡ find (λ k. units_between units a (line_start a p.line) k == p.character)

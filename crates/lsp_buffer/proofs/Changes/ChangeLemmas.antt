@@ -1,5 +1,5 @@
 -- A change of a text in blocks: in its block, or with the blocks cut again.
-use Rattle.lsp_buffer.proofs.Prelude.{ℕ, zero, suc, ◌≡◌, ◌+◌, ◌-◌, ◌/◌, ◌<◌, ◌≤◌, ◌⊎◌, List, [], ◌∷◌, ◌++◌, length, take, drop, set, get_or, ⊎_elim, inl, inr, refl, sym, ap, ◌∙◌, arith, subst, concat, replace_range, IsUtf8, IsCharBoundary, drop-cons, cases_lt, append_assoc, drop_all, get_or_default, length-append, length-drop, length-take-le, set-get_or, set-set, set_split, take-append-drop, take-take, concat-append, IsUtf8-append, IsUtf8-drop, IsUtf8-from_is_utf8, IsUtf8-take, is_utf8-from_IsUtf8, Counts, Found, Offset, BlockRange, AreBlocks, AreGroups, EndsClear, IsFull, IsTextBuffer, IsChange, IsRangeOf, IsTaken, JoinsNext, StaysInside, text_after, text_left, AreFull, IsFound, common_steps}
+use Rattle.lsp_buffer.proofs.Prelude.{ℕ, zero, suc, ◌≡◌, ◌+◌, ◌-◌, ◌/◌, ◌<◌, ◌≤◌, ◌⊎◌, List, [], ◌∷◌, ◌++◌, length, take, drop, set, get_or, ⊎_elim, inl, inr, refl, sym, ap, ◌∙◌, arith, subst, concat, replace_range, IsUtf8, IsCharBoundary, cases_lt, append_assoc, drop_all, get_or_default, length-append, length-drop, length-take-le, set-get_or, set-set, set_split, take-append-drop, take-take, concat-append, IsUtf8-append, IsUtf8-drop, IsUtf8-from_is_utf8, IsUtf8-take, is_utf8-from_IsUtf8, Counts, Found, Offset, BlockRange, AreBlocks, AreGroups, EndsClear, IsFull, IsTextBuffer, IsChange, IsRangeOf, IsTaken, JoinsNext, StaysInside, text_after, text_left, AreFull, IsFound, common_steps}
 use Rattle.lsp_buffer.proofs.Blocks.BlockLemmas.{IsSplit, blocks_some, concat_split, ends_join, ends_tail, joined_blocks, split}
 use Rattle.lsp_buffer.proofs.Blocks.CutLemmas.{concat_more}
 use Rattle.lsp_buffer.proofs.Blocks.GroupLemmas.{groups_front}
@@ -69,25 +69,18 @@ found_range from to start stop = record {
 
 module _ (blocks : List (List ℕ)) (from to : Found) (start stop : ℕ)
     (is : IsRangeFound blocks from to start stop) where
-  one : IsPlaceFound (concat blocks) (concat (take from.index blocks)) (get_or blocks from.index [])
-      (concat (drop (from.index + 1) blocks)) start from.before.len
-  one = found_place (concat blocks) (concat (take from.index blocks)) (get_or blocks from.index [])
-      (concat (drop (from.index + 1) blocks)) from.before start
-      (part_here blocks (Offset start) from (get_or blocks from.index []) is.are is.size is.from_is
-      (get_or_default blocks from.index [] (get_or blocks from.index []) is.from_is.begins.within))
-
-  two : IsPlaceFound (concat blocks) (concat (take to.index blocks)) (get_or blocks to.index [])
-      (concat (drop (to.index + 1) blocks)) stop to.before.len
-  two = found_place (concat blocks) (concat (take to.index blocks)) (get_or blocks to.index [])
-      (concat (drop (to.index + 1) blocks)) to.before stop
-      (part_here blocks (Offset stop) to (get_or blocks to.index []) is.are is.size is.to_is
-      (get_or_default blocks to.index [] (get_or blocks to.index []) is.to_is.begins.within))
+  end_found : (found : Found) (place : ℕ) → IsFound blocks (Offset place) found
+      → IsPlaceFound (concat blocks) (concat (take found.index blocks)) (get_or blocks found.index [])
+      (concat (drop (found.index + 1) blocks)) place found.before.len
+  end_found found place there =
+      found_place _ _ _ _ found.before place
+      (part_here blocks (Offset place) found (get_or blocks found.index []) is.are is.size there
+      (get_or_default blocks found.index [] (get_or blocks found.index []) there.begins.within))
 
   range_text : (new : List ℕ) → text_after blocks (found_range from to start stop) new
       ≡ replace_range (concat blocks) start stop new
-  range_text new = replaced_parts (concat blocks) (concat (take from.index blocks)) (get_or blocks from.index [])
-      (concat (drop (from.index + 1) blocks)) (concat (take to.index blocks)) (get_or blocks to.index [])
-      (concat (drop (to.index + 1) blocks)) new start stop from.before.len to.before.len one two is.at_start is.at_end
+  range_text new = replaced_parts _ _ _ _ _ _ _ new start stop _ _ (end_found from start is.from_is)
+      (end_found to stop is.to_is) is.at_start is.at_end
 
   range_order : from.index ≤ to.index
   range_order = grind (arith, common_steps, first_texts, cases_lt)
@@ -100,8 +93,8 @@ module _ (blocks : List (List ℕ)) (from to : Found) (start stop : ℕ)
       absurd (is.to_is.last more (omega (
         arith,
         h,
-        two.low,
-        two.from_is,
+        (end_found to stop is.to_is).low,
+        (end_found to stop is.to_is).from_is,
         ap length (concat_more blocks to.index (get_or blocks to.index []) is.to_is.begins.within
             (get_or_default blocks to.index [] (get_or blocks to.index []) is.to_is.begins.within)),
         length-append (concat (take to.index blocks)) (get_or blocks to.index []),
@@ -114,11 +107,8 @@ module _ (blocks : List (List ℕ)) (from to : Found) (start stop : ℕ)
     are = is.are;
     order = range_order;
     within = is.to_is.begins.within;
-    at_start = chunk_boundary (concat blocks) (concat (take from.index blocks)) (get_or blocks from.index [])
-        (concat (drop (from.index + 1) blocks)) start from.before.len (get_or blocks from.index []) refl one
-        is.at_start;
-    at_end = chunk_boundary (concat blocks) (concat (take to.index blocks)) (get_or blocks to.index [])
-        (concat (drop (to.index + 1) blocks)) stop to.before.len (get_or blocks to.index []) refl two is.at_end;
+    at_start = chunk_boundary _ _ _ _ _ _ _ refl (end_found from start is.from_is) is.at_start;
+    at_end = chunk_boundary _ _ _ _ _ _ _ refl (end_found to stop is.to_is) is.at_end;
     before_end = range_end;
     forward = grind (arith, common_steps);
     size = is.size;
@@ -153,9 +143,6 @@ module _ (blocks : List (List ℕ)) (range : BlockRange) (new : List ℕ) (chang
   pub last_here : (block : List ℕ) → block ≡ get_or blocks range.last block → get_or blocks range.last [] ≡ block
   last_here block is = get_or_default blocks range.last [] block change.within ∙ sym is
 
-  pub last_at : (block : List ℕ) → block ≡ get_or blocks range.last block → IsCharBoundary block range.end
-  last_at block is = subst (λ (b : List ℕ). IsCharBoundary b range.end) (last_here block is) change.at_end
-
   pub left_text : (front back text : List ℕ) → front ≡ get_or blocks range.first front
       → back ≡ get_or blocks range.last back → text ≡ take range.start front ++ (new ++ drop range.end back)
       → text ≡ text_left blocks range new
@@ -174,18 +161,6 @@ module _ (blocks : List (List ℕ)) (range : BlockRange) (new : List ℕ) (chang
 
   pub first_small : length (get_or blocks range.first []) ≤ 2147483648
   first_small = block_low range.first first_within
-
-  left_length : length (text_left blocks range new) ≡ range.start + length new
-      + (length (get_or blocks range.last []) - range.end)
-  left_length = grind (arith, common_steps, length-append, length-take-le, length-drop)
-
-  pub left_here : (block : List ℕ) → block ≡ get_or blocks range.last block → length (text_left blocks range new)
-      ≡ range.start + length new + (length block - range.end)
-  left_here block is =
-      left_length ∙ ap (λ (b : List ℕ). range.start + length new + (length b - range.end)) (last_here block is)
-
-  pub left_small : length (text_left blocks range new) ≤ 2147483648
-  left_small = grind (arith, common_steps, length-append)
 
   left_utf8 : IsUtf8 new → IsUtf8 (text_left blocks range new)
   left_utf8 utf8 =
@@ -249,10 +224,6 @@ module _ (blocks : List (List ℕ)) (range : BlockRange) (new : List ℕ) (chang
           enough = omega (arith, here.enough, length-append (text_left blocks range new) next);
         });
   }
-    where
-      rest_is : concat (drop past blocks) ≡ next ++ concat (drop (past + 1) blocks)
-      rest_is =
-          grind (arith, common_steps, drop-cons)
 
   -- The blocks that the text is cut into.
   module _ (text : List ℕ) (past : ℕ) (fresh : List (List ℕ)) (taken : IsTaken blocks range new text past)
@@ -287,23 +258,8 @@ module _ (blocks : List (List ℕ)) (range : BlockRange) (new : List ℕ) (chang
       front_is : get_or blocks range.first [] ≡ block
       front_is = first_here block block_is
 
-      back_is : get_or blocks range.last [] ≡ block
-      back_is = ap (λ i. get_or blocks i []) (sym inside.0) ∙ front_is
-
-      pub put_order : range.start ≤ range.end
-      put_order = change.forward inside.0
-
-      pub put_start : IsCharBoundary block range.start
-      put_start = subst (λ (b : List ℕ). IsCharBoundary b range.start) front_is change.at_start
-
-      pub put_end : IsCharBoundary block range.end
-      put_end = subst (λ (b : List ℕ). IsCharBoundary b range.end) back_is change.at_end
-
       put_left : replace_range block range.start range.end new ≡ text_left blocks range new
       put_left = grind (arith, common_steps, append_assoc)
-
-      pub put_small : length (replace_range block range.start range.end new) ≤ 2147483648
-      put_small = omega (arith, left_small, ap length put_left)
 
       -- The blocks as they were.
       pub put_none : (fresh : List ℕ) → fresh ≡ block → set blocks range.first fresh ≡ blocks

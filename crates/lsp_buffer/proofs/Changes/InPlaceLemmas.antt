@@ -1,7 +1,6 @@
 -- What a change of a range makes of the bytes of a text, and of its lines.
-use Rattle.lsp_buffer.proofs.Prelude.{ℕ, ◌≡◌, ◌+◌, ◌-◌, ◌<◌, ◌≤◌, true, List, ◌++◌, length, take, drop, sym, ap, ap₂, ◌∙◌, subst, arith, Result, Ok, Err, OnOk, OnErr, is_err, length-append, length-drop, length-take, length-take-le, append_assoc, take_at, drop_at, drop-drop, take-append-drop, IsCharBoundary-at_seam, IsUtf8-append, IsUtf8-drop, slice_range, replace_range, IsCharBoundary, IsUtf8, AreLinesOf, common_steps}
+use Rattle.lsp_buffer.proofs.Prelude.{ℕ, ◌≡◌, ◌+◌, ◌-◌, ◌<◌, ◌≤◌, true, List, ◌++◌, length, take, drop, sym, ap, ap₂, ◌∙◌, subst, arith, Result, Ok, Err, OnOk, OnErr, is_err, length-append, length-drop, length-take, length-take-le, append_assoc, take_at, drop_at, drop-drop, take-append-drop, IsCharBoundary-at_seam, IsUtf8-append, IsUtf8-drop, slice_range, replace_range, IsCharBoundary, IsUtf8, common_steps}
 use Rattle.std.specs.String.Boundary.{IsSplitPoint}
-use Rattle.lsp_text.specs.Splice.{IsSpliced}
 
 assoc : (a b c : List ℕ) → a ++ b ++ c ≡ a ++ (b ++ c)
 assoc a b c = simp append_assoc
@@ -38,15 +37,6 @@ module _ (old : List ℕ) (utf8 : IsUtf8 old) (start stop : ℕ) (new : List ℕ
       (subst (IsCharBoundary (replace_range old start stop new)) front_len
       (IsCharBoundary-at_seam (replace_range old start stop new) (take start old) (new ++ drop stop old)
       (assoc (take start old) new (drop stop old)) (IsUtf8-append new (drop stop old) new_utf8 rest_utf8)))
-
-  pub is_spliced : (lines : List ℕ) → AreLinesOf lines old →
-      IsSpliced lines (replace_range old start stop new) start stop (length new)
-  is_spliced lines indexed = record {
-    old = old;
-    utf8 = utf8;
-    indexed = indexed;
-    replaced = grind (arith, common_steps, replaced_len, front_at, back_at);
-  }
 
   pub undone : replace_range (replace_range old start stop new) start (start + length new) (slice_range old start stop)
       ≡ old

@@ -1,5 +1,5 @@
 -- The bytes of a text from one on, which are copied chunk by chunk.
-use Rattle.lsp_buffer.proofs.Prelude.{ℕ, ◌≡◌, ◌+◌, ◌-◌, ◌≤◌, List, ◌++◌, length, take, drop, min, sym, ap, ◌∙◌, arith, append_assoc, drop-append-le, drop-drop, drop_at, length-append, length-drop, length-take, length-take-le, take-append-drop, take-take, take_at, take-add, common_steps}
+use Rattle.lsp_buffer.proofs.Prelude.{ℕ, ◌≡◌, ◌+◌, ◌-◌, ◌≤◌, List, ◌++◌, length, take, drop, min, sym, ap, ◌∙◌, arith, append_assoc, drop-append-le, drop-drop, drop_at, length-append, length-drop, length-take, length-take-le, take-append-drop, take_at, take-add, common_steps}
 use borrow.Rule.Slice.PartMut.{put_mid}
 use Rattle.std.proofs.lemmas.Grind.{common_steps}
 
@@ -37,9 +37,6 @@ module _ (bytes old now chunk : List ℕ) (start end copied n : ℕ) (ends : IsE
       ∙ (ap (drop n) (take-append-drop (end - copied) (drop copied now)) ∙ (ap (drop n) back ∙ drop-drop n copied old))
 
   module _ (chunk_is : chunk ≡ take (length chunk) (drop (start + copied) bytes)) where
-    piece : take n chunk ≡ take n (drop copied (drop start bytes))
-    piece = grind (arith, common_steps, take-take, drop-drop)
-
     head : take copied now ++ take n chunk ≡ take (copied + n) (drop start bytes)
     head = grind (arith, common_steps, take_at, take-add)
 

@@ -1,9 +1,10 @@
 -- The block that is found for a byte offset or a position, and what it says of the text.
 use Rattle.lsp_buffer.proofs.Prelude.{ℕ, ◌≡◌, ◌+◌, ◌-◌, ◌*◌, ◌<◌, ◌≤◌, ◌⊎◌, false, List, [], ◌++◌, length, take, drop, get_or, Option, option_map, ⊎_elim, inl, inr, refl, sym, ap, ◌∙◌, arith, subst, concat, chars, IsUtf8, IsCharBoundary, cases_lt, append-nil, drop_all, length-append, length-drop, get_or_default, take_at, encodes-chars, length-le-encodes, IsUtf8-from_is_utf8, Position, Encoding, Utf8, Utf16, Utf32, place_of, line_ends, line_at, line_start, splits_crlf, IsPlace, units_in, units_between, exact_position, denoted, place_one, units_total, Counts, Found, Denoted, Offset, AreBlocks, IsFull, IsTextBuffer, carried, block_ends, counts_of, head_of, HaveRoom, counts_sum, head_in, AreThree, BeginsBefore, IsFound, IsPart, IsPartAt, Reaches, IsAtOrAfter, IsBefore, position_after, position_from, common_steps}
+use Rattle.lsp_text.proofs.Positions.ExactLemmas.{line_low}
 use Rattle.lsp_text.specs.laws.Units.{utf8_bounds, utf16_bounds, utf32_bounds}
 use Rattle.lsp_buffer.specs.declared.find.Target.{Target}
 use Rattle.lsp_buffer.proofs.Blocks.BlockLemmas.{IsSplit, blocks_some, blocks_utf8, full_closes, full_utf8, split, split_text}
-use Rattle.lsp_buffer.proofs.Blocks.CountLemmas.{are_sum, ends_both, have_room, head_both, line_low, none_count, room_more, room_some, sum_more, sum_some}
+use Rattle.lsp_buffer.proofs.Blocks.CountLemmas.{are_sum, ends_both, have_room, head_both, none_count, room_more, room_some, sum_more, sum_some}
 use Rattle.lsp_buffer.proofs.Blocks.CutLemmas.{concat_more}
 use Rattle.lsp_buffer.proofs.Blocks.PartLemmas.{resolved_three, inner_index, exact_three, boundary_in, carried_low, drop_three}
 use Rattle.std.proofs.lemmas.Grind.{common_steps}
@@ -33,8 +34,7 @@ pub record IsLineFound (bytes front block rest : List ℕ) (units : ℕ → ℕ)
 pub head_counted : (encoding : Encoding) (text : List ℕ) → head_in (counts_of text) encoding
     ≡ head_of (units_in encoding) text
 head_counted Utf8 text = refl
-head_counted Utf16 text = refl
-head_counted Utf32 text = refl
+head_counted _ text = refl
 
 head_none : (encoding : Encoding) → head_in (counts_of []) encoding ≡ 0
 head_none Utf8 = ap (λ (c : Counts). c.utf8) none_count
@@ -107,11 +107,6 @@ module _ (blocks : List (List ℕ)) (are : AreBlocks blocks) (size : length (con
     last = λ _ reaches. never (subst (Reaches target) (sym (next_counts next next_is)) reaches);
   }
 
-pub last_found : (blocks : List (List ℕ)) (target : Target) (index : ℕ) (before : Counts) → length blocks ≤ index + 1
-    → BeginsBefore blocks target (record { index = index; before = before })
-    → IsFound blocks target (record { index = index; before = before })
-last_found blocks target index before all begins = record { begins = begins; last = λ more. absurd (omega arith) }
-
 pub same_found : (blocks : List (List ℕ)) (place : ℕ) (found : Found) (block : List ℕ)
     → BeginsBefore blocks (Offset place) found → block ≡ get_or blocks found.index block
     → place - found.before.len < length block → IsFound blocks (Offset place) found
@@ -179,9 +174,6 @@ module _ (bytes front block rest : List ℕ) (before : Counts) (place : ℕ)
     (part : IsPartAt bytes front block rest (Offset place) before) where
   front_length : before.len ≡ length front
   front_length = ap (λ (c : Counts). c.len) part.before_is
-
-  past : length front + length block ≤ place → Reaches (Offset place) (counts_of (front ++ block))
-  past h = omega (arith, h, length-append front block)
 
   pub found_place : IsPlaceFound bytes front block rest place before.len
   found_place = record {
@@ -276,49 +268,6 @@ module _ (bytes front block rest : List ℕ) where
       let is = inner_index bytes front block rest found.parts place at.0 found.low found.inside at.1 at.3 in
       (is.inner, is.within, sym is.splits ∙ at.2, is.place_is ∙ ap (λ n. place - n) (sym found.from_is))
 
-  pub exact_found : (units : ℕ → ℕ) (place from first head k : ℕ) (p : Position) → IsPlaceFound bytes front block rest
-      place from → first ≡ line_ends (chars front) → head ≡ head_of units front → IsPlace (chars bytes) place →
-      ((j : ℕ) → j ≤ length (chars block) → place_of (chars block) j ≡ place - from
-      → p ≡ exact_position units (chars block) j) → k ≤ length (chars bytes) → place_of (chars bytes) k ≡ place →
-      ◌≡◌ {A = Position} (position_from first head p) (exact_position units (chars bytes) k)
-  exact_found units place from first head k p found first_is head_is at exact within k_at =
-      let is = inner_index bytes front block rest found.parts place k found.low found.inside within k_at in
-      let one : k ≡ at.0 = place_one (chars bytes) k at.0 within at.1 (k_at ∙ sym at.3) in
-      let inner = exact is.inner is.within (is.place_is ∙ ap (λ n. place - n) (sym found.from_is)) in
-      let whole : splits_crlf (chars bytes) k ≡ false = ap (splits_crlf (chars bytes)) one ∙ at.2 in
-      ap (position_from first head) inner ∙
-      (ap (λ (n : ℕ). position_from n head (exact_position units (chars block) is.inner)) first_is ∙
-      (ap (λ (n : ℕ). position_from (line_ends (chars front)) n (exact_position units (chars block) is.inner)) head_is ∙
-      sym (exact_three bytes front block rest found.parts units place k is whole)))
-
-  pub exact_low : (encoding : Encoding) (place from first head : ℕ) (p : Position) → IsUtf8 bytes
-      → IsPlaceFound bytes front block rest place from → first ≡ line_ends (chars front)
-      → head ≡ head_of (units_in encoding) front → IsPlace (chars bytes) place →
-      ((j : ℕ) → j ≤ length (chars block) → place_of (chars block) j ≡ place - from
-      → p ≡ exact_position (units_in encoding) (chars block) j) →
-      (first + p.line ≤ length bytes) × (carried p.line head + p.character ≤ length bytes)
-  exact_low encoding place from first head p utf8 found first_is head_is at exact =
-      let units = units_in encoding in
-      let same = exact_found units place from first head at.0 p found first_is head_is at exact at.1 at.3 in
-      let line : first + p.line ≡ line_at (chars bytes) at.0 = ap (λ (q : Position). q.line) same in
-      let character : carried p.line head + p.character ≡ units_between units (chars bytes)
-      (line_start (chars bytes) (line_at (chars bytes) at.0)) at.0 = ap (λ (q : Position). q.character) same in (
-        omega (
-          arith,
-          line,
-          line_low (chars bytes) at.0,
-          at.1,
-          length-le-encodes (chars bytes),
-          ap length (encodes-chars bytes utf8),
-        ),
-        omega (
-          arith,
-          character,
-          units_total encoding (chars bytes) (line_start (chars bytes) (line_at (chars bytes) at.0)) at.0,
-          ap length (encodes-chars bytes utf8),
-        ),
-      )
-
   -- The text from a place to the end of its block.
   pub chunk_boundary : (place from : ℕ) (text : List ℕ) → text ≡ block → IsPlaceFound bytes front block rest place from
       → IsCharBoundary bytes place → IsCharBoundary text (place - from)
@@ -385,9 +334,31 @@ module _ (bytes block : List ℕ) (before : Counts) (place : ℕ) (part : IsPart
 
     pub exact_part : (k : ℕ) → k ≤ length (chars bytes) → place_of (chars bytes) k ≡ place
         → ◌≡◌ {A = Position} (position_from before.ends h inner) (exact_position (units_in encoding) (chars bytes) k)
-    exact_part k within k_at = exact_found bytes part.front block part.rest (units_in encoding) place before.len
-        before.ends h k inner place_part first_is head_is at exact within k_at
+    exact_part k within k_at =
+        let units = units_in encoding in
+        let is = inner_index bytes part.front block part.rest place_part.parts place k place_part.low place_part.inside
+        within k_at in
+        let one : k ≡ at.0 = place_one (chars bytes) k at.0 within at.1 (k_at ∙ sym at.3) in
+        let own = exact is.inner is.within (is.place_is ∙ ap (λ n. place - n) (sym place_part.from_is)) in
+        let whole : splits_crlf (chars bytes) k ≡ false = ap (splits_crlf (chars bytes)) one ∙ at.2 in
+        ap (position_from before.ends h) own ∙
+        (ap (λ (n : ℕ). position_from n h (exact_position units (chars block) is.inner)) first_is ∙
+        (ap (λ (n : ℕ). position_from (line_ends (chars part.front)) n (exact_position units (chars block) is.inner))
+        head_is ∙
+        sym (exact_three bytes part.front block part.rest place_part.parts units place k is whole)))
 
     pub exact_few : (before.ends + inner.line ≤ length bytes) × (carried inner.line h + inner.character ≤ length bytes)
-    exact_few = exact_low bytes part.front block part.rest encoding place before.len before.ends h inner part.at.utf8
-        place_part first_is head_is at exact
+    exact_few =
+        let same = exact_part at.0 at.1 at.3 in
+        let line : before.ends + inner.line ≡ line_at (chars bytes) at.0 = ap (λ (q : Position). q.line) same in
+        let character : carried inner.line h + inner.character ≡ units_between (units_in encoding) (chars bytes)
+        (line_start (chars bytes) (line_at (chars bytes) at.0)) at.0 = ap (λ (q : Position). q.character) same in
+        let size = ap length (encodes-chars bytes part.at.utf8) in (
+          omega (arith, line, line_low (chars bytes) at.0, at.1, length-le-encodes (chars bytes), size),
+          omega (
+            arith,
+            character,
+            units_total encoding (chars bytes) (line_start (chars bytes) (line_at (chars bytes) at.0)) at.0,
+            size,
+          ),
+        )

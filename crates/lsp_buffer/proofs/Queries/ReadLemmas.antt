@@ -1,6 +1,5 @@
 -- What is read of a text in blocks: places, chunks and slices.
-use Rattle.lsp_buffer.proofs.Prelude.{ℕ, suc, false, ◌≡◌, ◌≢◌, ◌+◌, ◌-◌, ◌<◌, ◌≤◌, ◌↔◌, Bool, IsTrue, List, ◌++◌, length, take, drop, get_or, sym, ap, ◌∙◌, arith, subst, concat, bytes_eq, chars, IsUtf8, IsCharBoundary, drop-cons, length-drop, length-take-le, take-take, take_at, take-append-drop, append_assoc, append_cancel_left, concat-append, IsPlace, common_steps}
-use Rattle.std.proofs.lemmas.Slice.Eq.{bytes_eq-Decides}
+use Rattle.lsp_buffer.proofs.Prelude.{ℕ, suc, ◌≡◌, ◌≢◌, ◌+◌, ◌-◌, ◌<◌, ◌≤◌, ◌↔◌, Bool, IsTrue, List, ◌++◌, length, take, drop, get_or, sym, ap, ◌∙◌, arith, subst, concat, chars, IsUtf8, IsCharBoundary, drop-cons, length-drop, take-append-drop, append_assoc, append_cancel_left, concat-append, IsPlace, common_steps}
 use Rattle.lsp_text.proofs.Positions.BoundaryLemmas.{boundary_from}
 use Rattle.lsp_buffer.proofs.Blocks.CutLemmas.{concat_more}
 use Rattle.lsp_buffer.proofs.Queries.FoundLemmas.{IsPlaceFound, place_inner}
@@ -34,10 +33,6 @@ pub place_is_boundary : (bytes : List ℕ) (place : ℕ) (test : Bool) → IsUtf
     → (IsTrue test ↔ IsPlace (chars bytes) place) → IsTrue test → IsCharBoundary bytes place
 place_is_boundary bytes place test utf8 is h = (boundary_from bytes place utf8 (is.0 h)).0
 
-pub front_part : (bytes chunk part : List ℕ) (offset len : ℕ) → chunk ≡ take (length chunk) (drop offset bytes)
-    → part ≡ take len chunk → len ≤ length chunk → part ≡ take (length part) (drop offset bytes)
-front_part bytes chunk part offset len is part_is short = grind (arith, common_steps, length-take-le, take-take)
-
 -- Bytes that are compared with blocks, one after another.
 pub text_more : (blocks : List (List ℕ)) (index : ℕ) (block rest back bytes : List ℕ) → index < length blocks
     → block ≡ get_or blocks index block → concat (take index blocks) ++ rest ≡ bytes → rest ≡ block ++ back →
@@ -55,8 +50,3 @@ text_none blocks index block rest bytes within at so_far none whole =
     let parts : concat blocks ≡ concat (take index blocks) ++ (block ++ concat (drop (suc index) blocks)) =
     ap concat (sym (take-append-drop index blocks)) ∙ (grind (arith, common_steps, concat-append)) in
     none (concat (drop (suc index) blocks)) (grind (arith, common_steps, append_cancel_left))
-
--- Bytes begin with others.
-pub not_front : (bytes start front : List ℕ) (test : Bool) → start ≡ take (length front) bytes
-    → test ≡ bytes_eq start front → test ≡ false → (rest : List ℕ) → bytes ≢ front ++ rest
-not_front bytes start front test start_is is fails rest whole = grind (arith, common_steps, take_at, bytes_eq-Decides)

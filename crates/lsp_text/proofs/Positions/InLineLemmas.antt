@@ -1,6 +1,7 @@
 -- Inside a line: its content is all indexes from its start to its stop, and a position goes by the characters between
 -- them alone.
 use Rattle.lsp_text.proofs.Prelude.{ℕ, zero, suc, ◌≡◌, ◌+◌, ◌-◌, ◌<◌, ◌≤◌, ◌⊎◌, Bool, true, false, not, ◌&&◌, cond, if◌then◌else◌, List, [], ◌∷◌, length, take, drop, sum_by, slice_index, ◌==◌, ltb as nat_lt, leb as nat_le, Option, Some, None, option_map, find, ⊎_elim, inl, inr, refl, sym, ◌∙◌, arith, eqb-true, ltb-true, ltb-false, le-ltb, le-leb, length-drop, length-take, cases_Bool, cases_eq, and_parts, and_from, or_right, not-true, not_from_false, lt-leb, eqb-false, false_from_ne_true, take-take, get_or-drop, sum_by-cons, prefix_len_is, prefix_len, Position, line_feed, carriage_return, splits_crlf, line_at, line_ends, is_in_content, line_content, line_start, line_stop, units_between, denoted, common_steps}
+use Rattle.std.specs.Prelude.{MatchOption}
 use Rattle.lsp_text.proofs.TextLines.RowLemmas.{find_none}
 use Rattle.lsp_text.proofs.TextLines.LineLemmas.{line_rises, in_content, in_content_line, in_content_whole, line_has_start, line_has_stop, IsStart, IsStop}
 use Rattle.lsp_text.proofs.Positions.PositionLemmas.{content_index}
@@ -55,73 +56,57 @@ units_of_front : (units : ℕ → ℕ) (text : List ℕ) (start count n : ℕ) �
     → units_between units text start (start + n) ≡ sum_by units (take n (take count (drop start text)))
 units_of_front units text start count n order = grind (arith, common_steps, take-take, order)
 
--- Where there is an index in the line, it has exactly c units before it, or is the end of a line that has no more.
-index_found : (units : ℕ → ℕ) (line : List ℕ) (c n : ℕ) → index_in_line units line c ≡ Some n → (n ≤ length line)
-    × ((sum_by units (take n line) ≡ c) ⊎ ((n ≡ length line) × (sum_by units line ≤ c)))
-index_found units [] c n found = let e : 0 ≡ n = cc in (omega arith, inr (omega arith, omega arith))
-index_found units (x ∷ line) c n found =
-    ⊎_elim
-    (λ (e : (c == 0) ≡ true). at_start (eqb-true c 0 e) (cc))
-    (λ (e : (c == 0) ≡ false).
-    ⊎_elim
-    (λ (l : nat_lt c (units x) ≡ true). absurd (cc))
-    (λ (l : nat_lt c (units x) ≡ false). rest_after (index_in_line units line (c - units x)) refl
-    (λ m f. index_found units line (c - units x) m f) (ltb-false c (units x) l) (rw (e, l) at found))
-    (cases_Bool (nat_lt c (units x))))
-    (cases_Bool (c == 0))
+-- No index of the line has exactly c units before it, and the line has more.
+abbrev IsMissed : (ℕ → ℕ) → List ℕ → ℕ → Type 0
+IsMissed units line c = (c < sum_by units line) × ((n : ℕ) → n ≤ length line → sum_by units (take n line) ≡ c → ⊥)
+
+-- The index has exactly c units before it, or is the end of a line that has no more.
+abbrev IsHit : (ℕ → ℕ) → List ℕ → ℕ → ℕ → Type 0
+IsHit units line c n =
+    (n ≤ length line) × ((sum_by units (take n line) ≡ c) ⊎ ((n ≡ length line) × (sum_by units line ≤ c)))
+
+one_on : {A B : Type 0} {P : ℕ → Type 0} (Q : ℕ → Type 0) (o : Option ℕ) → (A → B) → ((n : ℕ) → P n → Q (suc n))
+    → MatchOption o A P → MatchOption (option_map suc o) B Q
+one_on Q None none some at = none at
+one_on Q (Some n) none some at = some n at
+
+index_is : (units : ℕ → ℕ) (line : List ℕ) (c : ℕ)
+    → MatchOption (index_in_line units line c) (IsMissed units line c) (IsHit units line c)
+index_is units [] c = (omega arith, inr (omega arith, omega arith))
+index_is units (x ∷ line) c =
+    elim (cases_Bool (c == 0)) [
+      | inl e ↦ rw e (omega arith, inl (sym (eqb-true c 0 e)))
+      | inr e ↦ elim (cases_Bool (nat_lt c (units x))) [
+        | inl l ↦ rw (e, l) (inside (eqb-false c 0 e) (ltb-true c (units x) l))
+        | inr l ↦ rw (e, l) (one_on (IsHit units (x ∷ line) c) (index_in_line units line (c - units x))
+            (missed (eqb-false c 0 e) (ltb-false c (units x) l)) (hit (ltb-false c (units x) l))
+            (index_is units line (c - units x)))
+      ]
+    ]
   where
-    at_start : c ≡ 0 → 0 ≡ n → (n ≤ suc (length line))
-        × ((sum_by units (take n (x ∷ line)) ≡ c) ⊎ ((n ≡ suc (length line)) × (sum_by units (x ∷ line) ≤ c)))
-    at_start e f = (omega arith, inl (rw (← f, e) refl))
+    none : (c ≡ 0 → ⊥) → IsMissed units line (c - units x) → (n : ℕ) → n ≤ suc (length line)
+        → sum_by units (take n (x ∷ line)) ≡ c → ⊥
+    none above ih zero order same = above (sym same)
+    none above ih (suc n) order same = ih.1 n (omega arith) (omega (arith, same, sum_by-cons units x (take n line)))
 
-    further : (m : ℕ) → suc m ≡ n → units x ≤ c → (m ≤ length line)
-        × ((sum_by units (take m line) ≡ c - units x) ⊎ ((m ≡ length line) × (sum_by units line ≤ c - units x)))
-        → (n ≤ suc (length line))
-        × ((sum_by units (take n (x ∷ line)) ≡ c) ⊎ ((n ≡ suc (length line)) × (sum_by units (x ∷ line) ≤ c)))
-    further m e room r = grind (arith, common_steps, sum_by, inl, sum_by-cons, inr)
+    few : (c ≡ 0 → ⊥) → c < units x → (n : ℕ) → n ≤ suc (length line) → sum_by units (take n (x ∷ line)) ≡ c → ⊥
+    few above less zero order same = above (sym same)
+    few above less (suc n) order same = omega (arith, same, sum_by-cons units x (take n line))
 
-    rest_after : (o : Option ℕ) → index_in_line units line (c - units x) ≡ o
-        → ((m : ℕ) → index_in_line units line (c - units x) ≡ Some m → (m ≤ length line)
-        × ((sum_by units (take m line) ≡ c - units x) ⊎ ((m ≡ length line) × (sum_by units line ≤ c - units x))))
-        → units x ≤ c → option_map suc (index_in_line units line (c - units x)) ≡ Some n → (n ≤ suc (length line))
-        × ((sum_by units (take n (x ∷ line)) ≡ c) ⊎ ((n ≡ suc (length line)) × (sum_by units (x ∷ line) ≤ c)))
-    rest_after None is ih room g = absurd (let f : ◌≡◌ {A = Option ℕ} None (Some n) = rw is at g in cc)
-    rest_after (Some m) is ih room g = further m (let f : Some (suc m) ≡ Some n = rw is at g in cc) room (ih m is)
+    inside : (c ≡ 0 → ⊥) → c < units x → IsMissed units (x ∷ line) c
+    inside above less = (rw (sum_by-cons units x line) (omega arith), few above less)
 
--- Where there is none, the line has more units than c, and no index of it has exactly c before it.
-index_missed : (units : ℕ → ℕ) (line : List ℕ) (c : ℕ) → index_in_line units line c ≡ None → (c < sum_by units line)
-    × ((n : ℕ) → n ≤ length line → sum_by units (take n line) ≡ c → ⊥)
-index_missed units [] c missed = absurd (cc)
-index_missed units (x ∷ line) c missed =
-    ⊎_elim
-    (λ (e : (c == 0) ≡ true). absurd (cc))
-    (λ (e : (c == 0) ≡ false).
-    let above : c ≡ 0 → ⊥ = eqb-false c 0 e in
-    ⊎_elim
-    (λ (l : nat_lt c (units x) ≡ true). inside above (ltb-true c (units x) l))
-    (λ (l : nat_lt c (units x) ≡ false). rest_after above (index_in_line units line (c - units x)) refl
-    (index_missed units line (c - units x)) (ltb-false c (units x) l) (rw (e, l) at missed))
-    (cases_Bool (nat_lt c (units x))))
-    (cases_Bool (c == 0))
-  where
-    front : (n : ℕ) → (n ≡ 0) ⊎ (sum_by units (take n (x ∷ line)) ≡ units x + sum_by units (take (n - 1) line))
-    front zero = inl refl
-    front (suc n) = let e : suc n - 1 ≡ n = omega arith in inr (rw (sum_by-cons units x (take n line), e) refl)
+    missed : (c ≡ 0 → ⊥) → units x ≤ c → IsMissed units line (c - units x) → IsMissed units (x ∷ line) c
+    missed above room ih = (rw (sum_by-cons units x line) (omega (arith, ih.0)), none above ih)
 
-    inside : (c ≡ 0 → ⊥) → c < units x → (c < sum_by units (x ∷ line))
-        × ((n : ℕ) → n ≤ suc (length line) → sum_by units (take n (x ∷ line)) ≡ c → ⊥)
-    inside above less = grind (arith, common_steps, sum_by-cons, sum_by)
-
-    rest_after : (c ≡ 0 → ⊥) → (o : Option ℕ) → index_in_line units line (c - units x) ≡ o
-        → (index_in_line units line (c - units x) ≡ None → (c - units x < sum_by units line)
-        × ((n : ℕ) → n ≤ length line → sum_by units (take n line) ≡ c - units x → ⊥)) → units x ≤ c
-        → option_map suc (index_in_line units line (c - units x)) ≡ None
-        → (c < sum_by units (x ∷ line)) × ((n : ℕ) → n ≤ suc (length line) → sum_by units (take n (x ∷ line)) ≡ c → ⊥)
-    rest_after above (Some m) is ih room g = absurd (let f : ◌≡◌ {A = Option ℕ} (Some (suc m)) None = rw is at g in cc)
-    rest_after above None is ih room g = (
-      rw (sum_by-cons units x line) (omega (arith, (ih is).0)),
-      λ n order same.
-          grind (arith, common_steps, sum_by, cases_eq, front),
+    hit : units x ≤ c → (n : ℕ) → IsHit units line (c - units x) n → IsHit units (x ∷ line) c (suc n)
+    hit room n ih = (
+      omega (arith, ih.0),
+      ⊎_elim
+          (λ (s : sum_by units (take n line) ≡ c - units x). inl (omega (arith, s, sum_by-cons units x (take n line))))
+          (λ (s : (n ≡ length line) × (sum_by units line ≤ c - units x)).
+          inr (omega (arith, s.0), omega (arith, s.1, sum_by-cons units x line)))
+          ih.1,
     )
 
 -- Inside a line that has these bounds, a position's character denotes the index that the line's characters alone give.
@@ -178,14 +163,15 @@ in_bounds units some text line start stop c is_start is_stop =
 
     by_index : (o : Option ℕ) → index_in_line units (take (stop - start) (drop start text)) c ≡ o → denoted_here
         ≡ option_map (λ n. start + n) (index_in_line units (take (stop - start) (drop start text)) c)
-    by_index None is = grind (arith, common_steps, nowhere, index_missed)
+    by_index None is =
+        let missed = rw is at (index_is units (take (stop - start) (drop start text)) c) in
+        rw is (nowhere missed.0 missed.1)
     by_index (Some n) is =
-        rw is
-        (⊎_elim
-        (λ (s : sum_by units (take n (take (stop - start) (drop start text))) ≡ c). grind (arith, common_steps, at_index, part_length, index_found))
+        let hit = rw is at (index_is units (take (stop - start) (drop start text)) c) in
+        rw is (⊎_elim (at_index n (omega (arith, part_length, hit.0)))
         (λ (s : (n ≡ length (take (stop - start) (drop start text)))
         × (sum_by units (take (stop - start) (drop start text)) ≤ c)). at_stop n (omega (arith, part_length, s.0)) s.1)
-        (index_found units (take (stop - start) (drop start text)) c n is).1)
+        hit.1)
 
 -- A position in a line of the text denotes the index that the characters of that line alone give.
 pub denoted_in_line : (units : ℕ → ℕ) → ((c : ℕ) → 1 ≤ units c) → (text : List ℕ) (p : Position)

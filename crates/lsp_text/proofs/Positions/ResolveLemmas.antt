@@ -1,9 +1,9 @@
 -- The place that a position denotes, by the bytes of its line.
-use Rattle.lsp_text.proofs.Prelude.{◌≡◌, ℕ, ◌+◌, ◌-◌, ◌≤◌, ◌<◌, List, [], ◌∷◌, ◌++◌, length, take, drop, Option, Some, None, option_map, refl, sym, ap, ◌∙◌, arith, lt-ltb, encode_utf8_all, chars, IsCharBoundary, IsUtf8, encode, take-append-drop, length-append, append-nil, length-take, length-drop, encodes-append, encodes-chars, chars_from_encodes, IsUtf8-between, length-encode, Position, place_of, line_ends, line_start, line_stop, denoted, IsPlace, line_place, common_steps}
+use Rattle.lsp_text.proofs.Prelude.{◌≡◌, ℕ, ◌+◌, ◌-◌, ◌≤◌, ◌<◌, List, [], ◌∷◌, ◌++◌, length, take, drop, Option, Some, None, option_map, refl, sym, ap, ◌∙◌, arith, lt-ltb, encode_utf8_all, chars, IsCharBoundary, IsUtf8, encode, take-append-drop, append-nil, length-take, length-drop, encodes-chars, chars_from_encodes, IsUtf8-between, length-encode, Position, place_of, line_ends, line_start, line_stop, denoted, IsPlace, line_place, common_steps}
 use Rattle.lsp_text.proofs.Positions.PositionLemmas.{denoted_whole}
 use Rattle.lsp_text.proofs.Positions.BoundaryLemmas.{boundary_from}
 use Rattle.lsp_text.proofs.Positions.InLineLemmas.{index_in_line, denoted_in_line}
-use Rattle.lsp_text.proofs.Positions.PlaceLemmas.{place_end, place_within, place_add, part_place, place_boundary, place_rises}
+use Rattle.lsp_text.proofs.Positions.PlaceLemmas.{place_end, place_within, place_add, part_place, place_boundary, place_rises, take_place}
 use Rattle.lsp_text.proofs.TextLines.ContentLemmas.{stop_behind, stop_within}
 use Rattle.std.proofs.lemmas.Grind.{common_steps}
 
@@ -98,12 +98,7 @@ resolved_at units some bytes p start stop found utf8 content is = grind (arith, 
 
 -- A place in a line's content lies in it.
 place_most : (cs : List ℕ) (k : ℕ) → place_of cs k ≤ length (encode_utf8_all cs)
-place_most cs k =
-    omega (
-      arith,
-      ap length (sym (encodes-append (take k cs) (drop k cs)) ∙ ap encode_utf8_all (take-append-drop k cs)),
-      length-append (encode_utf8_all (take k cs)) (encode_utf8_all (drop k cs)),
-    )
+place_most cs k = omega (arith, ap length (take_place cs k), length-take (place_of cs k) (encode_utf8_all cs))
 
 of_some : (cs : List ℕ) (n : ℕ) (o : Option ℕ) → Some n ≡ option_map (place_of cs) o → n ≤ length (encode_utf8_all cs)
 of_some cs n None is = absurd (cc)

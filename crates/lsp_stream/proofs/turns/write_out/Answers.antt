@@ -30,8 +30,7 @@ writes-preserved-in-Ok g c =
     (λ failed. omega (arith, c.in-Ok.n-test, (c.in-Ok.ensures.failed.0 failed).0)) in
     record {
       within = omega (arith, c.in-Ok.ensures.bound, length-take {A = ℕ}, length-drop {A = ℕ});
-      wrote = more_written _ _ _ c.args.bytes.now c.writes.at c.in-Ok.n c.writes.invariant.within c.in-Ok.ensures.bound
-          c.writes.invariant.wrote c.in-Ok.ensures.bytes;
+      wrote = more_written _ _ _ c.args.bytes.now c.writes.at c.in-Ok.n c.writes.invariant.wrote c.in-Ok.ensures.bytes;
       well = λ before. well;
       few = omega (
         arith,

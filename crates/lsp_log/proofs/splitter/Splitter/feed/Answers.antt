@@ -1,5 +1,7 @@
 use Rattle.std.proofs.lemmas.Result.{err_from_is_err_and}
-use Rattle.lsp_log.proofs.SplitLemmas.{fed_stands, feed_fault, not_none}
+use Rattle.lsp_log.proofs.Prelude.{◌≡◌, drop}
+use Rattle.lsp_log.proofs.LogLemmas.{first_is}
+use Rattle.lsp_log.proofs.SplitLemmas.{fed_stands, feed_fault, marked_stands, not_none, none_there}
 use Rattle.lsp_log.proofs.splitter.Splitter.feed.Goals as goal
 
 pub returns-clause-is_after : goal.returns-clause-is_after
@@ -15,3 +17,10 @@ returns-in_err-feed-clause-error c =
     feed_fault log_rules input c.args.piece.now records c.args.self.now c.feed.new.self c.in_err-feed.field-0.0
     (not_none c.args.self.now.side c.is_none.result c.is_none.ensures c.if-is_none.false)
     c.in_err-feed.ensures.error c.requires.fed.sound at)
+
+pub returns-then-is_none-clause-is_after : goal.returns-then-is_none-clause-is_after
+returns-then-is_none-clause-is_after c = λ log_rules input records at.
+    let between = none_there c.args.self.now.side c.is_none.result c.is_none.ensures c.if-is_none.true in
+    marked_stands log_rules input c.args.piece.now (drop 1 c.args.piece.now) c.in-Some.mark.now records c.args.self.now
+    c.in-Some-of_mark.side c.skip.new.self between (c.requires.fed.between between)
+    (first_is c.args.piece.now c.in-Some.mark.now c.in-Some.ensures.value) c.in-Some-of_mark.ensures c.skip.ensures at
