@@ -15,6 +15,7 @@ pub use Rattle.std.specs.Prelude.{Contains, IsOk, is_ok}
 pub use Rattle.std.specs.Slice.Iter.{chunks_rest, chunks_size}
 pub use Rattle.std.specs.Str.{IsUtf8, chars, is_utf8}
 pub use Rattle.lsp_buffer.proofs.Changes.ChangeLemmas.{replaced_length}
+pub use Rattle.lsp_edit.proofs.Composing.SpannedLemmas.{same_edited}
 pub use Rattle.lsp_edit.proofs.Rests.{next_is, rest_is, rest_none}
 pub use Rattle.lsp_edit.specs.Batch.{ContentChange, Fault, InsideStart, InsideStop, Reversed, after_changes, changed_in, continue_with, ends_of, in_order, items_after, meaning}
 pub use Rattle.lsp_edit.specs.Canonical.{DoTheSame, Gap, canonical, change_of_gap, gap_texts, gaps, gaps_from, is_changed, kept, put_first}
@@ -48,7 +49,7 @@ pub use Rattle.lsp_edit.specs.inside.Gaps.{change_at, gap_at, gap_between}
 pub use Rattle.lsp_edit.specs.inside.Layers.{AreSameItems, IsLayer}
 pub use Rattle.lsp_edit.specs.inside.Parts.{AreBefore, AreCut, AreOrdered, ArePassed, AreThrough, EndAfter, IsCutAt, IsFirstCut, IsMark, IsOrdered, IsThrough, back_part, back_parts, between_parts, first_front, front_part, front_parts, joined, put_first_back, put_part, put_parts, put_through, replaced_parts, span_len, through_part, through_parts, whole_parts}
 pub use Rattle.lsp_edit.specs.inside.Drafts.{BeginsAnew, IsAfter}
-pub use Rattle.lsp_edit.specs.inside.TextEdits.{AreApart, AreLeftByEdits, ArePlaced, DoOverlap, IsInOrder, IsPlacingFault, Lies, PlacedOverlap, located_after, located_of, old_parts, parts_left}
+pub use Rattle.lsp_edit.specs.inside.TextEdits.{AreApart, AreLeftByEdits, ArePlaced, DoOverlap, IsInOrder, Lies, located_after, located_of, old_parts, parts_left}
 pub use Rattle.lsp_edit.specs.laws.Batches.{AllHaveExactEnds, CanonicalLaw, HasExactEnds, KeepsPairs, RangesStay}
 pub use Rattle.lsp_text.proofs.Positions.PlaceLemmas.{IsIndexAt, drop_place, index_at, part_place, place_add, place_boundary, place_end, place_order, place_rises, place_within, take_place}
 pub use Rattle.lsp_text.proofs.Positions.PositionLemmas.{IsWhole, denoted_whole, exact_denotes}

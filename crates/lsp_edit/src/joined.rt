@@ -14,7 +14,7 @@ ghost use Rattle.lsp_edit.specs.Indexed.{text_within};
 ghost use Rattle.lsp_edit.specs.Items.{plain};
 ghost use Rattle.lsp_edit.specs.Joined.{IsJoined, IsReached};
 ghost use Rattle.lsp_edit.specs.Delta.{IsOn, bytes_after, meant_by};
-ghost use Rattle.lsp_edit.specs.inside.Joined.{IsWhole};
+ghost use Rattle.lsp_edit.specs.inside.Layers.{IsWhole};
 
 pub(crate) mod layer;
 

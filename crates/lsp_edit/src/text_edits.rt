@@ -11,7 +11,7 @@ ghost use Rattle.lsp_text.specs.Units.{units_in};
 ghost use Rattle.lsp_edit.specs.declared.text_edits.TextEditFault.TheVariants.{NoMemory};
 ghost use Rattle.lsp_edit.specs.Parts.{new_parts, parts_of};
 ghost use Rattle.lsp_edit.specs.TextEdits.{HasRangeFault, IsEditsFault, fault_of, located};
-ghost use Rattle.lsp_edit.specs.inside.TextEdits.{AreApart, ArePlaced, DoOverlap, IsInOrder, IsPlacingFault, AreLeftByEdits, old_parts, parts_left};
+ghost use Rattle.lsp_edit.specs.inside.TextEdits.{AreApart, ArePlaced, DoOverlap, IsInOrder, AreLeftByEdits, old_parts, parts_left};
 
 use crate::ends::ends;
 use crate::fault::{EditFault, Side};
@@ -127,7 +127,7 @@ pub fn spans_of_edits<'a>(
         (parts_of spans.items)) }
     ensures utf8 { OnOk result (IsUtf8 text.now) }
     ensures error { IfErr result (λ fault.
-        IsPlacingFault (units_in encoding) (chars text.now) edits.now fault) }
+        IsEditsFault (units_in encoding) (chars text.now) edits.now fault) }
 {
     let mut placed = place_all(alloc, text, encoding, edits)?;
     put_in_order(&mut placed)?;

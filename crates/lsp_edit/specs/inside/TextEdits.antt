@@ -1,16 +1,15 @@
 -- Text edits with their byte offsets, in the order of their starts. Only proofs and private
 -- contracts use this: `TextEdits` says the same by indexes.
-use Rattle.std.specs.Prelude.{◌≡◌, ◌⊎◌, ◌+◌, ◌<◌, ◌≤◌, if◌then◌else◌, ◌∷◌, ◌++◌, slice_index_or}
+use Rattle.std.specs.Prelude.{◌≡◌, ◌+◌, ◌<◌, ◌≤◌, if◌then◌else◌, ◌∷◌, ◌++◌, slice_index_or}
 use Rattle.lsp_edit.specs.Prelude.{ℕ, nat_lt, true, List, [], length, map, Result, Ok, Err, chars, is_utf8, TextEdit, TextEditFault, Overlap}
 use Rattle.std.specs.List.{All}
 use Rattle.std.specs.Ordering.{nat_cmp}
 use Rattle.std.specs.List.Sorted.{IsPermutation, IsSortedByKey, IsStableByKey}
 use Rattle.lsp_text.specs.LineStarts.{IsPlace}
 use Rattle.lsp_edit.specs.declared.text_edits.Placed.{Placed}
-use Rattle.lsp_edit.specs.declared.text_edits.TextEditFault.TheVariants.{NoMemory}
 use Rattle.lsp_edit.specs.Batch.{Fault}
 use Rattle.lsp_edit.specs.Parts.{Part, OldPart, index_of, new_parts}
-use Rattle.lsp_edit.specs.TextEdits.{HasRangeFault, LocatedEdit, located}
+use Rattle.lsp_edit.specs.TextEdits.{LocatedEdit, located}
 
 -- An edit with byte offsets, by indexes.
 abbrev pub located_of : List ℕ → Placed → LocatedEdit
@@ -86,17 +85,3 @@ pub record DoOverlap (ordered : List Placed) (fault : TextEditFault) : Type 0 wh
   pub second_is : slice_index_or ordered (index + 1) second ≡ second
   pub over : second.start < first.stop
   pub error : fault ≡ Overlap first.number second.number
-
--- The same of a list of edits, once they are sorted.
-pub record PlacedOverlap (units : ℕ → ℕ) (old : List ℕ) (edits : List TextEdit)
-    (fault : TextEditFault) : Type 0 where
-  pub placed : List Placed
-  pub ordered : List Placed
-  pub at : ArePlaced units old edits [] placed
-  pub order : IsInOrder placed ordered
-  pub over : DoOverlap ordered fault
-
--- Out of memory, or why edits have no parts: a range is faulty, or two edits overlap.
-abbrev pub IsPlacingFault : (ℕ → ℕ) → List ℕ → List TextEdit → TextEditFault → Type 0
-IsPlacingFault units old edits fault =
-    (fault ≡ NoMemory) ⊎ HasRangeFault units old edits fault ⊎ PlacedOverlap units old edits fault

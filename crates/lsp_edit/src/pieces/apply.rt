@@ -4,8 +4,7 @@ ghost use Rattle.std.specs.Prelude.{◌≡◌, ◌≢◌, ◌+◌, ◌≤◌, �
 ghost use Rattle.std.specs.Str.{chars};
 ghost use Rattle.lsp_text.specs.Units.{units_in};
 ghost use Rattle.lsp_edit.specs.declared.fault.EditFault.TheVariants.{NoMemory};
-ghost use Rattle.lsp_edit.specs.Edited.{Applied, content_change, edited_bytes};
-ghost use Rattle.lsp_edit.specs.Edited.{edited_text};
+ghost use Rattle.lsp_edit.specs.Edited.{Applied, content_change, edited_bytes, edited_text};
 ghost use Rattle.lsp_edit.specs.Faults.{IsFaultOfChange, places_at};
 ghost use Rattle.lsp_edit.specs.Batch.{ends_of, items_after};
 ghost use Rattle.lsp_edit.specs.Delta.{AreEndsIn};
@@ -15,7 +14,7 @@ ghost use Rattle.lsp_text.specs.declared.position.Range.{Range};
 use crate::change::Change;
 use crate::ends::ends;
 use crate::fault::EditFault;
-use crate::pieces::current::{current_or_new, replaced};
+use crate::pieces::current::current_or_new;
 use crate::pieces::spans::Spans;
 use crate::pieces::{MAX_TEXT, Pieces};
 use lsp_text::{Encoding, Range};
@@ -74,7 +73,10 @@ impl<'a> Pieces<'a> {
     {
         let current = match self.current.take() {
             None => None,
-            Some(current) => Some(replaced(current, start, stop, text)?),
+            Some(mut current) => {
+                current.replace_range(start, stop, text)?;
+                Some(current)
+            }
         };
         self.spans.replace(self.alloc, start, stop, text)?;
         self.len = self.len - (stop - start) + text.len();
@@ -106,29 +108,6 @@ impl<'a> Pieces<'a> {
         Ok(())
     }
 
-    /// Replaces a range by a new text.
-    fn apply_to_range(
-        &mut self,
-        encoding: Encoding,
-        range: Range,
-        text: &'a str,
-    ) -> Result<(), EditFault>
-        requires { length (edited_bytes self.old.edited) + length text.now ≤ MAX_TEXT }
-        ensures applied { OnOk result (Applied (units_in encoding) self.old.edited
-            (record { range = Some range; text = chars text.now }) self.new.edited) }
-        ensures unchanged { OnErr result (self.new ≡ self.old) }
-        ensures error { IfErr result (λ fault. IsFaultOfChange self.old.edited.changes
-            (items_after (units_in encoding) self.old.edited.before self.old.edited.items
-            (record { range = Some range; text = chars text.now })) fault) }
-        ensures memory { result ≡ Err NoMemory → self.old.edited.changes ≡ 0
-            → IsOk (items_after (units_in encoding) self.old.edited.before self.old.edited.items
-            (record { range = Some range; text = chars text.now })) }
-    {
-        let (start, stop) = self.places(encoding, range)?;
-        self.put(start, stop, text)?;
-        Ok(())
-    }
-
     /// Applies a change to the current text (LSP 3.17, TextDocumentContentChangeEvent).
     ///
     /// After an error everything is unchanged, and the fault reports how many changes were applied
@@ -151,7 +130,10 @@ impl<'a> Pieces<'a> {
     {
         match change.range {
             None => self.apply_to_all(&change.text),
-            Some(range) => self.apply_to_range(encoding, range, &change.text)?,
+            Some(range) => {
+                let (start, stop) = self.places(encoding, range)?;
+                self.put(start, stop, &change.text)?;
+            }
         }
         Ok(())
     }

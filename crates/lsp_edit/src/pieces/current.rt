@@ -5,8 +5,6 @@
 //! first. Where memory runs out, that copy is dropped, which callers don't see.
 
 ghost use Rattle.std.specs.Prelude.{◌≡◌, ◌≤◌, IfOk, MatchOption, length, string_bytes};
-ghost use Rattle.std.specs.List.{replace_range};
-ghost use Rattle.std.specs.Str.{IsCharBoundary};
 ghost use Rattle.lsp_edit.specs.Parts.{AreParts, bytes_of, parts_of};
 
 use crate::pieces::span::Span;
@@ -32,24 +30,6 @@ pub fn current_or_new(
     }
     let text = text_of_spans(alloc, before, spans, len)?;
     TextBuffer::new(alloc, text)
-}
-
-/// Returns a text with the bytes from `start` to `stop` replaced. Out of memory loses the text.
-pub fn replaced(
-    text: TextBuffer,
-    start: usize,
-    stop: usize,
-    new: &str,
-) -> Result<TextBuffer, AllocError>
-    requires order { start ≤ stop }
-    requires at_start { IsCharBoundary text start }
-    requires at_stop { IsCharBoundary text stop }
-    requires room { length (replace_range text start stop new.now) ≤ 2147483648 }
-    ensures { IfOk result (λ next. next ≡ replace_range text start stop new.now) }
-{
-    let mut text = text;
-    text.replace_range(start, stop, new)?;
-    Ok(text)
 }
 
 /// Returns the text of spans, of `len` bytes.

@@ -1,7 +1,6 @@
-use Rattle.lsp_edit.proofs.Prelude.{length, arith, None, chars, parts_of, new_parts, spans_in, text_before}
+use Rattle.lsp_edit.proofs.Prelude.{same_edited, length, arith, None, chars, parts_of, new_parts, spans_in, text_before}
 use Rattle.lsp_edit.proofs.Parts.PutLemmas.{new_few}
 use Rattle.lsp_edit.proofs.Composing.AppliedLemmas.{IsNext, all_next, room_told, next_told, next_holds}
-use Rattle.lsp_edit.proofs.Composing.SpannedLemmas.{same_edited}
 use Rattle.lsp_edit.proofs.pieces.Pieces.apply_to_all.Goals as goal
 
 pub invariant_of-self : goal.invariant_of-self

@@ -1,6 +1,5 @@
-use Rattle.lsp_edit.proofs.Prelude.{◌≡◌, length, arith, sym, ap, ◌∙◌, leb-true, le-leb, encode_utf8_all, chars, text_of, parts_of, items_of, spans_in, text_before}
+use Rattle.lsp_edit.proofs.Prelude.{same_edited, ◌≡◌, length, arith, sym, ap, ◌∙◌, leb-true, le-leb, encode_utf8_all, chars, text_of, parts_of, items_of, spans_in, text_before}
 use Rattle.lsp_edit.proofs.Composing.EditedLemmas.{now_bytes}
-use Rattle.lsp_edit.proofs.Composing.SpannedLemmas.{same_edited}
 use Rattle.lsp_edit.proofs.pieces.Pieces.has_room.Goals as goal
 
 pub returns : goal.returns

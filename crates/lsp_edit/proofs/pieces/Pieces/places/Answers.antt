@@ -1,7 +1,6 @@
-use Rattle.lsp_edit.proofs.Prelude.{ℕ, List, sym, ap, ap₂, ◌∙◌, chars, units_in, PlainData, edited_text, Span, bytes_of, parts_of, text_before}
+use Rattle.lsp_edit.proofs.Prelude.{same_edited, ℕ, List, sym, ap, ap₂, ◌∙◌, chars, units_in, PlainData, edited_text, Span, bytes_of, parts_of, text_before}
 use Rattle.lsp_edit.proofs.Composing.AppliedLemmas.{places_seen}
 use Rattle.lsp_edit.proofs.Composing.EditedLemmas.{now_chars, fresh_chars, places_told}
-use Rattle.lsp_edit.proofs.Composing.SpannedLemmas.{same_edited}
 use Rattle.lsp_edit.proofs.pieces.Pieces.places.Goals as goal
 
 pub returns-then-self-eq0-clause-places : goal.returns-then-self-eq0-clause-places

@@ -1,8 +1,7 @@
-use Rattle.lsp_edit.proofs.Prelude.{ℕ, List, arith, sym, ap, ◌∙◌, replace_range, Part, parts_of, bytes_of, spans_in, IsCurrent, text_before}
+use Rattle.lsp_edit.proofs.Prelude.{same_edited, ℕ, List, arith, sym, ap, ◌∙◌, replace_range, Part, parts_of, bytes_of, spans_in, IsCurrent, text_before}
 use Rattle.lsp_edit.proofs.Composing.CurrentLemmas.{current_is, current_utf8}
 use Rattle.lsp_edit.proofs.Composing.AppliedLemmas.{ranged, next_told, next_holds}
-use Rattle.lsp_edit.proofs.Composing.SpannedLemmas.{same_edited}
-use Rattle.lsp_edit.proofs.pieces.Pieces.put.Goals.{in-None, in-Some+in_ok-replaced-in-Some}
+use Rattle.lsp_edit.proofs.pieces.Pieces.put.Goals.{in-None, in-Some+in_ok-replace_range-in-Some}
 use Rattle.lsp_edit.proofs.pieces.Pieces.put.Goals as goal
 
 pub overflow_sub-self : goal.overflow_sub-self
@@ -13,14 +12,14 @@ overflow_sub-self-2 c =
     let r = ranged c.self.invariant.0 c.self.view_is c.args.text.now c.utf8.text c.requires.room c.requires.ends in
     omega (arith, r.within)
 
-pub replaced-requires : goal.replaced-requires
-replaced-requires c =
+pub replace_range-requires : goal.replace_range-requires
+replace_range-requires c =
     let r = ranged c.self.invariant.0 c.self.view_is c.args.text.now c.utf8.text c.requires.room c.requires.ends in
     let is = current_is _ _ _ c.self.invariant.1 (sym c.take.ensures.value ∙ c.in-Some.is) in
     let utf8 = current_utf8 _ _ _ _ c.self.invariant.0 c.in-Some.current is in record {
       order = r.order;
       at_start = r.start_at c.in-Some.current utf8 is;
-      at_stop = r.stop_at c.in-Some.current utf8 is;
+      at_end = r.stop_at c.in-Some.current utf8 is;
       room = r.short c.in-Some.current is;
     }
 
@@ -37,9 +36,9 @@ invariant_of-self-2 c =
     c.match-take.current
     = elim c.match-take.branch [
       | in-None w ↦ rw w.current-is tt
-      | in-Some+in_ok-replaced-in-Some w ↦
+      | in-Some+in_ok-replace_range-in-Some w ↦
           rw w.current-is
-          (w.in_ok-replaced-in-Some.ensures
+          (w.in_ok-replace_range-in-Some.ensures.changed
           ∙ (ap (λ (bytes : List ℕ). replace_range bytes c.args.start c.args.stop c.args.text.now)
           (current_is _ _ _ c.self.invariant.1 (sym c.take.ensures.value ∙ w.in-Some.is))
           ∙ (sym r.bytes ∙ ap (λ (parts : List Part). bytes_of (text_before c.self.inside.before) parts) (sym made))))

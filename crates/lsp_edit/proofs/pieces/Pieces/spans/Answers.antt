@@ -1,7 +1,6 @@
-use Rattle.lsp_edit.proofs.Prelude.{List, ℕ, ap, sym, ◌∙◌, subst, IsUtf8-from_is_utf8, encodes-chars, before_bytes, AreParts, parts_of, spans_in, text_before}
+use Rattle.lsp_edit.proofs.Prelude.{same_edited, List, ℕ, ap, sym, ◌∙◌, subst, IsUtf8-from_is_utf8, encodes-chars, before_bytes, AreParts, parts_of, spans_in, text_before}
 use Rattle.lsp_edit.proofs.Batches.LawLemmas.{none_empty}
 use Rattle.lsp_edit.proofs.Composing.ThenLemmas.{pieces_ascend}
-use Rattle.lsp_edit.proofs.Composing.SpannedLemmas.{same_edited}
 use Rattle.lsp_edit.proofs.pieces.Pieces.spans.Goals as goal
 
 pub returns-clause-are : goal.returns-clause-are

@@ -1,6 +1,5 @@
-use Rattle.lsp_edit.proofs.Prelude.{length, sym, ap, ◌∙◌, PlainData, edited_bytes}
+use Rattle.lsp_edit.proofs.Prelude.{same_edited, length, sym, ap, ◌∙◌, PlainData, edited_bytes}
 use Rattle.lsp_edit.proofs.Composing.EditedLemmas.{now_bytes}
-use Rattle.lsp_edit.proofs.Composing.SpannedLemmas.{same_edited}
 use Rattle.lsp_edit.proofs.pieces.Pieces.text_len.Goals as goal
 
 pub returns : goal.returns

@@ -1,7 +1,6 @@
-use Rattle.lsp_edit.proofs.Prelude.{ℕ, ◌≡◌, ◌<◌, List, length, Ok, ap, ◌∙◌, subst, arith, meaning, parts_of}
+use Rattle.lsp_edit.proofs.Prelude.{same_edited, ℕ, ◌≡◌, ◌<◌, List, length, Ok, ap, ◌∙◌, subst, arith, meaning, parts_of}
 use Rattle.lsp_edit.proofs.Batches.ComposeLemmas.{then_associative}
 use Rattle.lsp_edit.proofs.Composing.ThenLemmas.{over_seen, over_through, over_order, then_holds, then_told}
-use Rattle.lsp_edit.proofs.Composing.SpannedLemmas.{same_edited}
 use Rattle.lsp_edit.proofs.pieces.Pieces.then.Goals as goal
 
 pub spans_through-requires : goal.spans_through-requires
