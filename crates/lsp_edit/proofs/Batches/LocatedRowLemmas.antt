@@ -1,6 +1,6 @@
 -- Text edits by indexes, each behind the one before it: they don't overlap, and what they leave at each index is the
 -- row of what each leaves.
-use Rattle.lsp_edit.proofs.Prelude.{ℕ, zero, suc, ◌≡◌, ◌+◌, ◌-◌, ◌<◌, ◌≤◌, Bool, true, false, if◌then◌else◌, List, [], ◌∷◌, ◌++◌, length, map, flat_map, slice_index_or as get_or, refl, sym, ap, ap₂, ◌∙◌, subst, arith, ⊎_elim, inl, append_assoc, append-nil, lt-ltb, le-ltb, le-leb, ne_eqb, eq-eqb, Contains, AllByRecursion, All-from_recursion, cases_lt, lt-leb, map-append, flat_map-append, flat_map_single, numbers_from, splits_crlf, Item, Old, New, Keeps, LocatedEdit, new_at, is_taken_out, left_at, ComesBefore, NoneOverlap, common_steps}
+use Rattle.lsp_edit.proofs.Prelude.{ℕ, zero, suc, ◌≡◌, ◌+◌, ◌-◌, ◌<◌, ◌≤◌, Bool, true, false, if◌then◌else◌, List, [], ◌∷◌, ◌++◌, length, map, flat_map, slice_index_or as get_or, refl, sym, ap, ap₂, ◌∙◌, subst, arith, ⊎_elim, inl, append_assoc, append-nil, lt-ltb, le-ltb, le-leb, ne_eqb, eq-eqb, AllByRecursion, All-from_recursion, cases_lt, lt-leb, map-append, flat_map-append, flat_map_single, numbers_from, splits_crlf, Item, Old, New, Keeps, LocatedEdit, new_at, is_taken_out, left_at, ComesBefore, NoneOverlap, common_steps}
 use Rattle.std.specs.List.{AllPairs}
 use Rattle.std.proofs.lemmas.List.{get_or_default}
 use Rattle.std.proofs.lemmas.List.Kept.{AllPairs-cons}

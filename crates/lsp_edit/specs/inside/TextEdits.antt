@@ -1,14 +1,15 @@
 -- Text edits with their byte offsets, in the order of their starts. Only proofs and private
 -- contracts use this: `TextEdits` says the same by indexes.
-use Rattle.std.specs.Prelude.{◌≡◌, ◌+◌, ◌<◌, ◌≤◌, if◌then◌else◌, ◌∷◌, ◌++◌, slice_index_or}
-use Rattle.lsp_edit.specs.Prelude.{ℕ, nat_lt, true, List, [], length, map, Result, Ok, Err, chars, is_utf8, TextEdit, TextEditFault, Overlap}
+use Rattle.std.specs.Prelude.{◌≡◌, ◌+◌, ◌<◌, ◌≤◌, ◌∷◌, ◌++◌, slice_index_or}
+use Rattle.lsp_edit.specs.Prelude.{ℕ, true, List, [], length, map, Result, Ok, Err, chars, is_utf8, TextEdit, TextEditFault, Overlap}
 use Rattle.std.specs.List.{All}
 use Rattle.std.specs.Ordering.{nat_cmp}
 use Rattle.std.specs.List.Sorted.{IsPermutation, IsSortedByKey, IsStableByKey}
 use Rattle.lsp_text.specs.LineStarts.{IsPlace}
 use Rattle.lsp_edit.specs.declared.text_edits.Placed.{Placed}
 use Rattle.lsp_edit.specs.Batch.{Fault}
-use Rattle.lsp_edit.specs.Parts.{Part, OldPart, index_of, new_parts}
+use Rattle.lsp_edit.specs.Parts.{Part, index_of, new_parts}
+use Rattle.lsp_edit.specs.inside.Parts.{old_parts}
 use Rattle.lsp_edit.specs.TextEdits.{LocatedEdit, located}
 
 -- An edit with byte offsets, by indexes.
@@ -53,10 +54,6 @@ pub record IsInOrder (placed ordered : List Placed) : Type 0 where
 abbrev pub AreApart : ℕ → List Placed → Type 0
 AreApart low [] = Unit {0}
 AreApart low (edit ∷ edits) = (low ≤ edit.start) × AreApart edit.stop edits
-
--- The old text from one byte offset to another, if it isn't empty.
-abbrev pub old_parts : ℕ → ℕ → List Part
-old_parts from to = if nat_lt from to then OldPart from to ∷ [] else []
 
 -- What edits leave of the old text from the byte offset `low` on: their texts, and the old text
 -- between them.

@@ -1,5 +1,4 @@
 use Rattle.lsp_edit.proofs.Prelude.{refl, units_in, chars}
-use Rattle.lsp_edit.proofs.Canonical.GapLemmas.{ends_exact}
 use Rattle.lsp_edit.proofs.Batches.LawLemmas.{units_some}
 use Rattle.lsp_edit.proofs.Batches.LocatedLemmas.{batch_by_indexes, items_keep, located_is, parts_are}
 use Rattle.lsp_edit.proofs.indexed.IndexedText.batch_of_edits.Goals as goal
@@ -8,9 +7,9 @@ pub canonical_of-requires-clause-parts : goal.canonical_of-requires-clause-parts
 canonical_of-requires-clause-parts c =
     rw c.deref.ensures.value (parts_are _ c.in-Ok.ensures.utf8 _ _ _ c.in-Ok.ensures.are)
 
-pub canonical_of-requires-clause-ends : goal.canonical_of-requires-clause-ends
-canonical_of-requires-clause-ends c =
-    rw c.deref.ensures.value (ends_exact _ _ (items_keep _ c.in-Ok.ensures.utf8 _ _ _ c.in-Ok.ensures.are))
+pub canonical_of-requires-clause-keeps : goal.canonical_of-requires-clause-keeps
+canonical_of-requires-clause-keeps c =
+    rw c.deref.ensures.value (items_keep _ c.in-Ok.ensures.utf8 _ _ _ c.in-Ok.ensures.are)
 
 pub returns-clause-batch : goal.returns-clause-batch
 returns-clause-batch c =
