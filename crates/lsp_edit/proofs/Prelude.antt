@@ -53,6 +53,7 @@ pub use Rattle.lsp_edit.specs.laws.Batches.{AllHaveExactEnds, CanonicalLaw, HasE
 pub use Rattle.lsp_text.proofs.Positions.PlaceLemmas.{IsIndexAt, drop_place, index_at, part_place, place_add, place_boundary, place_end, place_order, place_rises, place_within, take_place}
 pub use Rattle.lsp_text.proofs.Positions.PositionLemmas.{IsWhole, denoted_whole, exact_denotes}
 pub use Rattle.lsp_text.proofs.TextLines.LineLemmas.{splits_none_past}
+pub use Rattle.lsp_text.proofs.TextLines.SpliceLemmas.{numbers_split}
 pub use Rattle.lsp_text.specs.LineStarts.{IsPlace}
 pub use Rattle.lsp_text.specs.Positions.{denoted, exact_position}
 pub use Rattle.lsp_text.specs.Text.{place_of}

@@ -1,16 +1,15 @@
 -- The plain program's steps.
-use Rattle.lsp_edit.proofs.Prelude.{ℕ, ◌≡◌, ◌+◌, ◌-◌, ◌≤◌, nat_le, List, [], ◌∷◌, ◌++◌, length, map, take, drop, refl, sym, ap, ap₂, ◌∙◌, subst, arith, inr, append_assoc, take_all, cases_Bool, encode_utf8_all, Option, Some, None, Result, Ok, Err, chars, IsUtf8, map-append, length-drop, take-map, drop-map, encodes-chars, Range, denoted, denoted_whole, numbers_from, Item, Old, New, text_of, ContentChange, Fault, items_after, put_between, in_order, ends_of, then_items, EditFault, IsFaultOfChange, numbered, PlainData, edited_bytes, edited_text, Keeps, ArePlain, item_of, items_in_order, common_steps}
+use Rattle.lsp_edit.proofs.Prelude.{ℕ, ◌≡◌, ◌+◌, ◌-◌, ◌≤◌, nat_le, List, [], ◌∷◌, ◌++◌, length, map, take, drop, refl, sym, ap, ap₂, ◌∙◌, subst, arith, inr, append_assoc, take_all, cases_Bool, encode_utf8_all, Option, Some, None, Result, Ok, Err, chars, IsUtf8, map-append, length-drop, take-map, drop-map, encodes-chars, Range, denoted, denoted_whole, numbers_from, Item, Old, New, text_of, ContentChange, Fault, items_after, put_between, in_order, ends_of, then_items, EditFault, IsFaultOfChange, numbered, PlainData, edited_bytes, edited_text, Keeps, ArePlain, item_of, items_in_order, common_steps, numbers_split}
 use Rattle.lsp_edit.specs.declared.plain.Item.{Item as PlainItem}
 use Rattle.lsp_edit.proofs.Batches.ComposeLemmas.{text_of-then, then_keeps}
 use Rattle.lsp_edit.proofs.Composing.EditedLemmas.{plain_text}
 use Rattle.lsp_edit.proofs.Canonical.KeepsLemmas.{plain_keeps, after_change_keeps}
-use Rattle.lsp_edit.proofs.Canonical.RebuiltLemmas.{numbers-append}
 use Rattle.lsp_edit.proofs.Composing.RoomLemmas.{change_longer}
 
 pub numbered_on : (items : List PlainItem) (index : ℕ) (item : PlainItem) → item_of item ≡ Old index
     → items_in_order items ≡ map Old (numbers_from 0 index) → items_in_order (items ++ item ∷ [])
     ≡ map Old (numbers_from 0 (index + 1))
-numbered_on items index item is error = grind (arith, common_steps, map-append, ap₂, numbers-append)
+numbered_on items index item is error = grind (arith, common_steps, map-append, ap₂, numbers_split)
 
 -- The fields before any change, and what callers see of them.
 pub plain_begins : (before old : List ℕ) (items : List Item) (count : ℕ) → IsUtf8 before → length before ≤ 2147483648

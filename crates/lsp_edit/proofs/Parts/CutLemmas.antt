@@ -1,14 +1,14 @@
 -- Parts cut at the place of an index: their items are those before it and behind it.
-use Rattle.lsp_edit.proofs.Prelude.{ℕ, ◌≡◌, ◌+◌, ◌-◌, ◌<◌, ◌≤◌, List, [], ◌∷◌, length, map, take, drop, refl, sym, ap, ◌∙◌, arith, take_at, drop_at, take-take, length-take-le, encode_utf8_all, IsCharBoundary, chars, IsUtf8, length-map, length-drop, take-map, drop-map, encodes-chars, IsUtf8-take, IsUtf8-drop, IsUtf8-from_is_utf8, is_utf8-from_IsUtf8, chars_from_encodes, place_of, numbers_from, place_end, place_rises, place_add, take_place, drop_place, part_place, place_boundary, place_within, Item, Old, New, character_of, text_of, Part, OldPart, NewPart, index_of, items_in, bytes_in, part_len, IsPartOf, front_part, back_part, IsOrdered, IsCutAt}
-use Rattle.lsp_edit.proofs.Canonical.RebuiltLemmas.{numbers-append, length-numbers, text_row}
+use Rattle.lsp_edit.proofs.Prelude.{ℕ, ◌≡◌, ◌+◌, ◌-◌, ◌<◌, ◌≤◌, List, [], ◌∷◌, length, map, take, drop, refl, sym, ap, ◌∙◌, arith, take_at, drop_at, take-take, length-take-le, encode_utf8_all, IsCharBoundary, chars, IsUtf8, length-map, length-drop, take-map, drop-map, encodes-chars, IsUtf8-take, IsUtf8-drop, IsUtf8-from_is_utf8, is_utf8-from_IsUtf8, chars_from_encodes, place_of, numbers_from, place_end, place_rises, place_add, take_place, drop_place, part_place, place_boundary, place_within, Item, Old, New, character_of, text_of, Part, OldPart, NewPart, index_of, items_in, bytes_in, part_len, IsPartOf, front_part, back_part, IsOrdered, IsCutAt, numbers_split}
+use Rattle.lsp_edit.proofs.Canonical.RebuiltLemmas.{length-numbers, text_row}
 use Rattle.lsp_edit.proofs.Parts.IndexLemmas.{index_of-place, index_rises, index_place}
 
 take_numbers : (low count more : ℕ) → take count (numbers_from low (count + more)) ≡ numbers_from low count
-take_numbers low count more = ap (take count) (numbers-append low count more) ∙ take_at (numbers_from low count)
+take_numbers low count more = ap (take count) (numbers_split low count more) ∙ take_at (numbers_from low count)
     (numbers_from (low + count) more) count (length-numbers low count)
 
 drop_numbers : (low count more : ℕ) → drop count (numbers_from low (count + more)) ≡ numbers_from (low + count) more
-drop_numbers low count more = ap (drop count) (numbers-append low count more) ∙ drop_at (numbers_from low count)
+drop_numbers low count more = ap (drop count) (numbers_split low count more) ∙ drop_at (numbers_from low count)
     (numbers_from (low + count) more) count (length-numbers low count)
 
 pub text_of-new : (old characters : List ℕ) → text_of old (map New characters) ≡ characters
