@@ -1,6 +1,5 @@
 -- The pieces of a text that changes leave, change by change.
 pub mod AppliedLemmas
-pub mod CurrentLemmas
 pub mod EditedLemmas
 pub mod EndLemmas
 pub mod RoomLemmas

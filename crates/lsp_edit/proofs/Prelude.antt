@@ -15,8 +15,9 @@ pub use Rattle.std.specs.Prelude.{Contains, IsOk, is_ok}
 pub use Rattle.std.specs.Slice.Iter.{chunks_rest, chunks_size}
 pub use Rattle.std.specs.Str.{IsUtf8, chars, is_utf8}
 pub use Rattle.lsp_buffer.proofs.Changes.ChangeLemmas.{replaced_length}
-pub use Rattle.lsp_edit.proofs.Rests.{next_is, rest_is, rest_none}
-pub use Rattle.lsp_edit.specs.Batch.{ContentChange, Fault, InsideStart, InsideStop, Reversed, after_changes, changed_in, continue_with, ends_of, in_order, items_after, meaning}
+pub use Rattle.lsp_edit.proofs.Composing.SpannedLemmas.{same_edited}
+pub use Rattle.lsp_edit.proofs.Rests.{next_is, rest_is, rest_none, split_between}
+pub use Rattle.lsp_edit.specs.Batch.{ContentChange, Fault, InsideStart, InsideStop, Reversed, after_changes, changed_in, continue_with, ends_of, in_order, items_after, meaning, put_between}
 pub use Rattle.lsp_edit.specs.Canonical.{DoTheSame, Gap, canonical, change_of_gap, gap_texts, gaps, gaps_from, is_changed, kept, put_first}
 pub use Rattle.lsp_edit.specs.Compose.{item_through, then_items}
 pub use Rattle.lsp_edit.specs.Delta.{AreEndsIn, AreEndsOf, IsDeltaOf, IsLeft, IsOn, IsPut, bytes_after, delta_encoding, meant_by, put_items}
@@ -26,10 +27,9 @@ pub use Rattle.lsp_edit.specs.Indexed.{IsCanonicalBatch, alone, batch_fault_of, 
 pub use Rattle.lsp_edit.specs.Items.{Item, New, Old, character_of, plain, text_of}
 pub use Rattle.lsp_edit.specs.Joined.{IsJoined, IsReached, JoinedData, joined_text}
 pub use Rattle.lsp_edit.specs.Keeps.{Keeps}
-pub use Rattle.lsp_edit.specs.Layers.{AllOver, IsOver, items_over, layer_parts, owned_parts}
+pub use Rattle.lsp_edit.specs.Layers.{AllOver, AreKept, IsOver, items_over, layer_parts, owned_parts}
 pub use Rattle.lsp_edit.specs.Parts.{AreParts, Ascend, IsApart, IsPartOf, NewPart, NoneEmpty, NoneTouch, OldPart, Part, bytes_in, bytes_of, index_of, items_in, items_of, new_parts, part_len, part_of, parts_of, touch}
 pub use Rattle.lsp_edit.specs.Plain.{ArePlain, item_of, items_in_order}
-pub use Rattle.lsp_edit.specs.Spans.{spans_in}
 pub use Rattle.lsp_edit.specs.TextEdits.{ComesBefore, EditsOverlap, HasRangeFault, IsBatchOfEdits, IsEditsFault, LocatedEdit, NoneOverlap, fault_of, is_taken_out, items_left, left_at, located, located_first, new_at}
 pub use Rattle.lsp_edit.specs.declared.change.Change.{Change}
 pub use Rattle.lsp_edit.specs.declared.fault.EditFault.{EditFault}
@@ -43,16 +43,17 @@ pub use Rattle.lsp_edit.specs.declared.text_edits.TextEditFault.{TextEditFault}
 pub use Rattle.lsp_edit.specs.declared.text_edits.TextEditFault.TheVariants.{Overlap}
 pub use Rattle.lsp_edit.specs.inside.Batch.{replaced}
 pub use Rattle.lsp_edit.specs.inside.Before.{text_before}
-pub use Rattle.lsp_edit.specs.inside.Faults.{HasRange, IsPlaces, numbered}
+pub use Rattle.lsp_edit.specs.inside.Faults.{HasRange, numbered}
 pub use Rattle.lsp_edit.specs.inside.Gaps.{change_at, gap_at, gap_between}
 pub use Rattle.lsp_edit.specs.inside.Layers.{AreSameItems, IsLayer}
-pub use Rattle.lsp_edit.specs.inside.Parts.{AreBefore, AreCut, AreOrdered, ArePassed, AreThrough, EndAfter, IsCutAt, IsFirstCut, IsMark, IsOrdered, IsThrough, back_part, back_parts, between_parts, first_front, front_part, front_parts, joined, put_first_back, put_part, put_parts, put_through, replaced_parts, span_len, through_part, through_parts, whole_parts}
+pub use Rattle.lsp_edit.specs.inside.Parts.{AreBefore, AreCut, AreOrdered, ArePassed, AreThrough, EndAfter, IsCutAt, IsFirstCut, IsMark, IsOrdered, IsThrough, back_part, back_parts, between_parts, first_front, front_part, front_parts, joined, put_first_back, put_part, put_parts, put_through, replaced_parts, span_len, through_part, through_parts, old_parts}
 pub use Rattle.lsp_edit.specs.inside.Drafts.{BeginsAnew, IsAfter}
-pub use Rattle.lsp_edit.specs.inside.TextEdits.{AreApart, AreLeftByEdits, ArePlaced, DoOverlap, IsInOrder, IsPlacingFault, Lies, PlacedOverlap, located_after, located_of, old_parts, parts_left}
+pub use Rattle.lsp_edit.specs.inside.TextEdits.{AreApart, AreLeftByEdits, ArePlaced, DoOverlap, IsInOrder, Lies, located_after, located_of, parts_left}
 pub use Rattle.lsp_edit.specs.laws.Batches.{AllHaveExactEnds, CanonicalLaw, HasExactEnds, KeepsPairs, RangesStay}
 pub use Rattle.lsp_text.proofs.Positions.PlaceLemmas.{IsIndexAt, drop_place, index_at, part_place, place_add, place_boundary, place_end, place_order, place_rises, place_within, take_place}
 pub use Rattle.lsp_text.proofs.Positions.PositionLemmas.{IsWhole, denoted_whole, exact_denotes}
 pub use Rattle.lsp_text.proofs.TextLines.LineLemmas.{splits_none_past}
+pub use Rattle.lsp_text.proofs.TextLines.SpliceLemmas.{numbers_split}
 pub use Rattle.lsp_text.specs.LineStarts.{IsPlace}
 pub use Rattle.lsp_text.specs.Positions.{denoted, exact_position}
 pub use Rattle.lsp_text.specs.Text.{place_of}

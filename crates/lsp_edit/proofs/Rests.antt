@@ -1,5 +1,5 @@
 -- What is left of a list in a walk over it.
-use Rattle.std.proofs.Common.{ℕ, ◌≡◌, ◌+◌, ◌<◌, ◌≤◌, List, [], ◌∷◌, length, map, drop, get_or, sym, ap, ◌∙◌}
+use Rattle.std.proofs.Common.{ℕ, ◌≡◌, ◌+◌, ◌-◌, ◌<◌, ◌≤◌, List, [], ◌∷◌, ◌++◌, length, map, take, drop, get_or, sym, ap, ◌∙◌, arith, drop-drop, take-append-drop}
 use Rattle.std.proofs.lemmas.List.{drop_more, drop_all}
 
 pub next_is : {X : Type 0} (xs : List X) (i : ℕ) (x : X) → i < length xs → x ≡ get_or xs i x
@@ -13,3 +13,13 @@ rest_is f xs i x y within is = ap (map f) (drop_more xs i x within) ∙ ap (λ z
 
 pub rest_none : {X Y : Type 0} (f : X → Y) (xs : List X) (i : ℕ) → length xs ≤ i → map f (drop i xs) ≡ []
 rest_none f xs i past = ap (map f) (drop_all i xs past)
+
+-- A list in three parts, at two indexes in order.
+pub split_between : {X : Type 0} (xs : List X) (a b : ℕ) → a ≤ b → take a xs ++ (take (b - a) (drop a xs) ++ drop b xs)
+    ≡ xs
+split_between {X} xs a b order =
+    let e : a + (b - a) ≡ b = omega arith in
+    let back : drop (b - a) (drop a xs) ≡ drop b xs = drop-drop (b - a) a xs ∙ ap (λ (n : ℕ). drop n xs) e in
+    ap (λ (r : List X). take a xs ++ r)
+    (ap (λ (r : List X). take (b - a) (drop a xs) ++ r) (sym back) ∙ take-append-drop (b - a) (drop a xs))
+    ∙ take-append-drop a xs

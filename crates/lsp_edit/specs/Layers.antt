@@ -23,14 +23,18 @@ owned_parts spans = map owned_part spans
 abbrev pub layer_parts : Layer → List Part
 layer_parts layer = owned_parts layer.spans.items
 
+-- Parts of a text that keep each CRLF of it whole.
+pub record AreKept (text : List ℕ) (parts : List Part) : Type 0 where
+  pub utf8 : IsUtf8 text
+  pub are : AreParts text parts
+  pub keeps : Keeps (chars text) 0 (items_of (chars text) parts)
+
 -- Parts of the text that items leave of the text `old`.
 pub record IsOver (old : List ℕ) (items : List Item) (parts : List Part) : Type 0 where
   -- The bytes of that text.
   pub middle : List ℕ
-  pub utf8 : IsUtf8 middle
   pub text_is : chars middle ≡ text_of old items
-  pub are : AreParts middle parts
-  pub keeps : Keeps (chars middle) 0 (items_of (chars middle) parts)
+  pub kept : AreKept middle parts
 
 -- The items that lists of parts are together, one after another, after other items.
 abbrev pub items_over : List ℕ → List Item → List (List Part) → List Item

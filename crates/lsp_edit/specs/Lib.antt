@@ -5,7 +5,6 @@ pub mod Canonical
 pub mod Compose
 pub mod Keeps
 pub mod Parts
-pub mod Spans
 pub mod Faults
 pub mod Edited
 pub mod Indexed

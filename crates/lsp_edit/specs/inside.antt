@@ -5,6 +5,5 @@ pub mod Gaps
 pub mod Drafts
 pub mod TextEdits
 pub mod Faults
-pub mod Joined
 pub mod Parts
 pub mod Layers

@@ -3,45 +3,21 @@
 //! Ranges are resolved here, for who has a text in one string. A batch on a text in blocks is
 //! resolved by `IndexedText::delta`, and composed of what that found.
 
-ghost use Rattle.std.specs.Prelude.{◌≡◌, ◌+◌, ◌≤◌, MatchResult, length, map, string_len, sum_by};
+ghost use Rattle.std.specs.Prelude.{◌≤◌, MatchResult, length, map, string_len, sum_by};
 ghost use Rattle.std.specs.Str.{chars};
 ghost use Rattle.lsp_text.specs.Units.{units_in};
-ghost use Rattle.lsp_edit.specs.Batch.{after_changes, meaning};
-ghost use Rattle.lsp_edit.specs.Edited.{Means, content_change, edited_bytes};
+ghost use Rattle.lsp_edit.specs.Batch.{meaning};
+ghost use Rattle.lsp_edit.specs.Edited.{Means, content_change};
 ghost use Rattle.lsp_edit.specs.Faults.{IsFaultOfChanges};
 
 use crate::change::{Change, MAX_NEW_TEXT};
 use crate::fault::EditFault;
-use crate::pieces::{MAX_TEXT, Pieces};
+use crate::pieces::Pieces;
 use lsp_text::Encoding;
 use std::alloc::Global;
 
 /// How many bytes a text may have to which a batch is applied.
 pub const MAX_OLD_TEXT: usize = 1_073_741_824;
-
-/// Applies the changes of a batch to pieces, one after another.
-fn apply_all<'a>(
-    pieces: Pieces<'a>,
-    encoding: Encoding,
-    changes: &'a [Change],
-) -> Result<Pieces<'a>, EditFault>
-    requires fresh { pieces.edited.changes ≡ 0 }
-    requires room { length (edited_bytes pieces.edited) + sum_by
-        (λ change. string_len change.text) changes.now ≤ MAX_TEXT }
-    ensures { MatchResult result
-        (λ composed. Means pieces.entry.edited.before
-        (after_changes (units_in encoding) pieces.entry.edited.before 0 pieces.entry.edited.items
-        (map content_change changes.now)) (length changes.now) composed.edited)
-        (λ fault. IsFaultOfChanges (after_changes
-        (units_in encoding) pieces.entry.edited.before 0 pieces.entry.edited.items
-        (map content_change changes.now)) fault) }
-{
-    let mut pieces = pieces;
-    for change in changes {
-        pieces.apply(encoding, change)?;
-    }
-    Ok(pieces)
-}
 
 /// Applies the changes of a batch to a text, one after another (LSP 3.17,
 /// DidChangeTextDocumentParams).
@@ -62,6 +38,9 @@ pub fn compose<'a>(
         (λ fault. IsFaultOfChanges
         (meaning (units_in encoding) (chars before.now) (map content_change changes.now)) fault) }
 {
-    let pieces = Pieces::start(alloc, before)?;
-    apply_all(pieces, encoding, changes)
+    let mut pieces = Pieces::start(alloc, before)?;
+    for change in changes {
+        pieces.apply(encoding, change)?;
+    }
+    Ok(pieces)
 }

@@ -10,13 +10,12 @@ ghost use Rattle.std.specs.Prelude.{◌≡◌, ◌≤◌, IfOk, IfSome, List, Ok
 ghost use Rattle.std.specs.List.{replace_range};
 ghost use Rattle.std.specs.Str.{chars};
 ghost use Rattle.lsp_text.specs.Units.{units_in};
-ghost use Rattle.lsp_edit.specs.Batch.{meaning};
 ghost use Rattle.lsp_edit.specs.Canonical.{canonical};
 ghost use Rattle.lsp_edit.specs.Layers.{layer_parts};
 ghost use Rattle.lsp_edit.specs.inside.Layers.{IsLayer};
 ghost use Rattle.lsp_edit.specs.Edited.{content_change};
 ghost use Rattle.lsp_edit.specs.Items.{Item};
-ghost use Rattle.lsp_edit.specs.Delta.{IsLeft, IsOn, IsPut, bytes_after, delta_encoding, meant_by, put_items};
+ghost use Rattle.lsp_edit.specs.Delta.{IsOn, IsPut, bytes_after, delta_encoding, meant_by};
 
 use crate::change::Change;
 use crate::indexed::IndexedText;
@@ -72,41 +71,6 @@ impl<'a> Put<'a> {
     {
         text.len() - (self.stop - self.start) + self.new.len()
     }
-
-    /// Returns the replacement as pieces.
-    fn pieces<'b>(&self, alloc: Global, text: &'b IndexedText) -> Result<Pieces<'b>, AllocError>
-    where
-        'a: 'b,
-        requires put { IsPut (units_in self.now.encoding) text.now self.now.start self.now.stop
-            self.now.new.now }
-        ensures before { IfOk result (λ pieces. pieces.edited.before ≡ chars text.now) }
-        ensures items { IfOk result (λ pieces. pieces.edited.items
-            ≡ put_items text.now self.now.start self.now.stop self.now.new.now) }
-    {
-        let mut pieces = Pieces::begin(alloc, Before::Borrowed(text.text()));
-        pieces.put(self.start, self.stop, self.new)?;
-        Ok(pieces)
-    }
-}
-
-impl<'a> Left<'a> {
-    /// Returns the batch as pieces.
-    fn pieces<'b>(&self, alloc: Global, text: &'b IndexedText) -> Result<Pieces<'b>, AllocError>
-    where
-        'a: 'b,
-        requires left { IsLeft (units_in self.now.encoding) text.now self.now.changes.now
-            self.now.ends.items self.now.text }
-        ensures before { IfOk result (λ pieces. pieces.edited.before ≡ chars text.now) }
-        ensures means { IfOk result (λ pieces. meaning (units_in self.now.encoding)
-            (chars text.now) (map content_change self.now.changes.now) ≡ Ok pieces.edited.items) }
-    {
-        let mut pieces = Pieces::begin(alloc, Before::Borrowed(text.text()));
-        let changes = self.changes;
-        for (index, change) in changes.iter().enumerate() {
-            pieces.put_change(self.ends[index], change)?;
-        }
-        Ok(pieces)
-    }
 }
 
 impl<'a> Delta<'a> {
@@ -139,7 +103,7 @@ impl<'a> Delta<'a> {
         ensures { IfOk result (λ left. string_bytes left ≡ bytes_after text.now self.now) }
     {
         match self {
-            Delta::Put(put) => put.pieces(alloc, text)?.text(),
+            Delta::Put(_) => self.pieces(alloc, text)?.text(),
             Delta::Left(batch) => batch.text.text().to_string(alloc),
         }
     }
@@ -154,9 +118,19 @@ impl<'a> Delta<'a> {
         ensures means { IfOk result (λ pieces. meant_by text.now self.now
             ≡ Ok pieces.edited.items) }
     {
+        let mut pieces = Pieces::begin(alloc, Before::Borrowed(text.text()))?;
         match self {
-            Delta::Put(put) => put.pieces(alloc, text),
-            Delta::Left(batch) => batch.pieces(alloc, text),
+            Delta::Put(put) => {
+                pieces.put(put.start, put.stop, put.new)?;
+                Ok(pieces)
+            }
+            Delta::Left(batch) => {
+                let changes = batch.changes;
+                for (index, change) in changes.iter().enumerate() {
+                    pieces.put_change(batch.ends[index], change)?;
+                }
+                Ok(pieces)
+            }
         }
     }
 

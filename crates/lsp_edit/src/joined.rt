@@ -14,7 +14,7 @@ ghost use Rattle.lsp_edit.specs.Indexed.{text_within};
 ghost use Rattle.lsp_edit.specs.Items.{plain};
 ghost use Rattle.lsp_edit.specs.Joined.{IsJoined, IsReached};
 ghost use Rattle.lsp_edit.specs.Delta.{IsOn, bytes_after, meant_by};
-ghost use Rattle.lsp_edit.specs.inside.Joined.{IsWhole};
+ghost use Rattle.lsp_edit.specs.inside.Layers.{IsWhole};
 
 pub(crate) mod layer;
 
@@ -25,7 +25,7 @@ use crate::indexed::IndexedText;
 use crate::indexed::fault::BatchFault;
 use crate::joined::layer::Layer;
 use crate::pieces::canonical::canonical_of;
-use crate::pieces::spans::Spans;
+use crate::pieces::span::whole;
 use crate::pieces::through::spans_through;
 use lsp_text::Encoding;
 use std::alloc::{AllocError, Global};
@@ -201,8 +201,7 @@ impl Joined {
     {
         let alloc = *self.layers.allocator();
         let text = self.before.text();
-        let whole = Spans::whole(alloc, text);
-        let mut spans = Vec::from_slice(alloc, whole.as_slice())?;
+        let mut spans = whole(alloc, text)?;
         for layer in &self.layers {
             let next = layer.borrowed(alloc)?;
             spans = spans_through(alloc, &spans, &next)?;

@@ -5,13 +5,12 @@
 //! accepted.
 
 ghost use Rattle.std.specs.Prelude.{◌≡◌, ◌↔◌, ◌+◌, ◌*◌, ◌++◌, ◌≤◌, ℕ, IfOk, OnOk, Ok, IsTrue, List, map, length, string_bytes, string_len};
-ghost use Rattle.std.specs.Str.{IsUtf8, chars};
+ghost use Rattle.std.specs.Str.{chars};
 ghost use Rattle.lsp_text.specs.Units.{units_in};
 ghost use Rattle.lsp_edit.specs.Items.{Item, plain};
 ghost use Rattle.lsp_edit.specs.Parts.{AreParts, Ascend, NoneEmpty, NoneTouch, items_of, parts_of};
 ghost use Rattle.lsp_edit.specs.Compose.{then_items};
-ghost use Rattle.lsp_edit.specs.Edited.{before_bytes, both_counts, content_change, edited_bytes};
-ghost use Rattle.lsp_edit.specs.Edited.{edited_text};
+ghost use Rattle.lsp_edit.specs.Edited.{before_bytes, both_counts, content_change, edited_bytes, edited_text};
 ghost use Rattle.lsp_edit.specs.inside.Before.{text_before};
 ghost use Rattle.lsp_edit.specs.Batch.{ContentChange, meaning};
 ghost use Rattle.lsp_edit.specs.Canonical.{canonical};
@@ -20,20 +19,16 @@ ghost use Rattle.lsp_edit.specs.laws.Batches.{IsCanonical, KeepsPairs, RangesSta
 mod apply;
 pub(crate) mod before;
 pub(crate) mod canonical;
-pub(crate) mod current;
 pub(crate) mod replace;
 pub(crate) mod row;
 pub(crate) mod span;
-pub(crate) mod spans;
 pub(crate) mod through;
 
 use crate::change::Change;
 use crate::pieces::before::Before;
 use crate::pieces::canonical::canonical_of;
-use crate::pieces::current::text_of_spans;
 use crate::pieces::row::Row;
-use crate::pieces::span::Span;
-use crate::pieces::spans::Spans;
+use crate::pieces::span::{Span, whole};
 use crate::pieces::through::spans_through;
 use lsp_buffer::TextBuffer;
 use lsp_text::Encoding;
@@ -51,7 +46,7 @@ pub struct Pieces<'a> {
     // The text before any change.
     before: Before<'a>,
     // What the result is, in parts of that text and of the changes' texts.
-    spans: Spans<'a>,
+    spans: Row<'a>,
     // How many bytes the result has.
     len: usize,
     // How many changes were applied.
@@ -63,7 +58,6 @@ pub struct Pieces<'a> {
 impl<'a> Model for Pieces<'a> {
     ghost use Rattle.std.specs.Str.{chars};
     ghost use Rattle.lsp_edit.specs.Parts.{items_of, parts_of, bytes_of};
-    ghost use Rattle.lsp_edit.specs.Spans.{spans_in};
     ghost use Rattle.lsp_edit.specs.Edited.{PiecesData, ArePieces, IsCurrent};
     ghost use Rattle.lsp_edit.specs.inside.Before.{text_before};
 
@@ -72,40 +66,40 @@ impl<'a> Model for Pieces<'a> {
     ghost view = { λ pieces. record {
       edited = record {
         before = chars (text_before pieces.before);
-        items = items_of (chars (text_before pieces.before)) (parts_of (spans_in pieces.spans));
+        items = items_of (chars (text_before pieces.before)) (parts_of pieces.spans);
         changes = pieces.changes;
       };
-      parts = parts_of (spans_in pieces.spans);
+      parts = parts_of pieces.spans;
     } };
 
     ghost invariant = { λ pieces.
-        ArePieces (text_before pieces.before) (parts_of (spans_in pieces.spans)) pieces.len
+        ArePieces (text_before pieces.before) (parts_of pieces.spans) pieces.len
         pieces.changes
-        × IsCurrent (bytes_of (text_before pieces.before) (parts_of (spans_in pieces.spans)))
+        × IsCurrent (bytes_of (text_before pieces.before) (parts_of pieces.spans))
         pieces.current };
 }
 
 impl<'a> Pieces<'a> {
-    /// Makes pieces of a text before any change. Takes no memory, and constant time.
-    pub(crate) fn begin(alloc: Global, before: Before<'a>) -> Self
-        ensures begun { result.edited ≡ record {
+    /// Makes pieces of a text before any change. Fails only where memory runs out. Takes constant
+    /// time.
+    pub(crate) fn begin(alloc: Global, before: Before<'a>) -> Result<Self, AllocError>
+        ensures { IfOk result (λ pieces. pieces.edited ≡ record {
           before = chars (text_before before.entry);
           items = plain (chars (text_before before.entry));
           changes = 0;
-        } }
-        ensures utf8 { IsUtf8 (text_before before.entry) }
+        }) }
     {
         let text = before.get();
         let len = text.len();
-        let spans = Spans::whole(alloc, text);
-        Pieces {
+        let spans = Row::new(whole(alloc, text)?);
+        Ok(Pieces {
             alloc,
             before,
             spans,
             len,
             changes: 0,
             current: None,
-        }
+        })
     }
 
     /// Makes pieces of a text before any change. Fails only where memory runs out. Costs a copy of
@@ -116,7 +110,7 @@ impl<'a> Pieces<'a> {
             ≡ record { before = chars before.now; items = plain (chars before.now); changes = 0 }) }
     {
         let before = Before::Own(TextBuffer::from_str(alloc, before)?);
-        Ok(Self::begin(alloc, before))
+        Self::begin(alloc, before)
     }
 
     /// Composes two series of changes; `second` is over the text that `first` leaves. The result is
@@ -151,7 +145,7 @@ impl<'a> Pieces<'a> {
         Ok(Pieces {
             alloc,
             before: Before::Borrowed(first.before.get()),
-            spans: Spans::Many(Row::new(spans)),
+            spans: Row::new(spans),
             len: second.len,
             changes: first.changes.saturating_add(second.changes),
             current: None,
@@ -221,6 +215,10 @@ impl<'a> Pieces<'a> {
         ensures { IfOk result (λ text. string_bytes text ≡ edited_bytes self.now.edited) }
     {
         let before = self.before.get();
-        text_of_spans(self.alloc, before, self.spans.as_slice(), self.len)
+        let mut text = String::with_capacity(self.alloc, self.len)?;
+        for span in self.spans.as_slice() {
+            span.push_to(before, &mut text)?;
+        }
+        Ok(text)
     }
 }

@@ -2,16 +2,15 @@
 //! definitions have it. Its clauses are those of `compose` and `Pieces`, with which tests compare
 //! it.
 
-ghost use Rattle.std.specs.Prelude.{◌≡◌, ◌+◌, ◌++◌, ◌≤◌, ◌<◌, ℕ, IfErr, IfOk, OnErr, OnOk, Ok, Some, MatchResult, List, map, length, string_bytes, string_len, sum_by};
+ghost use Rattle.std.specs.Prelude.{◌≡◌, ◌+◌, ◌++◌, ◌≤◌, ◌<◌, ℕ, IfErr, IfOk, OnErr, OnOk, Ok, MatchResult, List, map, length, string_bytes, string_len, sum_by};
 ghost use Rattle.std.specs.Str.{chars};
-ghost use Rattle.lsp_text.specs.LineStarts.{AreLinesOf};
 ghost use Rattle.lsp_text.specs.Units.{units_in};
 ghost use Rattle.lsp_edit.specs.Items.{Item as SpecItem, plain as plain_items};
-ghost use Rattle.lsp_edit.specs.Batch.{ContentChange, items_after, changed_in, ends_of, meaning};
+ghost use Rattle.lsp_edit.specs.Batch.{ContentChange, items_after, changed_in, meaning};
 ghost use Rattle.lsp_edit.specs.Canonical.{canonical as spec_canonical};
 ghost use Rattle.lsp_edit.specs.Compose.{then_items as spec_then_items, item_through as spec_item_through};
 ghost use Rattle.lsp_edit.specs.Edited.{Applied, Means, both_counts, content_change, edited_bytes, edited_text};
-ghost use Rattle.lsp_edit.specs.Faults.{IsFaultOfChanges, IsFaultOfChange, places_at};
+ghost use Rattle.lsp_edit.specs.Faults.{IsFaultOfChanges, IsFaultOfChange};
 ghost use Rattle.lsp_edit.specs.laws.Batches.{IsCanonical, KeepsPairs, RangesStay};
 ghost use Rattle.lsp_edit.specs.Plain.{item_of, items_in_order};
 
@@ -23,9 +22,10 @@ use crate::ends::ends_in_order;
 use crate::fault::EditFault;
 use crate::pieces::MAX_TEXT;
 use crate::plain::items::{
-    all_new, characters, encoded, gaps_written, index_of, numbered, put_between, text_of,
+    all_new, characters, encoded, gaps_written, numbered, put_between, text_of,
 };
-use lsp_text::{Encoding, Lines, Range};
+use lsp_text::plain::denoted;
+use lsp_text::{Encoding, Range};
 use std::alloc::{AllocError, Global};
 use std::marker::Model;
 
@@ -38,34 +38,31 @@ pub enum Item {
 
 /// A text under changes, character by character.
 #[derive(Drop)]
-pub struct Plain<'a> {
+pub struct Plain {
     alloc: Global,
-    before: &'a str,
-    characters: Vec<char>,
+    before: Vec<char>,
     items: Vec<Item>,
     changes: usize,
 }
 
-impl<'a> Model for Plain<'a> {
-    ghost use Rattle.std.specs.Str.{chars};
+impl Model for Plain {
     ghost use Rattle.lsp_edit.specs.Edited.{PlainData};
     ghost use Rattle.lsp_edit.specs.Plain.{ArePlain, items_in_order};
 
     ghost Value = { PlainData };
 
     ghost view = { λ plain. record {
-      before = chars plain.before.now;
+      before = plain.before.items;
       items = items_in_order plain.items.items;
       changes = plain.changes;
     } };
 
-    ghost invariant = { λ plain. ArePlain plain.before.now plain.characters.items
-        (items_in_order plain.items.items) };
+    ghost invariant = { λ plain. ArePlain plain.before.items (items_in_order plain.items.items) };
 }
 
-impl<'a> Plain<'a> {
+impl Plain {
     /// Makes a text before any change.
-    fn start(alloc: Global, before: &'a str) -> Result<Self, AllocError>
+    fn start(alloc: Global, before: &str) -> Result<Self, AllocError>
         requires { length before.now ≤ MAX_TEXT }
         ensures { IfOk result
             (λ plain. plain
@@ -75,37 +72,44 @@ impl<'a> Plain<'a> {
               changes = 0;
             }) }
     {
-        let characters = characters(alloc, before)?;
-        let items = numbered(alloc, characters.len())?;
+        let before = characters(alloc, before)?;
+        let items = numbered(alloc, before.len())?;
         Ok(Plain {
             alloc,
             before,
-            characters,
             items,
             changes: 0,
         })
     }
 
-    /// Returns the items with those of a range replaced by new ones.
+    /// Returns the characters of the current text.
+    fn current(&self) -> Result<Vec<char>, AllocError>
+        ensures text { IfOk result (λ text. text.items ≡ edited_text self.now) }
+        ensures size { length (edited_bytes self.now) ≤ MAX_TEXT }
+    {
+        text_of(self.alloc, &self.before, &self.items)
+    }
+
+    /// Returns the items with those of a range, or all, replaced by new ones.
     fn replaced(
         &self,
         encoding: Encoding,
-        range: Range,
+        range: Option<Range>,
         text: &[char],
     ) -> Result<Vec<Item>, EditFault>
         ensures { MatchResult result
-            (λ after. changed_in (units_in encoding) self.now.before self.now.items text.now
-            (Some range) ≡ Ok (items_in_order after.items))
-            (λ fault. IsFaultOfChange self.now.changes
-            (changed_in (units_in encoding) self.now.before self.now.items text.now (Some range))
-            fault) }
+            (λ after. changed_in (units_in encoding) self.now.before self.now.items text.now range
+            ≡ Ok (items_in_order after.items))
+            (IsFaultOfChange self.now.changes
+            (changed_in (units_in encoding) self.now.before self.now.items text.now range)) }
     {
-        let now = self.text()?;
-        let current = now.as_str();
-        let lines = Lines::new(self.alloc, current)?;
-        let (start, stop) = ends_by(&lines, current, encoding, range, self.changes)?;
-        let low = index_of(self.alloc, current, start)?;
-        let high = index_of(self.alloc, current, stop)?;
+        let Some(range) = range else {
+            return Ok(all_new(self.alloc, text)?);
+        };
+        let now = self.current()?;
+        let start = denoted(&now, encoding, range.start);
+        let stop = denoted(&now, encoding, range.stop);
+        let (low, high) = ends_in_order(start, stop, self.changes)?;
         Ok(put_between(self.alloc, &self.items, low, high, text)?)
     }
 
@@ -120,10 +124,7 @@ impl<'a> Plain<'a> {
             (content_change change.now)) fault) }
     {
         let text = characters(self.alloc, &change.text)?;
-        let items = match change.range {
-            None => all_new(self.alloc, &text)?,
-            Some(range) => self.replaced(encoding, range, &text)?,
-        };
+        let items = self.replaced(encoding, change.range, &text)?;
         self.items = items;
         self.changes = self.changes.saturating_add(1);
         Ok(())
@@ -148,11 +149,10 @@ impl<'a> Plain<'a> {
             ≡ spec_then_items self.now.items (spec_then_items second.now.items third) }
     {
         let items = then_items(self.alloc, &self.items, &second.items)?;
-        let characters = Vec::from_slice(self.alloc, &self.characters)?;
+        let before = Vec::from_slice(self.alloc, &self.before)?;
         Ok(Plain {
             alloc: self.alloc,
-            before: self.before,
-            characters,
+            before,
             items,
             changes: self.changes.saturating_add(second.changes),
         })
@@ -162,7 +162,7 @@ impl<'a> Plain<'a> {
     pub fn text(&self) -> Result<String, AllocError>
         ensures { IfOk result (λ text. string_bytes text ≡ edited_bytes self.now) }
     {
-        let text = text_of(self.alloc, &self.characters, &self.items)?;
+        let text = self.current()?;
         encoded(self.alloc, &text)
     }
 
@@ -189,34 +189,8 @@ impl<'a> Plain<'a> {
             meaning (units_in encoding) self.now.before batch ≡ Ok self.now.items
             → IsCanonical (units_in encoding) self.now.before batch self.now.items }
     {
-        let lines = Lines::new(self.alloc, self.before)?;
-        gaps_written(
-            self.alloc,
-            self.before,
-            &lines,
-            encoding,
-            &self.characters,
-            &self.items,
-        )
+        gaps_written(self.alloc, &self.before, encoding, &self.items)
     }
-}
-
-/// Returns the byte offsets of a range's two ends in a text with these lines. `change` is the number
-/// of the change that a fault reports.
-fn ends_by(
-    lines: &Lines,
-    text: &str,
-    encoding: Encoding,
-    range: Range,
-    change: usize,
-) -> Result<(usize, usize), EditFault>
-    requires { AreLinesOf lines.now text.now }
-    ensures { result
-        ≡ places_at change (chars text.now) (ends_of (units_in encoding) (chars text.now) range) }
-{
-    let start = lines.resolve(text, encoding, range.start);
-    let stop = lines.resolve(text, encoding, range.stop);
-    ends_in_order(start, stop, change)
 }
 
 /// Turns an item over the text of `first` into one over what `first` is over.
@@ -250,12 +224,12 @@ fn then_items(alloc: Global, first: &[Item], second: &[Item]) -> Result<Vec<Item
 
 /// Applies the changes of a batch to a text, one after another. Reports the first change that has
 /// no result, or out of memory.
-pub fn compose<'a>(
+pub fn compose(
     alloc: Global,
-    before: &'a str,
+    before: &str,
     encoding: Encoding,
     changes: &[Change],
-) -> Result<Plain<'a>, EditFault>
+) -> Result<Plain, EditFault>
     requires size { length before.now ≤ MAX_OLD_TEXT }
     requires fits { sum_by (λ change. string_len change.text) changes.now ≤ MAX_NEW_TEXT }
     ensures { MatchResult result

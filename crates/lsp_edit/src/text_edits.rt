@@ -5,17 +5,17 @@
 //! indexes. The way back needs no proof: `located` is a function of the list, so a list has one
 //! batch by indexes at most, and none that `NoneOverlap` refuses.
 
-ghost use Rattle.std.specs.Prelude.{◌≡◌, ◌≢◌, ◌⊎◌, ◌++◌, ◌∷◌, [], Err, IfErr, IfOk, IsOk, OnOk, length};
+ghost use Rattle.std.specs.Prelude.{◌≡◌, ◌≢◌, ◌⊎◌, ◌++◌, ◌∷◌, [], Err, IfErr, IfOk, IsOk, OnOk};
 ghost use Rattle.std.specs.Str.{IsUtf8, chars};
 ghost use Rattle.lsp_text.specs.Units.{units_in};
 ghost use Rattle.lsp_edit.specs.declared.text_edits.TextEditFault.TheVariants.{NoMemory};
-ghost use Rattle.lsp_edit.specs.Parts.{new_parts, parts_of};
+ghost use Rattle.lsp_edit.specs.Parts.{parts_of};
 ghost use Rattle.lsp_edit.specs.TextEdits.{HasRangeFault, IsEditsFault, fault_of, located};
-ghost use Rattle.lsp_edit.specs.inside.TextEdits.{AreApart, ArePlaced, DoOverlap, IsInOrder, IsPlacingFault, AreLeftByEdits, old_parts, parts_left};
+ghost use Rattle.lsp_edit.specs.inside.TextEdits.{AreApart, ArePlaced, DoOverlap, IsInOrder, AreLeftByEdits, parts_left};
 
 use crate::ends::ends;
 use crate::fault::{EditFault, Side};
-use crate::pieces::span::Span;
+use crate::pieces::span::{Span, push_new, push_old};
 use lsp_buffer::TextBuffer;
 use lsp_text::{Encoding, Range};
 use std::alloc::{AllocError, Global};
@@ -127,7 +127,7 @@ pub fn spans_of_edits<'a>(
         (parts_of spans.items)) }
     ensures utf8 { OnOk result (IsUtf8 text.now) }
     ensures error { IfErr result (λ fault.
-        IsPlacingFault (units_in encoding) (chars text.now) edits.now fault) }
+        IsEditsFault (units_in encoding) (chars text.now) edits.now fault) }
 {
     let mut placed = place_all(alloc, text, encoding, edits)?;
     put_in_order(&mut placed)?;
@@ -206,26 +206,4 @@ fn spans_left<'a>(
     }
     push_old(&mut spans, low, len)?;
     Ok(spans)
-}
-
-/// Appends the old text from one byte offset to another, if it isn't empty.
-fn push_old(spans: &mut Vec<Span>, from: usize, to: usize) -> Result<(), AllocError>
-    ensures { OnOk result
-        (parts_of spans.new.items ≡ parts_of spans.old.items ++ old_parts from to) }
-{
-    if from < to {
-        spans.push(Span::Old { from, to })?;
-    }
-    Ok(())
-}
-
-/// Appends a new text, if it isn't empty.
-fn push_new<'a>(spans: &mut Vec<Span<'a>>, text: &'a str) -> Result<(), AllocError>
-    ensures { OnOk result
-        (parts_of spans.new.items ≡ parts_of spans.old.items ++ new_parts text.now) }
-{
-    if !text.is_empty() {
-        spans.push(Span::New(text))?;
-    }
-    Ok(())
 }

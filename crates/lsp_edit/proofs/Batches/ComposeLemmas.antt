@@ -1,21 +1,15 @@
 -- Two batches, one after the other, mean what their meanings composed are, and composing is associative.
-use Rattle.lsp_edit.proofs.Prelude.{ℕ, zero, suc, ◌≡◌, ◌+◌, ◌≤◌, nat_le, List, [], ◌∷◌, ◌++◌, length, map, take, drop, slice_index_or as get_or, Option, Some, None, Result, Ok, Err, refl, sym, ap, ap₂, ◌∙◌, subst, arith, drop-cons, take_all, cases_Bool, map-append, length-map, take-map, drop-map, Range, numbers_from, denoted, Item, Old, New, plain, character_of, text_of, ContentChange, Fault, changed_in, items_after, after_changes, continue_with, meaning, replaced, item_through, then_items, canonical, Keeps, common_steps}
+use Rattle.lsp_edit.proofs.Prelude.{ℕ, zero, suc, ◌≡◌, ◌+◌, ◌≤◌, nat_le, List, [], ◌∷◌, ◌++◌, length, map, take, drop, Option, Some, None, Ok, refl, sym, ap, ap₂, ◌∙◌, subst, arith, drop-cons, take_all, cases_Bool, map-append, length-map, take-map, drop-map, Range, numbers_from, denoted, Item, Old, New, plain, character_of, text_of, ContentChange, changed_in, items_after, after_changes, meaning, replaced, then_items, canonical, Keeps, common_steps}
 use Rattle.lsp_edit.proofs.Batches.BatchLemmas.{by_changes, after_changes-append, any_number}
 use Rattle.lsp_edit.proofs.Canonical.KeepsLemmas.{meaning_keeps}
 use Rattle.lsp_edit.proofs.Canonical.RebuiltLemmas.{canonical_makes}
-
--- an item of a mapped list, also past its end
-pub at_mapped : {X Y : Type 0} (f : X → Y) (xs : List X) (k : ℕ) (default : X) → get_or (map f xs) k (f default)
-    ≡ f (get_or xs k default)
-at_mapped f [] k default = refl
-at_mapped f (x ∷ xs) zero default = refl
-at_mapped f (x ∷ xs) (suc k) default = at_mapped f xs k default
+use Rattle.std.proofs.Math.ListN.{get_or-map}
 
 pub text_of-then : (old : List ℕ) (first second : List Item) → text_of old (then_items first second)
     ≡ text_of (text_of old first) second
 text_of-then old first [] = refl
 text_of-then old first (Old index ∷ second) =
-    grind (arith, common_steps, ap₂, at_mapped, (text_of-then old first second))
+    grind (arith, common_steps, ap₂, get_or-map, (text_of-then old first second))
 text_of-then old first (New character ∷ second) = ap (λ (cs : List ℕ). character ∷ cs) (text_of-then old first second)
 
 pub told_row : (first : List Item) (low count : ℕ) → low + count ≤ length first
@@ -37,7 +31,7 @@ pub then_associative : (first second third : List Item) → then_items (then_ite
     ≡ then_items first (then_items second third)
 then_associative first second [] = refl
 then_associative first second (Old index ∷ third) =
-    grind (arith, common_steps, ap₂, at_mapped, (then_associative first second third))
+    grind (arith, common_steps, ap₂, get_or-map, (then_associative first second third))
 then_associative first second (New character ∷ third) =
     ap (λ (is : List Item). New character ∷ is) (then_associative first second third)
 
@@ -45,17 +39,7 @@ module _ (units : ℕ → ℕ) (old : List ℕ) (first : List Item) where
   told_replaced : (items : List Item) (characters : List ℕ) (a b : ℕ) → take a (then_items first items)
       ++ (map New characters ++ drop b (then_items first items))
       ≡ then_items first (take a items ++ (map New characters ++ drop b items))
-  told_replaced items characters a b =
-      let front : take a (then_items first items) ≡ then_items first (take a items) =
-      take-map (item_through first) a items in
-      let back : drop b (then_items first items) ≡ then_items first (drop b items) =
-      drop-map (item_through first) b items in
-      let inner : then_items first (map New characters ++ drop b items) ≡ then_items first (map New characters)
-      ++ then_items first (drop b items) = map-append (item_through first) (map New characters) (drop b items) in
-      let outer : then_items first (take a items ++ (map New characters ++ drop b items))
-      ≡ then_items first (take a items) ++ then_items first (map New characters ++ drop b items) =
-      map-append (item_through first) (take a items) (map New characters ++ drop b items) in
-      rw (front, back, outer, inner, told_new first characters) refl
+  told_replaced items characters a b = simp (take-map, drop-map, map-append, told_new)
 
   pub then-changed : (items next : List Item) (change : ContentChange) → items_after units (text_of old first) items
       change ≡ Ok next → items_after units old (then_items first items) change ≡ Ok (then_items first next)

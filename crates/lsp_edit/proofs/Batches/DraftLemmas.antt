@@ -1,55 +1,40 @@
 -- The text that a batch leaves, made change by change in a copy of the text.
-use Rattle.lsp_edit.proofs.Prelude.{IsUtf8-string_bytes, ℕ, suc, ◌≡◌, ◌+◌, ◌-◌, ◌<◌, ◌≤◌, ◌⊎◌, List, [], ◌∷◌, ◌++◌, length, map, refl, sym, ap, ◌∙◌, subst, arith, encode_utf8_all, inl, inr, Option, Some, None, Result, Ok, Err, string_bytes, string_len, lt-ltb, le-ltb, append_assoc, append-nil, sum_by-cons, encodes-chars, chars_from_encodes, replace_range, Range, replaced_length, Change, EditFault, NoMemory, Item, New, plain, text_of, ContentChange, Fault, changed_in, put_items, items_after, after_changes, continue_with, meaning, ends_of, AreEndsIn, AreEndsOf, IsFaultOfChange, fault_at, ⊎_elim, BeginsAnew, IsAfter, places_at, content_change, bytes_left, then_items, text_within, batch_fault_of, common_steps}
-use Rattle.std.specs.Str.{IsUtf8, IsCharBoundary, chars}
+use Rattle.lsp_edit.proofs.Prelude.{IsUtf8-string_bytes, ℕ, suc, ◌≡◌, ◌+◌, ◌≤◌, ◌⊎◌, List, [], ◌∷◌, ◌++◌, length, map, refl, sym, ap, ◌∙◌, subst, arith, encode_utf8_all, inl, inr, Option, Some, None, Result, Ok, Err, string_bytes, string_len, append_assoc, append-nil, sum_by-cons, encodes-chars, chars_from_encodes, replace_range, Range, Change, EditFault, NoMemory, Item, New, plain, text_of, ContentChange, Fault, changed_in, put_items, items_after, after_changes, continue_with, meaning, ends_of, AreEndsIn, AreEndsOf, IsFaultOfChange, fault_at, ⊎_elim, BeginsAnew, IsAfter, places_at, content_change, bytes_left, then_items, text_within, batch_fault_of, common_steps}
+use Rattle.std.specs.Str.{IsUtf8, chars}
 use Rattle.lsp_edit.specs.Batch.{put_between}
-use Rattle.lsp_edit.specs.declared.indexed.fault.BatchFault.TheVariants.{TooLong, NoMemory as OutOfMemory}
+use Rattle.lsp_edit.specs.declared.indexed.fault.BatchFault.TheVariants.{NoMemory as OutOfMemory}
 use Rattle.lsp_edit.specs.declared.indexed.fault.BatchFault.{BatchFault}
 use Rattle.lsp_edit.proofs.Batches.ComposeLemmas.{text_of-then, then-changed, then-plain}
-use Rattle.lsp_edit.proofs.Composing.AppliedLemmas.{edit_is, fault_told, places_any}
+use Rattle.lsp_edit.proofs.Composing.AppliedLemmas.{edit_is, ends_in, places_any, places_told}
 use Rattle.lsp_edit.proofs.Composing.EditedLemmas.{plain_text}
 use Rattle.lsp_edit.proofs.Composing.RoomLemmas.{texts_len}
-use Rattle.lsp_edit.proofs.Deltas.InPlaceLemmas.{fault_edit, range_bytes_left, range_made, range_order, range_start, range_stop}
+use Rattle.lsp_edit.proofs.Deltas.InPlaceLemmas.{IsInPlace, fault_edit, in_place}
 use Rattle.lsp_edit.proofs.Deltas.WholeLemmas.{whole_left}
 
 -- ---- one change
 
--- The byte offsets of a change's range in a text, and what its text in their place leaves.
-pub record IsRanged (units : ℕ → ℕ) (before : List ℕ) (change : Change) (inside new : List ℕ) (start stop : ℕ) : Type
-    0 where
-  pub order : start ≤ stop
-  pub at_start : IsCharBoundary inside start
-  pub at_stop : IsCharBoundary inside stop
-  pub longer : length (replace_range inside start stop new) ≤ length before + string_len change.text
-  pub after : IsAfter units before (content_change change) (replace_range inside start stop new) (start, stop)
+pub change_in_place : (units : ℕ → ℕ) (number : ℕ) (before : List ℕ) (range : Range) (change : Change) (start stop : ℕ)
+    → IsUtf8 before → Ok (start, stop) ≡ places_at number (chars before) (ends_of units (chars before) range)
+    → IsInPlace units before range (string_bytes change.text) start stop
+change_in_place units number before range change start stop utf8 found =
+    in_place units before utf8 range (string_bytes change.text) (IsUtf8-string_bytes change.text) start stop
+    (places_any number (chars before) (start, stop) (ends_of units (chars before) range) found)
 
-pub is_ranged : (units : ℕ → ℕ) (number : ℕ) (before inside new : List ℕ) (range : Range) (change : Change)
-    (start stop : ℕ) → IsUtf8 before → inside ≡ before → new ≡ string_bytes change.text → change.range ≡ Some range
+pub is_ranged : (units : ℕ → ℕ) (number : ℕ) (before left : List ℕ) (range : Range) (change : Change) (start stop : ℕ)
+    → IsUtf8 before → change.range ≡ Some range
     → Ok (start, stop) ≡ places_at number (chars before) (ends_of units (chars before) range)
-    → IsRanged units before change inside new start stop
-is_ranged units number before inside new range change start stop utf8 inside_is new_is is found =
-    let text : List ℕ = string_bytes change.text in
-    let text_utf8 : IsUtf8 text = IsUtf8-string_bytes change.text in
-    let first : Ok (start, stop) ≡ places_at 0 (chars before) (ends_of units (chars before) range) =
-    places_any number (chars before) start stop (ends_of units (chars before) range) found in
-    let order : start ≤ stop = range_order units before utf8 range text text_utf8 start stop first in
-    let at_stop : IsCharBoundary before stop = range_stop units before utf8 range text text_utf8 start stop first in
-    let own : length text ≡ string_len change.text = sym change.text.bytes.ok.0 in
-    rw (inside_is, new_is) (record {
-      order = order;
-      at_start = range_start units before utf8 range text text_utf8 start stop first;
-      at_stop = at_stop;
-      longer = omega (arith, replaced_length before text start stop order at_stop.0, own);
-      after = record {
-        items = put_items before start stop text;
-        made = subst (λ (c : ContentChange). items_after units (chars before) (plain (chars before)) c
-            ≡ Ok (put_items before start stop text)) (edit_is change (Some range) text is refl)
-            (range_made units before utf8 range text text_utf8 start stop first);
-        is = sym (range_bytes_left units before utf8 range text text_utf8 start stop first);
-        ends_are = λ other e. subst (λ (r : Range). Ok (start, stop)
-            ≡ places_at 0 (chars before) (ends_of units (chars before) r))
-            (let same : range ≡ other = cc in same) first;
-      };
-    })
+    → left ≡ replace_range before start stop (string_bytes change.text)
+    → IsAfter units before (content_change change) left (start, stop)
+is_ranged units number before left range change start stop utf8 is found left_is =
+    let r = change_in_place units number before range change start stop utf8 found in
+    record {
+      items = put_items before start stop (string_bytes change.text);
+      made = subst (λ (c : ContentChange). items_after units (chars before) (plain (chars before)) c
+          ≡ Ok (put_items before start stop (string_bytes change.text)))
+          (edit_is change (Some range) (string_bytes change.text) is refl) r.made;
+      is = left_is ∙ sym r.bytes;
+      ends_are = ends_in units number (chars before) (content_change change) range (start, stop) is found;
+    }
 
 pub is_whole : (units : ℕ → ℕ) (before : List ℕ) (change : Change) (left : List ℕ) (ends : ℕ × ℕ)
     → IsUtf8 (string_bytes change.text) → change.range ≡ None → left ≡ string_bytes change.text
@@ -65,11 +50,9 @@ pub range_faulted : (units : ℕ → ℕ) (number : ℕ) (before : List ℕ) (ra
     → change.range ≡ Some range → Err fault ≡ places_at number (chars before) (ends_of units (chars before) range)
     → IsFaultOfChange number (items_after units (chars before) (plain (chars before)) (content_change change)) fault
 range_faulted units number before range change fault is found =
-    subst (λ (c : ContentChange). IsFaultOfChange number (items_after units (chars before) (plain (chars before)) c)
-    fault) (edit_is change (Some range) (string_bytes change.text) is refl)
-    (fault_told units (chars before) (plain (chars before)) (chars (string_bytes change.text)) range number fault
-    (inr (subst (λ (t : List ℕ). ◌≡◌ {A = Result (ℕ × ℕ) EditFault} (Err fault)
-    (places_at number t (ends_of units t range))) (sym (plain_text (chars before))) found)))
+    places_told units (content_change change) range (Err fault)
+    (record { before = chars before; items = plain (chars before); changes = number }) (chars before) number is refl
+    (plain_text (chars before)) found
 
 -- ---- a batch, change by change
 

@@ -1,11 +1,10 @@
 -- Text edits by indexes, each behind the one before it: they don't overlap, and what they leave at each index is the
 -- row of what each leaves.
-use Rattle.lsp_edit.proofs.Prelude.{ℕ, zero, suc, ◌≡◌, ◌+◌, ◌-◌, ◌<◌, ◌≤◌, Bool, true, false, if◌then◌else◌, List, [], ◌∷◌, ◌++◌, length, map, flat_map, slice_index_or as get_or, refl, sym, ap, ap₂, ◌∙◌, subst, arith, ⊎_elim, inl, append_assoc, append-nil, lt-ltb, le-ltb, le-leb, ne_eqb, eq-eqb, Contains, AllByRecursion, All-from_recursion, cases_lt, lt-leb, map-append, flat_map-append, flat_map_single, numbers_from, splits_crlf, Item, Old, New, Keeps, LocatedEdit, new_at, is_taken_out, left_at, ComesBefore, NoneOverlap, common_steps}
+use Rattle.lsp_edit.proofs.Prelude.{ℕ, zero, suc, ◌≡◌, ◌+◌, ◌-◌, ◌<◌, ◌≤◌, Bool, true, false, if◌then◌else◌, List, [], ◌∷◌, ◌++◌, length, map, flat_map, slice_index_or as get_or, refl, sym, ap, ap₂, ◌∙◌, subst, arith, ⊎_elim, inl, append_assoc, append-nil, lt-ltb, le-ltb, le-leb, ne_eqb, eq-eqb, AllByRecursion, All-from_recursion, cases_lt, lt-leb, map-append, flat_map-append, flat_map_single, numbers_from, splits_crlf, Item, Old, New, Keeps, LocatedEdit, new_at, is_taken_out, left_at, ComesBefore, NoneOverlap, common_steps, numbers_split}
 use Rattle.std.specs.List.{AllPairs}
 use Rattle.std.proofs.lemmas.List.{get_or_default}
 use Rattle.std.proofs.lemmas.List.Kept.{AllPairs-cons}
 use Rattle.lsp_edit.proofs.Canonical.KeepsLemmas.{keeps_from_lower, new_keeps, row_keeps}
-use Rattle.lsp_edit.proofs.Canonical.RebuiltLemmas.{numbers-append}
 
 -- Each edit starts where the one before it stops or later, and no end splits a CRLF.
 abbrev pub StandApart : List ℕ → ℕ → List LocatedEdit → Type 0
@@ -120,7 +119,7 @@ split_row : (f : ℕ → List Item) (low a rest all : ℕ) → all ≡ a + rest 
     ≡ flat_map f (numbers_from low a) ++ flat_map f (numbers_from (low + a) rest)
 split_row f low a rest all is =
     ap (λ (n : ℕ). flat_map f (numbers_from low n)) is
-    ∙ (ap (flat_map f) (numbers-append low a rest) ∙ flat_map-append f (numbers_from low a) (numbers_from
+    ∙ (ap (flat_map f) (numbers_split low a rest) ∙ flat_map-append f (numbers_from low a) (numbers_from
     (low + a) rest))
 
 run_keeps : (old : List ℕ) (low count : ℕ) (items : List Item) → low + count ≤ length old

@@ -1,12 +1,11 @@
 -- Text edits: how they are found one after another, and put in spans.
-use Rattle.lsp_edit.proofs.Prelude.{ℕ, suc, false, ◌≡◌, ◌+◌, ◌-◌, ◌<◌, ◌≤◌, ◌⊎◌, List, [], ◌∷◌, ◌++◌, length, map, drop, slice_index_or as get_or, Result, Ok, Err, refl, sym, ap, ap₂, ◌∙◌, subst, arith, encode_utf8_all, ⊎_elim, inr, append_assoc, IsOk, is_ok, string_bytes, is_utf8, chars, IsUtf8, IsCharBoundary, cases_Bool, cases_lt, nat_lt, le-leb, ltb-true, map-append, length-append, AllByRecursion, encodes-chars, is_utf8-from_IsUtf8, IsUtf8-string_bytes, splits_crlf, splits_none_past, denoted_whole, IsPlace, IsWhole, place_of, place_end, place_rises, place_boundary, EditFault, Placed, TextEdit, TextEditFault, Overlap, Fault, ends_of, fault_at, places_at, Part, AreParts, index_of, new_parts, LocatedEdit, located, located_first, fault_of, HasRangeFault, located_of, located_after, Lies, ArePlaced, AreApart, old_parts, parts_left, DoOverlap, common_steps}
+use Rattle.lsp_edit.proofs.Prelude.{ℕ, suc, false, ◌≡◌, ◌+◌, ◌<◌, ◌≤◌, ◌⊎◌, List, [], ◌∷◌, ◌++◌, length, map, slice_index_or as get_or, Result, Ok, Err, refl, sym, ap, ap₂, ◌∙◌, subst, arith, ⊎_elim, inr, append_assoc, IsOk, is_ok, string_bytes, is_utf8, chars, IsUtf8, IsCharBoundary, cases_Bool, cases_lt, nat_lt, le-leb, ltb-true, map-append, length-append, AllByRecursion, encodes-chars, is_utf8-from_IsUtf8, IsUtf8-string_bytes, splits_crlf, splits_none_past, denoted_whole, IsPlace, place_of, place_end, place_boundary, EditFault, Placed, TextEdit, TextEditFault, Overlap, Fault, ends_of, fault_at, places_at, Part, AreParts, index_of, new_parts, LocatedEdit, located, located_first, fault_of, HasRangeFault, located_of, located_after, Lies, ArePlaced, AreApart, old_parts, parts_left, DoOverlap, common_steps, next_is, numbered}
 use Rattle.std.proofs.lemmas.List.{get_or_default}
 use Rattle.std.proofs.lemmas.List.Elements.{All-push}
 use Rattle.std.specs.List.{All}
 use Rattle.lsp_edit.proofs.Composing.AppliedLemmas.{AreEnds, ends_told}
-use Rattle.lsp_edit.proofs.Deltas.OwnedLemmas.{are_both}
 use Rattle.lsp_edit.proofs.Parts.IndexLemmas.{index_of-place}
-use Rattle.lsp_edit.proofs.Parts.PutLemmas.{new_items}
+use Rattle.lsp_edit.proofs.Parts.PutLemmas.{new_items, are_both}
 
 -- ---- the edits of a list, one after another
 
@@ -82,10 +81,6 @@ pub placed_more : (units : ℕ → ℕ) (old : List ℕ) (edits : List TextEdit)
 placed_more units old edits edit rest more placed next one is are found number_is text_is next_is =
     let e : AreEnds units old edit.range one.start one.stop =
     ends_told units old edit.range one.number one.start one.stop found in
-    let low : index_of old one.start ≡ e.low = ap (index_of old) (sym e.start_is)
-    ∙ index_of-place old e.low (omega (arith, e.order, e.within)) in
-    let high : index_of old one.stop ≡ e.high = ap (index_of old) (sym e.stop_is)
-    ∙ index_of-place old e.high e.within in
     let ends : ends_of units old edit.range ≡ Ok (e.low, e.high) =
     rw (e.low_is, e.high_is, le-leb e.low e.high e.order) refl in
     let same : located_of old one ≡ record {
@@ -94,7 +89,7 @@ placed_more units old edits edit rest more placed next one is are found number_i
       stop = e.high;
       text = chars (string_bytes edit.new_text);
     }
-    = λ i. record { number = number_is i; start = low i; stop = high i; text = chars (text_is i) } in
+    = λ i. record { number = number_is i; start = e.low_at i; stop = e.high_at i; text = chars (text_is i) } in
     let all : map (located_of old) next ≡ map (located_of old) placed ++ (record {
       number = length placed;
       start = e.low;
@@ -111,7 +106,7 @@ placed_more units old edits edit rest more placed next one is are found number_i
       lie = subst (All (Lies old)) (sym next_is) (All-push (Lies old) placed one are.lie (record {
         at_start = grind (arith, common_steps, denoted_whole);
         at_stop = grind (arith, common_steps, denoted_whole);
-        order = omega (arith, place_rises old e.low e.high e.order e.within, e.start_is, e.stop_is);
+        order = e.rises;
         utf8 = ap is_utf8 text_is ∙ is_utf8-from_IsUtf8 (string_bytes edit.new_text)
             (IsUtf8-string_bytes edit.new_text);
       }));

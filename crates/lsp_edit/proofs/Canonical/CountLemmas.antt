@@ -1,5 +1,5 @@
 -- Each change adds at most one changed gap, so the canonical batch has no more changes than the batch.
-use Rattle.lsp_edit.proofs.Prelude.{gap_at, ℕ, zero, suc, ◌≡◌, ◌+◌, ◌-◌, ◌≤◌, Bool, true, false, ◌||◌, nat_lt, cond, List, [], ◌∷◌, ◌++◌, length, map, filter, take, drop, Ok, refl, sym, ap, ◌∙◌, subst, arith, append-nil, take-append-drop, drop-drop, le-ltb, lt-ltb, cases_Bool, length-append, length-map, length-reverse, numbers_from, Item, Old, New, plain, ContentChange, items_after, after_changes, meaning, Gap, gaps_from, gaps, is_changed, change_of_gap, canonical, common_steps}
+use Rattle.lsp_edit.proofs.Prelude.{gap_at, ℕ, zero, suc, ◌≡◌, ◌+◌, ◌-◌, ◌≤◌, Bool, true, false, ◌||◌, nat_lt, cond, List, [], ◌∷◌, ◌++◌, length, map, filter, take, drop, Ok, refl, sym, ap, ◌∙◌, subst, arith, append-nil, le-ltb, lt-ltb, length-append, length-map, length-reverse, numbers_from, Item, Old, New, plain, ContentChange, items_after, after_changes, meaning, Gap, gaps_from, gaps, is_changed, change_of_gap, canonical, common_steps, split_between}
 use Rattle.lsp_edit.proofs.Batches.BatchLemmas.{by_range, by_changes}
 
 abbrev one_if : Bool → ℕ
@@ -65,17 +65,10 @@ module _ (size : ℕ) where
       → hunks size false 0 (take start items ++ (map New characters ++ drop stop items))
       ≤ suc (hunks size false 0 items)
   replaced_adds items characters start stop order =
-      let split : take start items ++ drop start items ≡ items = take-append-drop start items in
-      let e : start + (stop - start) ≡ stop = omega arith in
-      let back : drop (stop - start) (drop start items) ≡ drop stop items = drop-drop (stop - start) start items
-      ∙ ap (λ (n : ℕ). drop n items) e in
-      let middle : take (stop - start) (drop start items) ++ drop stop items ≡ drop start items =
-      ap (λ (r : List Item). take (stop - start) (drop start items) ++ r) (sym back) ∙ take-append-drop (stop - start)
-      (drop start items) in
       subst (λ (is : List Item). hunks size false 0 (take start items ++ (map New characters ++ drop stop items))
-      ≤ suc (hunks size false 0 is)) split
-      (one_more false 0 (take start items) (map New characters ++ drop stop items) (drop start items)
-      (λ b l.
+      ≤ suc (hunks size false 0 is)) (split_between items start stop order)
+      (one_more false 0 (take start items) (map New characters ++ drop stop items)
+      (take (stop - start) (drop start items) ++ drop stop items) (λ b l.
       grind (arith, common_steps, put_in, taken_out)))
 
   all_new : (characters : List ℕ) (items : List Item) → hunks size false 0 (map New characters)

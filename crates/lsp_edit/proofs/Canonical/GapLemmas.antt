@@ -2,7 +2,7 @@
 use Rattle.lsp_edit.proofs.Prelude.{ℕ, suc, ◌≡◌, ◌<◌, true, false, nat_lt, List, [], ◌∷◌, ◌++◌, length, refl, arith, ltb-true, or_cases, splits_crlf, splits_none_past, Item, Old, New, gaps_from, gaps, is_changed, Keeps, gap_at, AllHaveExactEnds, common_steps}
 
 -- Both ends of a changed gap split no CRLF, where the items keep each CRLF whole.
-ends_from : (old : List ℕ) (low : ℕ) (text : List ℕ) (items : List Item)
+pub ends_from : (old : List ℕ) (low : ℕ) (text : List ℕ) (items : List Item)
     → (0 < length text → splits_crlf old low ≡ false) → Keeps old low items
     → AllHaveExactEnds old (gaps_from low (length old) text items)
 ends_from old low text [] whole keeps = grind (arith, common_steps, splits_none_past)

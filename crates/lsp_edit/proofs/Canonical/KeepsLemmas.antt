@@ -1,5 +1,5 @@
 -- What a batch means keeps both characters of each CRLF of the old text, or neither.
-use Rattle.lsp_edit.proofs.Prelude.{ℕ, zero, suc, ◌≡◌, ◌+◌, ◌-◌, ◌≤◌, true, false, List, [], ◌∷◌, ◌++◌, length, map, take, drop, Ok, inl, inr, refl, sym, subst, arith, take-append-drop, take-add, length-take-le, length-map, numbers_from, splits_crlf, splits_none_past, Item, Old, New, plain, character_of, text_of, ContentChange, items_after, after_changes, meaning, Keeps, common_steps}
+use Rattle.lsp_edit.proofs.Prelude.{ℕ, zero, suc, ◌≡◌, ◌+◌, ◌-◌, ◌≤◌, false, List, [], ◌∷◌, ◌++◌, length, map, take, drop, Ok, inl, inr, refl, sym, subst, arith, take-append-drop, take-add, length-take-le, length-map, numbers_from, splits_crlf, splits_none_past, Item, Old, New, plain, character_of, text_of, ContentChange, items_after, after_changes, meaning, Keeps, common_steps, split_between, ◌∙◌, ap}
 use Rattle.lsp_edit.proofs.Batches.BatchLemmas.{by_range, by_changes}
 
 -- The index behind the last kept character, where that before the items was `low`.
@@ -35,6 +35,12 @@ module _ (old : List ℕ) where
       → Keeps old low items → Keeps old low (map New characters ++ items)
   new_keeps low [] items whole k = k
   new_keeps low (c ∷ characters) items whole k = (whole, new_keeps low characters items whole k)
+
+  pub row_rest : (low count : ℕ) (items : List Item) → Keeps old low (map Old (numbers_from low count) ++ items)
+      → Keeps old (low + count) items
+  row_rest low zero items k = let e : low ≡ low + 0 = omega arith in subst (λ (n : ℕ). Keeps old n items) e k
+  row_rest low (suc count) items k = let e : suc low + count ≡ low + suc count = omega arith in
+      subst (λ (n : ℕ). Keeps old n items) e (row_rest (suc low) count items k.3)
 
   pub only_new_keeps : (characters : List ℕ) → Keeps old 0 (map New characters)
   only_new_keeps [] = (omega arith, refl)
@@ -92,36 +98,24 @@ module _ (old : List ℕ) where
       → stop ≤ length items → splits_crlf (text_of old items) start ≡ false → splits_crlf (text_of old items) stop
       ≡ false → Keeps old 0 (take start items ++ (map New characters ++ drop stop items))
   replaced_keeps items characters start stop keeps order within start_whole stop_whole =
-      other_rest_keeps 0 (take start items) (drop start items) (map New characters ++ drop stop items) split_start
-      (new_keeps (after 0 (take start items)) characters (drop stop items) low_whole
-      (keeps_from_lower (after 0 (take start items)) (after 0 (take stop items)) (drop stop items) rises low_whole
-      high_whole (rest_keeps 0 (take stop items) (drop stop items) split_stop)))
-    where
-      split_start : Keeps old 0 (take start items ++ drop start items)
-      split_start = subst (Keeps old 0) (sym (take-append-drop start items)) keeps
-
-      split_stop : Keeps old 0 (take stop items ++ drop stop items)
-      split_stop = subst (Keeps old 0) (sym (take-append-drop stop items)) keeps
-
-      low_whole : splits_crlf old (after 0 (take start items)) ≡ false
-      low_whole = index_whole items start keeps (omega arith) start_whole
-
-      high_whole : splits_crlf old (after 0 (take stop items)) ≡ false
-      high_whole = index_whole items stop keeps within stop_whole
-
-      middle : take stop items ≡ take start items ++ take (stop - start) (drop start items)
-      middle = let e : start + (stop - start) ≡ stop = omega arith in rw e at (take-add start (stop - start) items)
-
-      rest_split : take (stop - start) (drop start items) ++ drop (stop - start) (drop start items) ≡ drop start items
-      rest_split = take-append-drop (stop - start) (drop start items)
-
-      rises : after 0 (take start items) ≤ after 0 (take stop items)
-      rises =
-          rw (middle, after-append 0 (take start items) (take (stop - start) (drop start items)))
-          (after_later (after 0 (take start items)) (take (stop - start) (drop start items))
-          (drop (stop - start) (drop start items))
-          (subst (Keeps old (after 0 (take start items))) (sym rest_split)
-          (rest_keeps 0 (take start items) (drop start items) split_start)))
+      let front : List Item = take start items in
+      let middle : List Item = take (stop - start) (drop start items) in
+      let back : List Item = drop stop items in
+      let split : Keeps old 0 (front ++ (middle ++ back)) =
+      subst (Keeps old 0) (sym (split_between items start stop order)) keeps in
+      let rest : Keeps old (after 0 front) (middle ++ back) = rest_keeps 0 front (middle ++ back) split in
+      let e : start + (stop - start) ≡ stop = omega arith in
+      let last : after 0 (take stop items) ≡ after (after 0 front) middle =
+      ap (after 0) (rw e at (take-add start (stop - start) items)) ∙ after-append 0 front middle in
+      let low_whole : splits_crlf old (after 0 front) ≡ false =
+      index_whole items start keeps (omega arith) start_whole in
+      let high_whole : splits_crlf old (after (after 0 front) middle) ≡ false =
+      subst (λ (n : ℕ). splits_crlf old n ≡ false) last (index_whole items stop keeps within stop_whole) in
+      other_rest_keeps 0 front (middle ++ back) (map New characters ++ back) split
+      (new_keeps (after 0 front) characters back low_whole
+      (keeps_from_lower (after 0 front) (after (after 0 front) middle) back
+      (after_later (after 0 front) middle back rest) low_whole high_whole
+      (rest_keeps (after 0 front) middle back rest)))
 
   -- A change keeps what the items before it keep.
   pub after_change_keeps : (units : ℕ → ℕ) (items next : List Item) (change : ContentChange) → Keeps old 0 items

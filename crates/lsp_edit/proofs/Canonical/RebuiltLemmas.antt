@@ -1,7 +1,7 @@
 -- The canonical batch of items makes them of the old text again, and each of its ranges denotes in the text that it
 -- meets what it
 -- denotes in the old text.
-use Rattle.lsp_edit.proofs.Prelude.{gap_at, change_at, ℕ, zero, suc, ◌≡◌, ◌+◌, ◌-◌, ◌≤◌, true, false, nat_lt, cond, List, [], ◌∷◌, ◌++◌, length, map, reverse, filter, take, drop, slice_index, Some, Ok, ⊎_elim, refl, sym, ap, ◌∙◌, subst, arith, append_assoc, append-nil, take_at, drop_at, take-take, drop-cons, length-take-le, le-leb, cases_Bool, cases_eq, or_parts, ltb-false, nil_from_length, get_or-append-add, map-append, length-map, length-append, get_or_past, reverse-append, numbers_from, splits_crlf, exact_position, denoted, exact_denotes, Item, Old, New, plain, character_of, text_of, ContentChange, items_after, replaced, Gap, gaps_from, is_changed, change_of_gap, canonical, Keeps, HasExactEnds, AllHaveExactEnds, common_steps}
+use Rattle.lsp_edit.proofs.Prelude.{gap_at, change_at, ℕ, zero, suc, ◌≡◌, ◌+◌, ◌-◌, ◌≤◌, true, false, nat_lt, List, [], ◌∷◌, ◌++◌, length, map, reverse, filter, take, drop, slice_index, Some, Ok, ⊎_elim, refl, sym, ap, ◌∙◌, subst, arith, append_assoc, append-nil, take_at, drop_at, take-take, drop-cons, length-take-le, le-leb, cases_Bool, cases_eq, or_parts, ltb-false, nil_from_length, get_or-append-add, map-append, length-map, length-append, get_or_past, reverse-append, numbers_from, splits_crlf, exact_position, denoted, exact_denotes, Item, Old, New, plain, character_of, text_of, ContentChange, items_after, replaced, Gap, gaps_from, is_changed, change_of_gap, canonical, Keeps, HasExactEnds, AllHaveExactEnds, common_steps, numbers_split}
 use Rattle.lsp_text.proofs.Positions.NearLemmas.{AgreeBelow, agree_from_take, splits_near, exact_near}
 use Rattle.lsp_edit.proofs.Canonical.GapLemmas.{ends_exact}
 use Rattle.lsp_edit.proofs.Batches.BatchLemmas.{Makes, makes_nothing, makes_joined}
@@ -10,14 +10,12 @@ use Rattle.lsp_edit.proofs.Batches.BatchLemmas.{Makes, makes_nothing, makes_join
 abbrev pub plain_to : ℕ → List Item
 plain_to high = map Old (numbers_from 0 high)
 
-pub numbers-append : (low count more : ℕ) → numbers_from low (count + more) ≡ numbers_from low count ++ numbers_from
-    (low + count) more
-numbers-append low zero more = let e : 0 + more ≡ more = omega arith in let l : low + 0 ≡ low = omega arith in
-    rw (e, l) refl
-numbers-append low (suc count) more =
-    let e : suc count + more ≡ suc (count + more) = omega arith in
-    let l : suc low + count ≡ low + suc count = omega arith in
-    rw e (ap (λ (ks : List ℕ). low ∷ ks) (rw l at (numbers-append (suc low) count more)))
+pub numbers_between : (a b c : ℕ) → a ≤ b → b ≤ c
+    → numbers_from a (c - a) ≡ numbers_from a (b - a) ++ numbers_from b (c - b)
+numbers_between a b c low high =
+    let n : (b - a) + (c - b) ≡ c - a = omega arith in
+    let m : a + (b - a) ≡ b = omega arith in
+    rw (n, m) at (numbers_split a (b - a) (c - b))
 
 pub length-numbers : (low count : ℕ) → length (numbers_from low count) ≡ count
 length-numbers low zero = refl
@@ -30,7 +28,7 @@ plain_to_split : (low high : ℕ) → low ≤ high → plain_to high ≡ plain_t
 plain_to_split low high order =
     let e : low + (high - low) ≡ high = omega arith in
     let n : numbers_from 0 (low + (high - low)) ≡ numbers_from 0 low ++ numbers_from (0 + low) (high - low) =
-    numbers-append 0 low (high - low) in
+    numbers_split 0 low (high - low) in
     let z : 0 + low ≡ low = omega arith in
     let m : numbers_from 0 high ≡ numbers_from 0 low ++ numbers_from low (high - low) = rw (e, z) at n in
     ap (map Old) m ∙ map-append Old (numbers_from 0 low) (numbers_from low (high - low))

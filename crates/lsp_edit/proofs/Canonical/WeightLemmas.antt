@@ -1,12 +1,8 @@
 -- The texts of a canonical batch are together the new characters, so they are no longer than the final text, whatever a
 -- character
 -- weighs.
-use Rattle.lsp_edit.proofs.Prelude.{gap_at, ℕ, suc, ◌≡◌, ◌+◌, ◌≤◌, nat_lt, List, [], ◌∷◌, ◌++◌, length, map, reverse, filter, sum_by, refl, arith, cases_Bool, or_parts, ltb-false, reverse-append, nil_from_length, sum_by-cons, sum_by-append, Item, Old, New, text_of, ContentChange, Gap, gaps_from, gaps, is_changed, change_of_gap, canonical, common_steps}
-
-sum_by-reverse : {X : Type 0} (f : X → ℕ) (xs : List X) → sum_by f (reverse xs) ≡ sum_by f xs
-sum_by-reverse f [] = refl
-sum_by-reverse f (x ∷ xs) =
-    grind (arith, common_steps, reverse, reverse-append, sum_by, sum_by-append, sum_by-cons, (sum_by-reverse f xs))
+use Rattle.lsp_edit.proofs.Prelude.{gap_at, ℕ, suc, ◌≡◌, ◌+◌, ◌≤◌, nat_lt, List, [], ◌∷◌, ◌++◌, length, map, filter, sum_by, refl, arith, cases_Bool, or_parts, ltb-false, nil_from_length, sum_by-cons, sum_by-append, Item, Old, New, text_of, ContentChange, Gap, gaps_from, gaps, is_changed, change_of_gap, canonical, common_steps}
+use Rattle.std.proofs.lemmas.List.Sorted.{sum_by-IsPermutation, IsPermutation-reverse}
 
 module _ (weight : ℕ → ℕ) where
   abbrev gap_weight : Gap → ℕ
@@ -61,7 +57,9 @@ module _ (weight : ℕ → ℕ) where
   no_longer units old items =
       let turned : sum_by change_weight (canonical units old items)
       ≡ sum_by change_weight (map (change_of_gap units old) (filter is_changed (gaps old items))) =
-      sum_by-reverse change_weight (map (change_of_gap units old) (filter is_changed (gaps old items))) in
+      sum_by-IsPermutation change_weight (map (change_of_gap units old) (filter is_changed (gaps old items)))
+      (canonical units old items)
+      (IsPermutation-reverse (map (change_of_gap units old) (filter is_changed (gaps old items)))) in
       let none : sum_by weight [] ≡ 0 = refl in
       omega (
         arith,

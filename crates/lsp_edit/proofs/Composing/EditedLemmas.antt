@@ -1,13 +1,10 @@
 -- The fields of pieces: what they are at first, and what they tell.
-use Rattle.lsp_edit.proofs.Prelude.{ℕ, ◌≡◌, ◌-◌, ◌≤◌, true, false, List, [], ◌∷◌, length, ◌==◌, eqb-true, refl, sym, ap, ap₂, ◌∙◌, subst, arith, append-nil, take_all, encode_utf8_all, ⊎_elim, inr, Result, chars, IsUtf8, cases_Bool, eqb-false, nil_from_length, encodes-chars, is_utf8-from_IsUtf8, IsUtf8-from_is_utf8, chars-nil, chars_from_encodes, IsCharBoundary-start, IsCharBoundary-end, place_of, place_end, plain, text_of, Part, OldPart, index_of, items_of, bytes_of, AreParts, NoneTouch, whole_parts, Keeps, ArePieces, PlainData, edited_text, edited_bytes, places_at, ends_of, IsPlaces, EditFault, Range, common_steps}
+use Rattle.lsp_edit.proofs.Prelude.{ℕ, ◌≡◌, ◌-◌, ◌≤◌, List, length, sym, ap, ap₂, ◌∙◌, subst, arith, append-nil, take_all, encode_utf8_all, ⊎_elim, chars, IsUtf8, nil_from_length, encodes-chars, is_utf8-from_IsUtf8, IsUtf8-from_is_utf8, chars-nil, chars_from_encodes, IsCharBoundary-start, IsCharBoundary-end, place_of, place_end, plain, text_of, Part, index_of, items_of, bytes_of, AreParts, NoneTouch, Keeps, ArePieces, PlainData, edited_text, edited_bytes, common_steps, cases_lt, le-ltb, lt-ltb, old_parts, ◌<◌, []}
 use Rattle.lsp_edit.proofs.Canonical.KeepsLemmas.{plain_keeps}
 use Rattle.lsp_edit.proofs.Canonical.RebuiltLemmas.{text_row}
-use Rattle.lsp_edit.proofs.Parts.IndexLemmas.{index_of-place}
+use Rattle.lsp_edit.proofs.Parts.IndexLemmas.{index_of-place, index_first}
 use Rattle.lsp_edit.proofs.Parts.CutPartsLemmas.{parts_bytes}
-
-pub index_first : (text : List ℕ) → index_of text 0 ≡ 0
-index_first [] = refl
-index_first (c ∷ text) = refl
+use Rattle.lsp_edit.proofs.Composing.AppliedLemmas.{seen}
 
 pub index_last : (bytes : List ℕ) → IsUtf8 bytes → index_of (chars bytes) (length bytes) ≡ length (chars bytes)
 index_last bytes utf8 =
@@ -28,23 +25,19 @@ pub record IsWhole (before : List ℕ) (parts : List Part) : Type 0 where
 whole_none : (before : List ℕ) → length before ≡ 0 → IsWhole before []
 whole_none before none = grind (arith, common_steps, nil_from_length, chars-nil)
 
-whole_some : (before : List ℕ) → IsUtf8 before → (length before ≡ 0 → ⊥)
-    → IsWhole before (OldPart 0 (length before) ∷ [])
-whole_some before utf8 some =
+pub whole_is : (before : List ℕ) → IsUtf8 before → IsWhole before (old_parts 0 (length before))
+whole_is before utf8 =
+    ⊎_elim
+    (λ (some : 0 < length before).
     let n : length (chars before) - 0 ≡ length (chars before) = omega arith in
-    record {
-      are = ((omega arith, IsCharBoundary-start before utf8, IsCharBoundary-end before), tt);
+    rw (lt-ltb 0 (length before) some) (record {
+      are = ((some, IsCharBoundary-start before utf8, IsCharBoundary-end before), tt);
       apart = (tt, tt);
       items = grind (arith, common_steps, append-nil, ap₂, index_first, index_last);
       few = omega arith;
-    }
-
-pub whole_is : (before : List ℕ) → IsUtf8 before → IsWhole before (whole_parts before)
-whole_is before utf8 =
-    ⊎_elim
-    (λ (e : (length before == 0) ≡ true). rw e (whole_none before (eqb-true (length before) 0 e)))
-    (λ (e : (length before == 0) ≡ false). rw e (whole_some before utf8 (eqb-false (length before) 0 e)))
-    (cases_Bool (length before == 0))
+    }))
+    (λ (none : length before ≤ 0). rw (le-ltb 0 (length before) none) (whole_none before (omega arith)))
+    (cases_lt 0 (length before))
 
 -- What the fields are at first.
 pub begun : (before : List ℕ) (parts : List Part) → IsUtf8 before → length before ≤ 2147483648 → IsWhole before parts
@@ -65,26 +58,16 @@ pub now_bytes : (before : List ℕ) (parts : List Part) (len changes : ℕ) → 
     → encode_utf8_all (text_of (chars before) (items_of (chars before) parts)) ≡ bytes_of before parts
 now_bytes before parts len changes are = sym (parts_bytes before (IsUtf8-from_is_utf8 before are.utf8) parts are.are)
 
--- The text as it is now: its characters, told by its bytes, and before any change.
-pub now_chars : (before : List ℕ) (parts : List Part) (len changes : ℕ) (bytes : List ℕ)
-    → ArePieces before parts len changes → IsUtf8 bytes → bytes ≡ bytes_of before parts → chars bytes
-    ≡ text_of (chars before) (items_of (chars before) parts)
-now_chars before parts len changes bytes are utf8 same =
-    sym (chars_from_encodes (text_of (chars before) (items_of (chars before) parts)) bytes utf8
-    (now_bytes before parts len changes are ∙ sym same))
+pub bytes_seen : {before : List ℕ} {parts : List Part} {len changes : ℕ} {edited : PlainData}
+    → ArePieces before parts len changes → seen before parts changes ≡ edited → edited_bytes edited ≡ bytes_of before parts
+bytes_seen {before} {parts} {len} {changes} are view =
+    sym (ap edited_bytes view) ∙ now_bytes before parts len changes are
 
+-- The text before any change.
 pub fresh_chars : (before : List ℕ) (parts : List Part) (len changes : ℕ) → ArePieces before parts len changes → changes
     ≡ 0 → chars before ≡ text_of (chars before) (items_of (chars before) parts)
 fresh_chars before parts len changes are none =
     sym (ap (text_of (chars before)) (are.fresh none) ∙ plain_text (chars before))
-
--- What a call told of the fields, told of what callers see.
-pub places_told : (units : ℕ → ℕ) (range : Range) (answer : Result (ℕ × ℕ) EditFault) (edited : PlainData)
-    (text : List ℕ) (changes : ℕ) → edited.changes ≡ changes → edited_text edited ≡ text
-    → answer ≡ places_at changes text (ends_of units text range)
-    → IsPlaces answer (places_at edited.changes (edited_text edited) (ends_of units (edited_text edited) range))
-places_told units range answer edited text changes count same e =
-    inr (e ∙ ap₂ (λ (n : ℕ) (t : List ℕ). places_at n t (ends_of units t range)) (sym count) (sym same))
 
 -- The bytes of a text before any change.
 pub first_bytes : (before : List ℕ) (edited : PlainData) → IsUtf8 before → edited ≡ record {

@@ -1,25 +1,16 @@
 -- How long a text gets by a batch: each change adds its own text at most.
-use Rattle.lsp_edit.proofs.Prelude.{ℕ, suc, ◌≡◌, ◌+◌, ◌-◌, ◌<◌, ◌≤◌, List, ◌∷◌, ◌++◌, length, map, take, drop, sym, ap, ◌∙◌, subst, arith, drop-drop, encode_utf8_all, Result, Ok, sum_by, string_len, string_bytes, chars, length-append, sum_by-cons, encodes-append, encodes-chars, IsUtf8-string_bytes, Change, Item, text_of, ContentChange, Fault, items_after, after_changes, continue_with, Applied, PlainData, content_change, edited_bytes, common_steps}
+use Rattle.lsp_edit.proofs.Prelude.{ℕ, suc, ◌≡◌, ◌+◌, ◌<◌, ◌≤◌, List, ◌∷◌, ◌++◌, length, map, take, drop, sym, ap, ◌∙◌, arith, encode_utf8_all, Result, Ok, sum_by, string_len, string_bytes, chars, length-append, sum_by-cons, encodes-append, encodes-chars, IsUtf8-string_bytes, Change, Item, text_of, ContentChange, Fault, items_after, after_changes, continue_with, Applied, PlainData, content_change, edited_bytes, common_steps, IsUtf8, meaning, plain, split_between}
 use Rattle.lsp_edit.proofs.Batches.BatchLemmas.{by_range}
 use Rattle.lsp_edit.proofs.Parts.CutLemmas.{text_of-new}
-use Rattle.lsp_edit.proofs.Composing.AppliedLemmas.{bytes_split, text_put}
+use Rattle.lsp_edit.proofs.Composing.AppliedLemmas.{text_put}
+use Rattle.lsp_edit.proofs.Composing.EditedLemmas.{first_bytes}
 
 replaced_longer : (text characters : List ℕ) (a b : ℕ) → a ≤ b
     → length (encode_utf8_all (take a text ++ (characters ++ drop b text))) ≤ length (encode_utf8_all text)
     + length (encode_utf8_all characters)
 replaced_longer text characters a b order =
-    let e : a + (b - a) ≡ b = omega arith in
-    let back : drop (b - a) (drop a text) ≡ drop b text = drop-drop (b - a) a text ∙ ap (λ (n : ℕ). drop n text) e in
-    omega (
-      arith,
-      bytes_split text a,
-      bytes_split (drop a text) (b - a),
-      ap (λ (cs : List ℕ). length (encode_utf8_all cs)) back,
-      ap length (encodes-append (take a text) (characters ++ drop b text)
-          ∙ ap (λ (bs : List ℕ). encode_utf8_all (take a text) ++ bs) (encodes-append characters (drop b text))),
-      length-append (encode_utf8_all (take a text)) (encode_utf8_all characters ++ encode_utf8_all (drop b text)),
-      length-append (encode_utf8_all characters) (encode_utf8_all (drop b text)),
-    )
+    let e = ap (λ (cs : List ℕ). length (encode_utf8_all cs)) (split_between text a b order) in
+    simp (encodes-append, length-append) (omega (arith, simp (encodes-append, length-append) at e))
 
 pub change_longer : (units : ℕ → ℕ) (old : List ℕ) (items next : List Item) (change : ContentChange)
     → items_after units old items change ≡ Ok next → length (encode_utf8_all (text_of old next))
@@ -77,3 +68,14 @@ module _ (units : ℕ → ℕ) (before : List ℕ) (meant : Result (List Item) (
         counted = omega (arith, n, applying.counted);
         room = grind (arith, common_steps, sum_by-cons, string_len, encode_utf8_all);
       }
+
+pub applying_begins : (units : ℕ → ℕ) (before : List ℕ) (changes : List Change) (edited : PlainData) → IsUtf8 before
+    → edited ≡ record { before = chars before; items = plain (chars before); changes = 0 } → length before ≤ 1073741824
+    → sum_by (λ change. string_len change.text) changes ≤ 1073741824
+    → Applying units (chars before) (meaning units (chars before) (map content_change changes)) 0 changes edited
+applying_begins units before changes edited utf8 is size fits = record {
+  left = ap (λ (e : PlainData). after_changes units (chars before) e.changes e.items (map content_change changes)) is;
+  same = ap (λ (e : PlainData). e.before) is;
+  counted = ap (λ (e : PlainData). e.changes) is;
+  room = omega (arith, first_bytes before edited utf8 is);
+}

@@ -1,13 +1,12 @@
 -- What was resolved once, read again.
-use Rattle.lsp_edit.proofs.Prelude.{ℕ, ◌≡◌, ◌+◌, ◌-◌, ◌<◌, ◌≤◌, List, ◌∷◌, length, map, drop, refl, sym, ap, ap₂, ◌∙◌, subst, arith, encode_utf8_all, nat_lt, Some, Result, Ok, Err, cases_Bool, cases_lt, ltb-false, drop_all, replace_range, Encoding, units_in, replaced_length, Change, EditFault, Item, plain, text_of, ContentChange, Fault, items_after, continue_with, ends_of, meaning, canonical, AreEndsIn, AreEndsOf, IsDeltaOf, IsLeft, IsOn, IsPut, bytes_after, delta_encoding, meant_by, put_items, Applied, PlainData, content_change, edited_bytes, edited_text, places_at, IsCanonicalBatch, alone, bytes_left, text_within, HasRange, common_steps}
-use Rattle.std.specs.Str.{IsCharBoundary, IsUtf8, chars}
+use Rattle.lsp_edit.proofs.Prelude.{ℕ, ◌≡◌, ◌+◌, ◌<◌, ◌≤◌, List, ◌∷◌, length, map, drop, refl, sym, ap, ap₂, ◌∙◌, subst, arith, encode_utf8_all, nat_lt, Some, Result, Ok, Err, cases_Bool, cases_lt, ltb-false, drop_all, Encoding, units_in, Change, EditFault, Item, plain, text_of, ContentChange, Fault, items_after, ends_of, meaning, canonical, AreEndsIn, AreEndsOf, IsDeltaOf, IsLeft, IsOn, IsPut, bytes_after, delta_encoding, meant_by, put_items, Applied, PlainData, content_change, edited_bytes, edited_text, places_at, IsCanonicalBatch, alone, bytes_left, text_within, HasRange, common_steps, rest_is}
+use Rattle.std.specs.Str.{IsUtf8, chars}
 use Rattle.lsp_edit.specs.declared.delta.Delta.{Delta}
 use Rattle.lsp_edit.specs.declared.delta.Delta.TheVariants.{Put, Left}
 use Rattle.lsp_edit.proofs.Batches.LawLemmas.{canonical_law, units_some}
-use Rattle.lsp_edit.proofs.Batches.PlainLemmas.{applying_begins}
 use Rattle.lsp_edit.proofs.Composing.EditedLemmas.{first_bytes, plain_text}
-use Rattle.lsp_edit.proofs.Composing.RoomLemmas.{Applying, applying_on}
-use Rattle.lsp_edit.proofs.Deltas.InPlaceLemmas.{range_bytes_left, range_means, range_order, range_start, range_stop}
+use Rattle.lsp_edit.proofs.Composing.RoomLemmas.{applying_begins, Applying, applying_on}
+use Rattle.lsp_edit.proofs.Deltas.InPlaceLemmas.{IsInPlace, in_place, range_means}
 
 -- A text that is within a limit is what a batch leaves.
 pub record IsWithin (before : List ℕ) (meant : Result (List Item) (ℕ × Fault)) (left : List ℕ) : Type 0 where
@@ -26,17 +25,8 @@ within_fits max_len before (Err fault) left e = absurd (cc)
 within_fits max_len before (Ok items) left e = grind (arith, common_steps, nat_lt, ltb-false, cases_Bool)
 
 module _ (units : ℕ → ℕ) (before : List ℕ) (start stop : ℕ) (new : List ℕ) (p : IsPut units before start stop new) where
-  pub put_order : start ≤ stop
-  put_order = range_order units before p.utf8 p.range new p.new_utf8 start stop p.places
-
-  pub put_start : IsCharBoundary before start
-  put_start = range_start units before p.utf8 p.range new p.new_utf8 start stop p.places
-
-  pub put_stop : IsCharBoundary before stop
-  put_stop = range_stop units before p.utf8 p.range new p.new_utf8 start stop p.places
-
-  pub put_len : length (replace_range before start stop new) ≡ length before - (stop - start) + length new
-  put_len = replaced_length before new start stop put_order put_stop.0
+  pub put_in : IsInPlace units before p.range new start stop
+  put_in = in_place units before p.utf8 p.range new p.new_utf8 start stop p.places
 
   -- What callers see of pieces of the text before any change.
   module _ (edited : PlainData)
@@ -62,21 +52,21 @@ module _ (units : ℕ → ℕ) (before : List ℕ) (start stop : ℕ) (new : Lis
           range = Some p.range;
           text = chars new;
         }) ≡ Ok next.items) is applied.changed in
-        let all : meaning units (chars before) (alone p.range new) ≡ Ok next.items =
-        ap (continue_with (λ items. Ok items) 0) made in
-        let means : meaning units (chars before) (alone p.range new) ≡ Ok (put_items before start stop new) =
-        range_means units before p.utf8 p.range new p.new_utf8 start stop p.places in
-        let same : Ok next.items ≡ Ok (put_items before start stop new) = sym all ∙ means in
+        let same : Ok next.items ≡ Ok (put_items before start stop new) = sym made ∙ put_in.made in
         (applied.same ∙ ap (λ (e : PlainData). e.before) is, cc)
 
-  pub put_bytes : bytes_left before (put_items before start stop new) ≡ replace_range before start stop new
-  put_bytes = range_bytes_left units before p.utf8 p.range new p.new_utf8 start stop p.places
-
--- The bytes of pieces with these items.
-pub left_bytes : (before left : List ℕ) (items : List Item) (edited : PlainData) → edited.before ≡ chars before
-    → edited.items ≡ items → bytes_left before items ≡ left → edited_bytes edited ≡ left
-left_bytes before left items edited old_is items_are is =
-    ap₂ (λ (old : List ℕ) (made : List Item). encode_utf8_all (text_of old made)) old_is items_are ∙ is
+-- The bytes of pieces that are a delta.
+pub pieces_bytes : (before : List ℕ) (delta : Delta) (edited : PlainData) → IsOn before delta
+    → edited.before ≡ chars before → meant_by before delta ≡ Ok edited.items
+    → edited_bytes edited ≡ bytes_after before delta
+pieces_bytes before (Put put) edited on same means =
+    let is : edited.items ≡ put_items before put.start put.stop put.new.now = cc in
+    ap₂ (λ (old : List ℕ) (made : List Item). encode_utf8_all (text_of old made)) same is
+    ∙ (put_in (units_in put.encoding) before put.start put.stop put.new.now on).bytes
+pieces_bytes before (Left left) edited on same means =
+    let both : ◌≡◌ {A = Result (List Item) (ℕ × Fault)} (Ok edited.items) (Ok on.items) = sym means ∙ on.means in
+    let is : edited.items ≡ on.items = cc in
+    ap₂ (λ (old : List ℕ) (made : List Item). encode_utf8_all (text_of old made)) same is ∙ sym on.is
 
 -- A delta means what some batch means.
 pub record HasBatch (before : List ℕ) (delta : Delta) : Type 0 where

@@ -1,11 +1,10 @@
 -- Spans that own their texts, and rows of them over one another.
-use Rattle.lsp_edit.proofs.Prelude.{ℕ, ◌≡◌, ◌+◌, ◌-◌, ◌≤◌, List, [], ◌∷◌, ◌++◌, length, map, take, slice_index_or as get_or, refl, sym, ap, ap₂, ◌∙◌, subst, arith, append_assoc, append-nil, encode_utf8_all, Result, chars, IsUtf8, drop_more, drop_all, map-append, take-append-drop, flat_map-append, encodes-chars, chars-append, IsUtf8-append, IsUtf8-from_is_utf8, is_utf8-from_IsUtf8, IsCharBoundary-start, Layer, Item, New, text_of, Fault, then_items, AllOver, layer_parts, IsOver, items_over, owned_parts, AreSameItems, IsLayer, PlainData, Means, before_bytes, Keeps, Part, OldPart, NewPart, AreParts, Ascend, items_in, items_of, new_parts, AreThrough, through_parts, common_steps}
+use Rattle.lsp_edit.proofs.Prelude.{ℕ, ◌≡◌, ◌-◌, ◌≤◌, List, [], ◌∷◌, ◌++◌, length, map, take, slice_index_or as get_or, refl, sym, ap, ap₂, ◌∙◌, subst, arith, append_assoc, append-nil, encode_utf8_all, Result, chars, IsUtf8, drop_more, drop_all, map-append, take-append-drop, flat_map-append, encodes-chars, chars-append, IsUtf8-append, IsUtf8-from_is_utf8, is_utf8-from_IsUtf8, Layer, Item, New, text_of, Fault, then_items, AllOver, layer_parts, IsOver, items_over, owned_parts, AreSameItems, IsLayer, PlainData, Means, before_bytes, Keeps, Part, OldPart, NewPart, AreParts, Ascend, items_in, items_of, new_parts, AreThrough, through_parts, common_steps, rest_is}
 use Rattle.lsp_edit.specs.declared.joined.layer.OwnedSpan.{OwnedSpan}
 use Rattle.lsp_edit.specs.declared.joined.layer.OwnedSpan.TheVariants.{Old as OldSpan}
-use Rattle.lsp_edit.proofs.Batches.ComposeLemmas.{text_of-then, then_associative, then_keeps}
-use Rattle.lsp_edit.proofs.Composing.EditedLemmas.{index_first}
-use Rattle.lsp_edit.proofs.Parts.PutLemmas.{new_items}
-use Rattle.lsp_edit.proofs.Parts.ThroughLemmas.{are_through, ascending, through_items}
+use Rattle.lsp_edit.proofs.Batches.ComposeLemmas.{text_of-then, then_associative}
+use Rattle.lsp_edit.proofs.Parts.PutLemmas.{are_both, new_items}
+use Rattle.lsp_edit.proofs.Parts.ThroughLemmas.{AreComposed, composed}
 
 -- ---- parts of a text in two lists
 
@@ -14,11 +13,6 @@ pub are_split : (old : List ℕ) (parts more : List Part) → AreParts old (part
 are_split old [] more are = (tt, are)
 are_split old (part ∷ parts) more are = let ih : AreParts old parts × AreParts old more =
     are_split old parts more are.1 in ((are.0, ih.0), ih.1)
-
-pub are_both : (old : List ℕ) (parts more : List Part) → AreParts old parts → AreParts old more
-    → AreParts old (parts ++ more)
-are_both old [] more are were = were
-are_both old (part ∷ parts) more are were = (are.0, are_both old parts more are.1 were)
 
 pub items_both : (old : List ℕ) (parts more : List Part) → items_of (chars old) (parts ++ more)
     ≡ items_of (chars old) parts ++ items_of (chars old) more
@@ -104,38 +98,24 @@ all_both old items (parts ∷ rows) more all others =
 -- parts `second` over the text that `first` leaves
 module _ (old : List ℕ) (items : List Item) (first second : List Part) (a : IsOver old items first)
     (b : IsOver old (then_items items (items_of (text_of old items) first)) second) where
-  pub over : chars b.middle ≡ text_of (chars a.middle) (items_of (chars a.middle) first)
-  over = b.text_is ∙ (text_of-then old items (items_of (text_of old items) first)
-      ∙ ap (λ (t : List ℕ). text_of t (items_of t first)) (sym a.text_is))
-
-  pub over_through : AreThrough first second
-  over_through = are_through a.middle b.middle a.utf8 b.utf8 first a.are over second b.are
-
-  pub over_order : Ascend 0 second
-  over_order =
-      ascending b.middle b.utf8 0 second (IsCharBoundary-start b.middle b.utf8) b.are
-      (subst (λ (n : ℕ). Keeps (chars b.middle) n (items_of (chars b.middle) second))
-      (sym (index_first (chars b.middle))) b.keeps)
+  pub over : AreComposed a.middle b.middle first second
+  over = composed a.kept b.kept (b.text_is ∙ (text_of-then old items (items_of (text_of old items) first)
+      ∙ ap (λ (t : List ℕ). text_of t (items_of t first)) (sym a.text_is)))
 
   module _ (both : List Part) (same : AreSameItems both (through_parts first second)) where
-    through : (items_of (chars a.middle) (through_parts first second) ≡ then_items (items_of (chars a.middle) first)
-        (items_of (chars b.middle) second)) × AreParts a.middle (through_parts first second)
-    through = through_items a.middle b.middle a.utf8 b.utf8 first a.are over second b.are
-
     both_items : items_of (chars a.middle) both ≡ then_items (items_of (chars a.middle) first)
         (items_of (chars b.middle) second)
-    both_items = (same a.middle through.1).1 ∙ through.0
+    both_items = (same a.middle over.kept.are).1 ∙ over.items
 
     pub both_over : IsOver old items both
     both_over = record {
       middle = a.middle;
-      utf8 = a.utf8;
       text_is = a.text_is;
-      are = (same a.middle through.1).0;
-      keeps = subst (Keeps (chars a.middle) 0) (sym both_items)
-          (then_keeps (λ c. 1) (λ c. omega arith) (chars a.middle) (items_of (chars a.middle) first)
-          (items_of (chars b.middle) second) a.keeps
-          (subst (λ (t : List ℕ). Keeps t 0 (items_of (chars b.middle) second)) over b.keeps));
+      kept = record {
+        utf8 = over.kept.utf8;
+        are = (same a.middle over.kept.are).0;
+        keeps = subst (Keeps (chars a.middle) 0) (sym (same a.middle over.kept.are).1) over.kept.keeps;
+      };
     }
 
     pub both_are : then_items items (items_of (text_of old items) both)
@@ -165,11 +145,10 @@ module _ (old : List ℕ) (items : List Item) (layers front : List Layer) (first
   split = all_split old items (map layer_parts front) (layer_parts first ∷ layer_parts second ∷ [])
       (subst (AllOver old items) rows all)
 
-  pub last_through : AreThrough (layer_parts first) (layer_parts second)
-  last_through = over_through old below (layer_parts first) (layer_parts second) split.1.0 split.1.1.0
-
-  pub last_order : Ascend 0 (layer_parts second)
-  last_order = over_order old below (layer_parts first) (layer_parts second) split.1.0 split.1.1.0
+  pub last_through : AreThrough (layer_parts first) (layer_parts second) × Ascend 0 (layer_parts second)
+  last_through =
+      let both = over old below (layer_parts first) (layer_parts second) split.1.0 split.1.1.0 in
+      (both.through, both.order)
 
   module _ (both : Layer)
       (same : AreSameItems (layer_parts both) (through_parts (layer_parts first) (layer_parts second)))

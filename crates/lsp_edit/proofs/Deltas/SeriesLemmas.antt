@@ -1,5 +1,5 @@
 -- A batch that is joined series by series.
-use Rattle.lsp_edit.proofs.Prelude.{ℕ, ◌≡◌, ◌≤◌, List, ◌++◌, length, sym, ap, ◌∙◌, append_assoc, Ok, chars, text_of, ContentChange, meaning, text_within, IsJoined, IsReached, JoinedData, joined_text}
+use Rattle.lsp_edit.proofs.Prelude.{ℕ, ◌≡◌, ◌≤◌, List, ◌++◌, length, sym, ap, ◌∙◌, append_assoc, Ok, chars, text_of, ContentChange, meaning, text_within, IsJoined, IsReached, JoinedData, joined_text, joined}
 use Rattle.lsp_edit.proofs.Batches.ComposeLemmas.{then_means}
 use Rattle.lsp_edit.proofs.Deltas.DeltaLemmas.{within_fits}
 

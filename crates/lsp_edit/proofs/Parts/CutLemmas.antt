@@ -1,14 +1,14 @@
 -- Parts cut at the place of an index: their items are those before it and behind it.
-use Rattle.lsp_edit.proofs.Prelude.{ℕ, ◌≡◌, ◌+◌, ◌-◌, ◌<◌, ◌≤◌, List, [], ◌∷◌, length, map, take, drop, refl, sym, ap, ap₂, ◌∙◌, arith, take_at, drop_at, take-take, length-take-le, encode_utf8_all, IsCharBoundary, chars, IsUtf8, length-map, length-drop, take-map, drop-map, encodes-chars, IsUtf8-take, IsUtf8-drop, IsUtf8-from_is_utf8, is_utf8-from_IsUtf8, chars_from_encodes, place_of, numbers_from, place_end, place_rises, place_add, take_place, drop_place, part_place, place_boundary, place_within, IsIndexAt, index_at, Item, Old, New, character_of, text_of, Part, OldPart, NewPart, index_of, items_in, bytes_in, part_len, IsPartOf, front_part, back_part, IsOrdered, IsCutAt}
-use Rattle.lsp_edit.proofs.Canonical.RebuiltLemmas.{numbers-append, length-numbers, text_row}
-use Rattle.lsp_edit.proofs.Parts.IndexLemmas.{index_found, index_of-place, index_rises}
+use Rattle.lsp_edit.proofs.Prelude.{ℕ, ◌≡◌, ◌+◌, ◌-◌, ◌<◌, ◌≤◌, List, [], ◌∷◌, length, map, take, drop, refl, sym, ap, ◌∙◌, arith, take_at, drop_at, take-take, length-take-le, encode_utf8_all, IsCharBoundary, chars, IsUtf8, length-map, length-drop, take-map, drop-map, encodes-chars, IsUtf8-take, IsUtf8-drop, IsUtf8-from_is_utf8, is_utf8-from_IsUtf8, chars_from_encodes, place_of, numbers_from, place_end, place_rises, place_add, take_place, drop_place, part_place, place_boundary, place_within, Item, Old, New, character_of, text_of, Part, OldPart, NewPart, index_of, items_in, bytes_in, part_len, IsPartOf, front_part, back_part, IsOrdered, IsCutAt, numbers_split}
+use Rattle.lsp_edit.proofs.Canonical.RebuiltLemmas.{length-numbers, text_row}
+use Rattle.lsp_edit.proofs.Parts.IndexLemmas.{index_of-place, index_rises, index_place}
 
 take_numbers : (low count more : ℕ) → take count (numbers_from low (count + more)) ≡ numbers_from low count
-take_numbers low count more = ap (take count) (numbers-append low count more) ∙ take_at (numbers_from low count)
+take_numbers low count more = ap (take count) (numbers_split low count more) ∙ take_at (numbers_from low count)
     (numbers_from (low + count) more) count (length-numbers low count)
 
 drop_numbers : (low count more : ℕ) → drop count (numbers_from low (count + more)) ≡ numbers_from (low + count) more
-drop_numbers low count more = ap (drop count) (numbers-append low count more) ∙ drop_at (numbers_from low count)
+drop_numbers low count more = ap (drop count) (numbers_split low count more) ∙ drop_at (numbers_from low count)
     (numbers_from (low + count) more) count (length-numbers low count)
 
 pub text_of-new : (old characters : List ℕ) → text_of old (map New characters) ≡ characters
@@ -35,42 +35,30 @@ chars_back bytes k utf8 within =
     (IsUtf8-drop bytes (place_of (chars bytes) k) utf8 (place_boundary bytes k utf8 within)) (sym t))
 
 module _ (old : List ℕ) (utf8 : IsUtf8 old) where
+  abbrev count : ℕ → ℕ → ℕ
+  count from to = index_of (chars old) to - index_of (chars old) from
+
   -- A part of the old text, by the indexes of its ends.
   record IsRow (from to : ℕ) : Type 0 where
-    low : ℕ
-    count : ℕ
-    within : low + count ≤ length (chars old)
-    from_is : place_of (chars old) low ≡ from
-    to_is : place_of (chars old) (low + count) ≡ to
-    low_is : index_of (chars old) from ≡ low
-    high_is : index_of (chars old) to ≡ low + count
-    items_are : items_in (chars old) (OldPart from to) ≡ map Old (numbers_from low count)
-    text_is : text_of (chars old) (items_in (chars old) (OldPart from to)) ≡ take count (drop low (chars old))
+    last : index_of (chars old) from + count from to ≡ index_of (chars old) to
+    within : index_of (chars old) from + count from to ≤ length (chars old)
+    from_is : place_of (chars old) (index_of (chars old) from) ≡ from
+    to_is : place_of (chars old) (index_of (chars old) from + count from to) ≡ to
+    text_is : text_of (chars old) (items_in (chars old) (OldPart from to))
+        ≡ take (count from to) (drop (index_of (chars old) from) (chars old))
 
   row_of : (from to : ℕ) → IsPartOf old (OldPart from to) → IsRow from to
   row_of from to is =
-      let a : IsIndexAt old from = index_at old from utf8 is.1 in
-      let b : IsIndexAt old to = index_at old to utf8 is.2 in
-      let at_a : index_of (chars old) from ≡ a.index = index_found old from a in
-      let at_b : index_of (chars old) to ≡ b.index = index_found old to b in
-      let order : index_of (chars old) from ≤ index_of (chars old) to =
-      index_rises (chars old) from to (omega (arith, is.0)) in
-      let n : index_of (chars old) to - index_of (chars old) from ≡ b.index - a.index =
-      ap₂ (λ (x y : ℕ). x - y) at_b at_a in
-      let items : items_in (chars old) (OldPart from to) ≡ map Old (numbers_from a.index (b.index - a.index)) =
-      ap₂ (λ (x y : ℕ). map Old (numbers_from x y)) at_a n in
-      let there : a.index + (b.index - a.index) ≡ b.index = omega (arith, order, at_a, at_b) in
+      let a = index_place old utf8 from is.1 in
+      let b = index_place old utf8 to is.2 in
+      let order = index_rises (chars old) from to (omega (arith, is.0)) in
+      let all : index_of (chars old) from + count from to ≡ index_of (chars old) to = omega arith in
       record {
-        low = a.index;
-        count = b.index - a.index;
-        within = omega (arith, b.within);
-        from_is = a.place_is;
-        to_is = ap (place_of (chars old)) there ∙ b.place_is;
-        low_is = at_a;
-        high_is = at_b ∙ sym there;
-        items_are = items;
-        text_is = ap (text_of (chars old)) items ∙ text_row (chars old) a.index (b.index - a.index)
-            (omega (arith, b.within));
+        last = all;
+        within = omega (arith, b.1);
+        from_is = a.0;
+        to_is = ap (place_of (chars old)) all ∙ b.0;
+        text_is = text_row (chars old) (index_of (chars old) from) (count from to) (omega (arith, b.1));
       }
 
   -- The bytes of a part are those of its items' characters.
@@ -79,18 +67,12 @@ module _ (old : List ℕ) (utf8 : IsUtf8 old) where
   part_bytes (NewPart bytes) is =
       sym (ap encode_utf8_all (text_of-new (chars old) (chars bytes))
       ∙ encodes-chars bytes (IsUtf8-from_is_utf8 bytes is.1))
-  part_bytes (OldPart from to) is = of_row (row_of from to is)
-    where
-      of_row : IsRow from to → take (to - from) (drop from old)
-          ≡ encode_utf8_all (text_of (chars old) (items_in (chars old) (OldPart from to)))
-      of_row r =
-          let e : encode_utf8_all (chars old) ≡ old = encodes-chars old utf8 in
-          let p : take (place_of (chars old) (r.low + r.count) - place_of (chars old) r.low)
-          (drop (place_of (chars old) r.low) (encode_utf8_all (chars old)))
-          ≡ encode_utf8_all (take ((r.low + r.count) - r.low) (drop r.low (chars old)))
-          = part_place (chars old) r.low (r.low + r.count) (omega arith) r.within in
-          let n : (r.low + r.count) - r.low ≡ r.count = omega arith in
-          rw r.text_is (rw (r.from_is, r.to_is, e, n) at p)
+  part_bytes (OldPart from to) is =
+      let r : IsRow from to = row_of from to is in
+      let low : ℕ = index_of (chars old) from in
+      let n : (low + count from to) - low ≡ count from to = omega arith in
+      rw r.text_is (rw (r.from_is, r.to_is, encodes-chars old utf8, n) at
+      (part_place (chars old) low (low + count from to) (omega arith) r.within))
 
   pub part_length : (part : Part) → IsPartOf old part → part_len part
       ≡ length (encode_utf8_all (text_of (chars old) (items_in (chars old) part)))
@@ -101,31 +83,28 @@ module _ (old : List ℕ) (utf8 : IsUtf8 old) where
       sym b ∙ ap length (part_bytes (OldPart from to) is)
 
   -- Where a part of the old text is cut at the place of one of its indexes.
-  record IsRowCut (from to k : ℕ) (row : IsRow from to) : Type 0 where
-    inside : k ≤ row.count
+  record IsRowCut (from to k : ℕ) : Type 0 where
+    inside : k ≤ count from to
     place_is : from + place_of (text_of (chars old) (items_in (chars old) (OldPart from to))) k
-        ≡ place_of (chars old) (row.low + k)
+        ≡ place_of (chars old) (index_of (chars old) from + k)
     cut_is : index_of (chars old) (from + place_of (text_of (chars old) (items_in (chars old) (OldPart from to))) k)
-        ≡ row.low + k
+        ≡ index_of (chars old) from + k
 
-  row_cut : (from to k : ℕ) (row : IsRow from to) → k ≤ length (items_in (chars old) (OldPart from to))
-      → IsRowCut from to k row
+  row_cut : (from to k : ℕ) → IsRow from to → k ≤ length (items_in (chars old) (OldPart from to)) → IsRowCut from to k
   row_cut from to k row within =
-      let n : length (items_in (chars old) (OldPart from to)) ≡ row.count =
-      ap length row.items_are ∙ (length-map (numbers_from row.low row.count) Old ∙ length-numbers row.low row.count) in
-      let in_row : k ≤ row.count = omega arith in
+      let low : ℕ = index_of (chars old) from in
+      let in_row : k ≤ count from to =
+      omega (arith, length-map (numbers_from low (count from to)) Old, length-numbers low (count from to)) in
       let t : place_of (text_of (chars old) (items_in (chars old) (OldPart from to))) k
-      ≡ place_of (take row.count (drop row.low (chars old))) k = ap (λ (cs : List ℕ). place_of cs k) row.text_is in
-      let u : place_of (take row.count (drop row.low (chars old))) k ≡ place_of (drop row.low (chars old)) k =
-      ap (λ (cs : List ℕ). length (encode_utf8_all cs)) (take-take k row.count (drop row.low (chars old)) in_row) in
-      let p : place_of (chars old) (row.low + k) ≡ place_of (chars old) row.low + place_of (drop row.low (chars old))
-      k = place_add (chars old) row.low k in
+      ≡ place_of (take (count from to) (drop low (chars old))) k = ap (λ (cs : List ℕ). place_of cs k) row.text_is in
+      let u : place_of (take (count from to) (drop low (chars old))) k ≡ place_of (drop low (chars old)) k =
+      ap (λ (cs : List ℕ). length (encode_utf8_all cs)) (take-take k (count from to) (drop low (chars old)) in_row) in
       let q : from + place_of (text_of (chars old) (items_in (chars old) (OldPart from to))) k
-      ≡ place_of (chars old) (row.low + k) = omega (arith, t, u, p, row.from_is) in
+      ≡ place_of (chars old) (low + k) = omega (arith, t, u, place_add (chars old) low k, row.from_is) in
       record {
         inside = in_row;
         place_is = q;
-        cut_is = ap (index_of (chars old)) q ∙ index_of-place (chars old) (row.low + k) (omega (arith, row.within));
+        cut_is = ap (index_of (chars old)) q ∙ index_of-place (chars old) (low + k) (omega (arith, row.within));
       }
 
   pub place_above : (text : List ℕ) (k : ℕ) → 0 < k → k ≤ length text → 0 < place_of text k
@@ -174,25 +153,25 @@ module _ (old : List ℕ) (utf8 : IsUtf8 old) where
       })
   part_cut (OldPart from to) k is within =
       let r : IsRow from to = row_of from to is in
-      let c : IsRowCut from to k r = row_cut from to k r within in
+      let c : IsRowCut from to k = row_cut from to k r within in
+      let low : ℕ = index_of (chars old) from in
       let text : List ℕ = text_of (chars old) (items_in (chars old) (OldPart from to)) in
       let long : length text ≡ length (items_in (chars old) (OldPart from to)) =
       text_long (items_in (chars old) (OldPart from to)) in
       let at : IsCharBoundary old (from + place_of text k) =
-      rw c.place_is (place_boundary old (r.low + k) utf8 (omega (arith, r.within, c.inside))) in
-      let n : (r.low + k) - r.low ≡ k = omega arith in
-      let n_back : (r.low + r.count) - (r.low + k) ≡ r.count - k = omega arith in
-      let m : k + (r.count - k) ≡ r.count = omega (arith, c.inside) in
-      let first : take k (numbers_from r.low r.count) ≡ numbers_from r.low k =
-      rw m at (take_numbers r.low k (r.count - k)) in
-      let last : drop k (numbers_from r.low r.count) ≡ numbers_from (r.low + k) (r.count - k) =
-      rw m at (drop_numbers r.low k (r.count - k)) in
+      rw c.place_is (place_boundary old (low + k) utf8 (omega (arith, r.within, c.inside))) in
+      let n : (low + k) - low ≡ k = omega arith in
+      let n_back : index_of (chars old) to - (low + k) ≡ count from to - k = omega (arith, r.last) in
+      let m : k + (count from to - k) ≡ count from to = omega (arith, c.inside) in
       record {
-        front = ap₂ (λ (x y : ℕ). map Old (numbers_from x y)) r.low_is (ap₂ (λ (x y : ℕ). x - y) c.cut_is r.low_is ∙ n)
-            ∙ sym (ap (take k) r.items_are ∙ (take-map Old k (numbers_from r.low r.count) ∙ ap (map Old) first));
-        back = ap₂ (λ (x y : ℕ). map Old (numbers_from x y)) c.cut_is
-            (ap₂ (λ (x y : ℕ). x - y) r.high_is c.cut_is ∙ n_back)
-            ∙ sym (ap (drop k) r.items_are ∙ (drop-map Old k (numbers_from r.low r.count) ∙ ap (map Old) last));
+        front = ap (λ (x : ℕ). map Old (numbers_from low (x - low))) c.cut_is
+            ∙ (ap (λ (x : ℕ). map Old (numbers_from low x)) n
+            ∙ sym (take-map Old k (numbers_from low (count from to))
+            ∙ ap (map Old) (rw m at (take_numbers low k (count from to - k)))));
+        back = ap (λ (x : ℕ). map Old (numbers_from x (index_of (chars old) to - x))) c.cut_is
+            ∙ (ap (λ (x : ℕ). map Old (numbers_from (low + k) x)) n_back
+            ∙ sym (drop-map Old k (numbers_from low (count from to))
+            ∙ ap (map Old) (rw m at (drop_numbers low k (count from to - k)))));
         front_is = λ some. let above : 0 < place_of text k = place_above text k some (omega (arith, long)) in
             (omega arith, is.1, at);
         back_is = λ less. let below : place_of text k < length (encode_utf8_all text) =

@@ -1,15 +1,17 @@
 -- Parts in a row, cut at the place of an index.
-use Rattle.lsp_edit.proofs.Prelude.{ℕ, zero, suc, ◌≡◌, ◌+◌, ◌-◌, ◌<◌, ◌≤◌, List, [], ◌∷◌, ◌++◌, length, take, drop, refl, sym, ap, ap₂, ◌∙◌, subst, arith, append-nil, take_at, drop_at, lt-ltb, le-ltb, ne_eqb, encode_utf8_all, ⊎_elim, chars, IsUtf8, cases_lt, map-append, length-append, take-append-le, drop-append-le, encodes-append, place_of, place_add, Item, text_of, Part, items_in, items_of, bytes_of, part_len, IsPartOf, AreParts, front_part, back_part, front_parts, back_parts, AreCut, common_steps}
+use Rattle.lsp_edit.proofs.Prelude.{ℕ, zero, suc, ◌≡◌, ◌+◌, ◌-◌, ◌<◌, ◌≤◌, List, [], ◌∷◌, ◌++◌, length, take, drop, refl, sym, ap, ap₂, ◌∙◌, subst, arith, append-nil, take_at, drop_at, lt-ltb, le-ltb, ne_eqb, encode_utf8_all, ⊎_elim, chars, IsUtf8, cases_lt, map-append, length-append, take-append-le, drop-append-le, encodes-append, place_of, place_add, Item, text_of, Part, items_in, items_of, bytes_of, part_len, IsPartOf, AreParts, front_part, back_part, front_parts, back_parts, AreCut, common_steps, IsUtf8-between, IsUtf8-from_is_utf8, IsUtf8-nil, NewPart, OldPart, bytes_in, IsUtf8-append}
 use Rattle.lsp_edit.proofs.Parts.CutLemmas.{IsPartCut, part_bytes, part_length, place_above, place_below, text_long, part_cut, part_ordered}
+use Rattle.std.proofs.Math.Seq.{take-append-add, drop-append-add}
 
-take_more : {X : Type 0} (xs ys : List X) (n : ℕ) → take (length xs + n) (xs ++ ys) ≡ xs ++ take n ys
-take_more [] ys n = let e : 0 + n ≡ n = omega arith in rw e refl
-take_more (x ∷ xs) ys n = let e : suc (length xs) + n ≡ suc (length xs + n) = omega arith in
-    rw e (ap (λ zs. x ∷ zs) (take_more xs ys n))
+part_utf8 : (old : List ℕ) → IsUtf8 old → (part : Part) → IsPartOf old part → IsUtf8 (bytes_in old part)
+part_utf8 old utf8 (NewPart bytes) is = IsUtf8-from_is_utf8 bytes is.1
+part_utf8 old utf8 (OldPart from to) is = IsUtf8-between old from to utf8 (omega (arith, is.0)) is.1 is.2
 
-drop_more : {X : Type 0} (xs ys : List X) (n : ℕ) → drop (length xs + n) (xs ++ ys) ≡ drop n ys
-drop_more [] ys n = let e : 0 + n ≡ n = omega arith in rw e refl
-drop_more (x ∷ xs) ys n = let e : suc (length xs) + n ≡ suc (length xs + n) = omega arith in rw e (drop_more xs ys n)
+pub parts_utf8 : (old : List ℕ) → IsUtf8 old → (parts : List Part) → AreParts old parts → IsUtf8 (bytes_of old parts)
+parts_utf8 old utf8 [] are = IsUtf8-nil
+parts_utf8 old utf8 (part ∷ parts) are =
+    IsUtf8-append (bytes_in old part) (bytes_of old parts) (part_utf8 old utf8 part are.0)
+    (parts_utf8 old utf8 parts are.1)
 
 module _ (old : List ℕ) (utf8 : IsUtf8 old) where
   -- The bytes of parts are those of their items' characters.
@@ -120,8 +122,8 @@ module _ (old : List ℕ) (utf8 : IsUtf8 old) where
         (rw (ne_eqb place 0 not_first, le-ltb place (part_len part) (omega arith), left) refl)
         (rw (le-ltb place (part_len part) (omega arith), left) refl)
         (rw at (ap (λ (i : List Item). items_in (chars old) part ++ i) cuts.front
-        ∙ sym (take_more (items_in (chars old) part) (items_of (chars old) parts) k)))
-        (rw at (cuts.back ∙ sym (drop_more (items_in (chars old) part) (items_of (chars old) parts) k)))
+        ∙ sym (take-append-add (items_in (chars old) part) (items_of (chars old) parts) k)))
+        (rw at (cuts.back ∙ sym (drop-append-add (items_in (chars old) part) (items_of (chars old) parts) k)))
         (is, cuts.front_are)
         cuts.back_are
         (part_ordered old utf8 part is, λ l. absurd (omega arith), λ l. rw left cuts.cut)

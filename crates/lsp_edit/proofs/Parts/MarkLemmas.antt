@@ -1,5 +1,5 @@
 -- A place in a row of spans, from which a walk over them goes on.
-use Rattle.lsp_edit.proofs.Prelude.{rest_is, ℕ, zero, suc, ◌≡◌, ◌+◌, ◌<◌, ◌≤◌, List, length, take, drop, slice_index_or as get_or, sum_by, refl, sym, ap, ◌∙◌, subst, arith, take_more, sum_by_push, Span, part_of, parts_of, AreOrdered, EndAfter, IsMark, IsOrdered, span_len, common_steps}
+use Rattle.lsp_edit.proofs.Prelude.{rest_is, ℕ, zero, suc, ◌≡◌, ◌+◌, ◌<◌, ◌≤◌, List, length, take, drop, slice_index_or as get_or, sum_by, refl, sym, ap, ◌∙◌, subst, arith, take_more, sum_by_push, Span, part_of, parts_of, AreOrdered, IsMark, IsOrdered, span_len, common_steps}
 use Rattle.lsp_edit.specs.declared.pieces.span.Span.TheVariants.{Old as OldSpan}
 use Rattle.lsp_edit.proofs.Parts.PassingLemmas.{Passing, drop_ordered, first_ordered, passing_begins, span_passing}
 

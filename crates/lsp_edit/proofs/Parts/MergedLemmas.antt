@@ -1,5 +1,5 @@
 -- Parts of which no two neighbours touch.
-use Rattle.lsp_edit.proofs.Prelude.{arith, common_steps, ℕ, ◌≡◌, ◌-◌, ◌<◌, ◌≤◌, true, false, List, [], ◌∷◌, ◌++◌, length, ◌==◌, refl, append-nil, lt-ltb, le-ltb, ne_eqb, ⊎_elim, cases_eq, cases_lt, cases_Bool, Part, OldPart, NewPart, part_len, new_parts, touch, IsApart, NoneTouch, front_part, back_part, front_parts, back_parts, joined, put_part, put_parts, replaced_parts, through_part, put_through, through_parts}
+use Rattle.lsp_edit.proofs.Prelude.{arith, common_steps, ℕ, ◌≡◌, ◌-◌, false, List, [], ◌∷◌, ◌++◌, refl, append-nil, lt-ltb, le-ltb, ne_eqb, cases_eq, cases_lt, cases_Bool, Part, OldPart, NewPart, part_len, new_parts, touch, IsApart, NoneTouch, front_part, back_part, front_parts, back_parts, joined, put_part, put_parts, replaced_parts, through_part, put_through, through_parts}
 
 -- A part apart from the first of others is apart from what begins where that one does.
 apart_front : (part next : Part) (count : ℕ) → touch part next ≡ false → touch part (front_part next count) ≡ false

@@ -1,5 +1,5 @@
 -- Parts: putting one behind others, and cutting at a place.
-use Rattle.lsp_edit.proofs.Prelude.{ℕ, ◌≡◌, ◌-◌, ◌<◌, ◌≤◌, List, [], ◌∷◌, ◌++◌, refl, sym, ap, ◌∙◌, append_assoc, append-nil, lt-ltb, le-ltb, ne_eqb, map-append, Span, Part, part_of, parts_of, part_len, joined, put_part, front_part, front_parts, IsOrdered, IsCutAt, AreCut}
+use Rattle.lsp_edit.proofs.Prelude.{ℕ, ◌≡◌, List, [], ◌∷◌, ◌++◌, refl, sym, ap, ◌∙◌, append_assoc, append-nil, map-append, Span, Part, part_of, parts_of, joined, put_part, front_parts, AreCut}
 
 put_behind : (parts : List Part) (last part : Part) → put_part (parts ++ last ∷ []) part ≡ parts ++ joined last part
 put_behind [] last part = refl
@@ -24,6 +24,10 @@ put_apart spans last span e =
     ∙ sym (ap (λ (ps : List Part). put_part ps (part_of span)) (map-append part_of spans (last ∷ []))
     ∙ (put_behind (parts_of spans) (part_of last) (part_of span) ∙ ap (λ (ps : List Part). parts_of spans ++ ps) e)))
 
+pub fronts_none : (parts : List Part) → front_parts parts 0 ≡ []
+fronts_none [] = refl
+fronts_none (part ∷ parts) = refl
+
 -- How far the parts before a place were put behind others: what is left to put gives the rest.
 pub record Fronts (made rest : List Part) (left : ℕ) (first parts : List Part) (place : ℕ) : Type 0 where
   pub made_is : made ++ front_parts rest left ≡ first ++ front_parts parts place
@@ -32,9 +36,5 @@ pub record Fronts (made rest : List Part) (left : ℕ) (first parts : List Part)
 module _ (made rest first parts : List Part) (left place : ℕ) (fronts : Fronts made rest left first parts place) where
   pub front_none : left ≡ 0 → made ≡ first ++ front_parts parts place
   front_none e =
-      sym (append-nil made) ∙ (sym (ap (λ (ps : List Part). made ++ ps) (ap (front_parts rest) e ∙ at_start rest))
+      sym (append-nil made) ∙ (sym (ap (λ (ps : List Part). made ++ ps) (ap (front_parts rest) e ∙ fronts_none rest))
       ∙ fronts.made_is)
-    where
-      at_start : (ps : List Part) → front_parts ps 0 ≡ []
-      at_start [] = refl
-      at_start (p ∷ ps) = refl

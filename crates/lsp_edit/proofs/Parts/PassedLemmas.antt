@@ -1,7 +1,7 @@
 -- A walk over parts, which never goes back to those that it passed.
-use Rattle.lsp_edit.proofs.Prelude.{ℕ, suc, ◌≡◌, ◌+◌, ◌-◌, ◌<◌, ◌≤◌, List, [], ◌∷◌, ◌++◌, length, drop, max, refl, sym, ap, ap₂, ◌∙◌, subst, arith, append_assoc, append-nil, lt-ltb, le-ltb, ne_eqb, ⊎_elim, cases_eq, cases_lt, length-drop, new_parts, Part, OldPart, NewPart, part_len, Ascend, EndAfter, first_front, put_first_back, replaced_parts, back_part, front_parts, back_parts, IsCutAt, AreCut, put_part, put_parts, between_parts, put_through, through_parts, AreThrough, ArePassed, common_steps}
+use Rattle.lsp_edit.proofs.Prelude.{ℕ, suc, ◌≡◌, ◌+◌, ◌-◌, ◌<◌, ◌≤◌, List, [], ◌∷◌, ◌++◌, length, drop, max, refl, ap, ap₂, ◌∙◌, arith, append_assoc, append-nil, lt-ltb, le-ltb, ne_eqb, ⊎_elim, cases_eq, cases_lt, length-drop, new_parts, Part, OldPart, NewPart, part_len, Ascend, EndAfter, first_front, put_first_back, replaced_parts, back_part, front_parts, back_parts, IsCutAt, AreCut, put_part, put_parts, between_parts, put_through, through_parts, AreThrough, ArePassed, common_steps}
 use Rattle.lsp_edit.proofs.Parts.PutLemmas.{put_all_few, back_fewer, cut_adds}
-use Rattle.lsp_edit.proofs.Parts.PassingLemmas.{none_passed, passed_later, more_passed}
+use Rattle.lsp_edit.proofs.Parts.PassingLemmas.{passed_later, more_passed}
 
 -- How far parts were told through others: what is left to tell gives the rest, over the parts that were not passed.
 pub record Walks (first second made rest : List Part) (passed : ℕ) (left : List Part) : Type 0 where

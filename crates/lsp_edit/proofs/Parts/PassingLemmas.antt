@@ -1,5 +1,6 @@
 -- Parts that a walk passed, and those that it has before it.
-use Rattle.lsp_edit.proofs.Prelude.{ℕ, zero, suc, ◌≡◌, ◌+◌, ◌-◌, ◌<◌, ◌≤◌, List, [], ◌∷◌, ◌++◌, length, take, drop, slice_index_or as get_or, refl, sym, ap, ap₂, ◌∙◌, subst, arith, append_assoc, take_all, lt-ltb, le-ltb, ne_eqb, ⊎_elim, cases_lt, length-drop, map-append, take_more, IsCharBoundary-end, Part, OldPart, NewPart, part_of, parts_of, part_len, AreBefore, AreOrdered, EndAfter, IsFirstCut, first_front, front_part, front_parts, back_parts, IsOrdered, IsCutAt, AreCut, ArePassed, Span, common_steps}
+use Rattle.lsp_edit.proofs.Prelude.{ℕ, zero, suc, ◌≡◌, ◌+◌, ◌-◌, ◌<◌, ◌≤◌, List, [], ◌∷◌, ◌++◌, length, take, drop, slice_index_or as get_or, ap, ◌∙◌, subst, arith, append_assoc, take_all, lt-ltb, le-ltb, ne_eqb, cases_lt, length-drop, map-append, take_more, IsCharBoundary-end, Part, OldPart, NewPart, part_of, parts_of, part_len, AreBefore, AreOrdered, EndAfter, IsFirstCut, first_front, front_part, front_parts, back_parts, IsOrdered, IsCutAt, AreCut, ArePassed, Span, common_steps}
+use Rattle.lsp_edit.proofs.Parts.PartLemmas.{fronts_none}
 
 pub none_passed : (parts : List Part) → ArePassed parts parts 0 0
 none_passed parts = record {
@@ -105,27 +106,18 @@ ended_behind parts front rest passed place some are before rest_after cut =
         let fits : place - passed ≤ part_len part = omega (arith, b, are.within) in
         let not_first : place - passed ≡ 0 → ⊥ = λ z. omega (arith, are.within) in
         record {
-          front_is = is
-              ∙ ap (λ (fs : List Part). front ++ fs) (
-              ⊎_elim
-              (λ (l : place - passed < part_len part). rw (
-                ne_eqb (place - passed) 0 not_first,
-                lt-ltb (place - passed) (part_len part) l,
-              ) refl)
-              (λ (l : part_len part ≤ place - passed).
-              let e : part_len part ≡ place - passed = omega arith in
-              let z : (place - passed) - part_len part ≡ 0 = omega arith in
-              let w : part ≡ front_part part (place - passed) = sym (front_whole part c.0) ∙ ap (front_part part) e in
-              rw (ne_eqb (place - passed) 0 not_first, le-ltb (place - passed) (part_len part) l, z)
-              (ap₂ (λ (p : Part) (fs : List Part). p ∷ fs) w (none ps)))
-              (cases_lt (place - passed) (part_len part))
-              );
+          front_is = is ∙ ap (λ (fs : List Part). front ++ fs) (grind (
+            arith,
+            common_steps,
+            ne_eqb,
+            lt-ltb,
+            le-ltb,
+            cases_lt,
+            fronts_none,
+            (front_whole part c.0),
+          ));
           cut = cut_to_end part ps (place - passed) c fits;
         }
-      where
-        none : (qs : List Part) → front_parts qs 0 ≡ []
-        none [] = refl
-        none (q ∷ qs) = refl
 
 -- parts passed on the way among those that are left
 pub more_passed : (parts rest left : List Part) (passed on low from : ℕ) → low ≤ from → ArePassed parts rest passed low

@@ -1,6 +1,6 @@
 -- Parts with the bytes between two places replaced: what they stand for, and how many they are.
 use Rattle.lsp_edit.proofs.Prelude.{ℕ, suc, ◌≡◌, ◌+◌, ◌-◌, ◌≤◌, true, false, List, [], ◌∷◌, ◌++◌, length, map, take, drop, ◌==◌, sym, ap, ap₂, ◌∙◌, arith, append_assoc, append-nil, lt-ltb, le-ltb, ne_eqb, eq-eqb, eqb-true, ⊎_elim, chars, IsUtf8, is_utf8, cases_eq, cases_lt, cases_Bool, map-append, length-append, nil_from_length, flat_map-append, chars-nil, place_of, numbers_from, Item, Old, New, text_of, Part, OldPart, NewPart, index_of, items_in, items_of, part_len, IsPartOf, AreParts, new_parts, front_parts, back_parts, joined, put_part, put_parts, replaced_parts, common_steps}
-use Rattle.lsp_edit.proofs.Canonical.RebuiltLemmas.{numbers-append}
+use Rattle.lsp_edit.proofs.Canonical.RebuiltLemmas.{numbers_between}
 use Rattle.lsp_edit.proofs.Parts.IndexLemmas.{index_rises}
 use Rattle.lsp_edit.proofs.Parts.CutPartsLemmas.{AreCutAt, cut_parts}
 
@@ -68,12 +68,7 @@ module _ (old : List ℕ) where
       rows : (a b c : ℕ) → a ≤ b → b ≤ c → map Old (numbers_from a (c - a)) ≡ map Old (numbers_from a (b - a))
           ++ map Old (numbers_from b (c - b))
       rows a b c low high =
-          let n : (b - a) + (c - b) ≡ c - a = omega arith in
-          let m : a + (b - a) ≡ b = omega arith in
-          let r : numbers_from a ((b - a) + (c - b)) ≡ numbers_from a (b - a) ++ numbers_from (a + (b - a)) (c - b) =
-          numbers-append a (b - a) (c - b) in
-          let s : numbers_from a (c - a) ≡ numbers_from a (b - a) ++ numbers_from b (c - b) = rw (n, m) at r in
-          ap (map Old) s ∙ map-append Old (numbers_from a (b - a)) (numbers_from b (c - b))
+          ap (map Old) (numbers_between a b c low high) ∙ map-append Old (numbers_from a (b - a)) (numbers_from b (c - b))
 
       touching : to ≡ next → (to == next) ≡ true → (items_of (chars old) (joined (OldPart from to) (OldPart next end))
           ≡ items_in (chars old) (OldPart from to) ++ items_in (chars old) (OldPart next end))
@@ -97,7 +92,7 @@ module _ (old : List ℕ) where
   put_items (first ∷ second ∷ parts) part are is =
       grind (arith, common_steps, append_assoc, (put_items (second ∷ parts) part are.1 is))
 
-  are_both : (parts more : List Part) → AreParts old parts → AreParts old more → AreParts old (parts ++ more)
+  pub are_both : (parts more : List Part) → AreParts old parts → AreParts old more → AreParts old (parts ++ more)
   are_both [] more are were = were
   are_both (part ∷ parts) more are were = (are.0, are_both parts more are.1 were)
 

@@ -1,10 +1,10 @@
 -- Parts over the text of other parts, told over what those are over.
-use Rattle.lsp_edit.proofs.Prelude.{ℕ, zero, suc, ◌≡◌, ◌+◌, ◌-◌, ◌<◌, ◌≤◌, List, [], ◌∷◌, ◌++◌, length, map, take, drop, sym, ap, ap₂, ◌∙◌, subst, arith, append_assoc, append-nil, IsCharBoundary, chars, IsUtf8, cases_lt, map-append, length-drop, drop-map, place_of, numbers_from, place_add, IsIndexAt, index_at, Item, Old, New, character_of, text_of, item_through, then_items, Keeps, Part, OldPart, NewPart, index_of, items_in, items_of, IsPartOf, AreParts, Ascend, back_parts, put_parts, through_part, put_through, through_parts, IsThrough, AreThrough, common_steps}
-use Rattle.lsp_edit.proofs.Batches.ComposeLemmas.{told_row, told_new}
+use Rattle.lsp_edit.proofs.Prelude.{ℕ, suc, ◌≡◌, ◌+◌, ◌-◌, ◌≤◌, List, [], ◌∷◌, ◌++◌, length, map, take, drop, sym, ap, ap₂, ◌∙◌, subst, arith, append_assoc, append-nil, IsCharBoundary, chars, IsUtf8, cases_lt, map-append, length-drop, drop-map, place_of, numbers_from, place_add, Item, Old, New, character_of, text_of, item_through, then_items, Keeps, Part, OldPart, NewPart, index_of, items_in, items_of, IsPartOf, AreParts, Ascend, back_parts, put_parts, through_part, put_through, through_parts, IsThrough, AreThrough, common_steps, AreKept, IsCharBoundary-start}
+use Rattle.lsp_edit.proofs.Batches.ComposeLemmas.{told_row, told_new, then_keeps}
 use Rattle.lsp_edit.proofs.Parts.CutLemmas.{text_long}
 use Rattle.lsp_edit.proofs.Parts.CutPartsLemmas.{AreCutAt, cut_parts}
-use Rattle.lsp_edit.proofs.Parts.IndexLemmas.{index_found, index_rises, indexes_less}
-use Rattle.lsp_edit.proofs.Canonical.KeepsLemmas.{after, rest_keeps}
+use Rattle.lsp_edit.proofs.Parts.IndexLemmas.{index_rises, indexes_less, index_first, old_row, index_place}
+use Rattle.lsp_edit.proofs.Canonical.KeepsLemmas.{row_rest}
 use Rattle.lsp_edit.proofs.Parts.PutLemmas.{put_all_items}
 
 module _ (old mid : List ℕ) (old_utf8 : IsUtf8 old) (mid_utf8 : IsUtf8 mid) (first : List Part)
@@ -23,39 +23,32 @@ module _ (old mid : List ℕ) (old_utf8 : IsUtf8 old) (mid_utf8 : IsUtf8 mid) (f
     cut = tt;
   }
   told_part (OldPart from to) is =
-      let a : IsIndexAt mid from = index_at mid from mid_utf8 is.1 in
-      let b : IsIndexAt mid to = index_at mid to mid_utf8 is.2 in
+      let a = index_place mid mid_utf8 from is.1 in
+      let b = index_place mid mid_utf8 to is.2 in
+      let low : ℕ = index_of (chars mid) from in
+      let count : ℕ = index_of (chars mid) to - low in
       let items : List Item = items_of (chars old) first in
       let text : List ℕ = text_of (chars old) items in
-      let at_a : index_of (chars mid) from ≡ a.index = index_found mid from a in
-      let at_b : index_of (chars mid) to ≡ b.index = index_found mid to b in
-      let order : index_of (chars mid) from ≤ index_of (chars mid) to =
-      index_rises (chars mid) from to (omega (arith, is.0)) in
+      let order = index_rises (chars mid) from to (omega (arith, is.0)) in
       let long : length (chars mid) ≡ length items = ap length over ∙ text_long old old_utf8 items in
-      let start : place_of text a.index ≡ from = ap (λ (t : List ℕ). place_of t a.index) (sym over) ∙ a.place_is in
-      let cut_a : AreCutAt old old_utf8 first a.index from =
-      subst (AreCutAt old old_utf8 first a.index) start
-      (cut_parts old old_utf8 first a.index are (omega (arith, a.within, long))) in
+      let start : place_of text low ≡ from = ap (λ (t : List ℕ). place_of t low) (sym over) ∙ a.0 in
+      let cut_a : AreCutAt old old_utf8 first low from =
+      subst (AreCutAt old old_utf8 first low) start
+      (cut_parts old old_utf8 first low are (omega (arith, a.1, long))) in
       let rest : List Part = back_parts first from in
-      let count : ℕ = b.index - a.index in
-      let there : a.index + count ≡ b.index = omega (arith, order, at_a, at_b) in
-      let rest_text : text_of (chars old) (items_of (chars old) rest) ≡ drop a.index text =
-      ap (text_of (chars old)) cut_a.back ∙ sym (drop-map (character_of (chars old)) a.index items) in
-      let add : place_of text (a.index + count) ≡ place_of text a.index + place_of (drop a.index text) count =
-      place_add text a.index count in
-      let stop : place_of text (a.index + count) ≡ to = ap₂ (λ (t : List ℕ) (k : ℕ). place_of t k) (sym over) there
-      ∙ b.place_is in
+      let there : low + count ≡ index_of (chars mid) to = omega arith in
+      let rest_text : text_of (chars old) (items_of (chars old) rest) ≡ drop low text =
+      ap (text_of (chars old)) cut_a.back ∙ sym (drop-map (character_of (chars old)) low items) in
+      let stop : place_of text (low + count) ≡ to = ap₂ (λ (t : List ℕ) (k : ℕ). place_of t k) (sym over) there ∙ b.0 in
       let span : place_of (text_of (chars old) (items_of (chars old) rest)) count ≡ to - from =
-      ap (λ (t : List ℕ). place_of t count) rest_text ∙ omega (arith, add, stop, start) in
+      ap (λ (t : List ℕ). place_of t count) rest_text ∙ omega (arith, place_add text low count, stop, start) in
       let fits : count ≤ length (items_of (chars old) rest) =
-      omega (arith, ap length cut_a.back, length-drop a.index items, b.within, long, there) in
+      omega (arith, ap length cut_a.back, length-drop low items, b.1, long, there) in
       let cut_b : AreCutAt old old_utf8 rest count (to - from) =
       subst (AreCutAt old old_utf8 rest count) span (cut_parts old old_utf8 rest count cut_a.back_are fits) in
-      let row : then_items items (items_in (chars mid) (OldPart from to)) ≡ take count (drop a.index items)
-      = ap₂ (λ (x y : ℕ). then_items items (map Old (numbers_from x y))) at_a (ap₂ (λ (x y : ℕ). x - y) at_b at_a)
-      ∙ told_row items a.index count (omega (arith, b.within, long, there)) in
       record {
-        items = cut_b.front ∙ (ap (take count) cut_a.back ∙ sym row);
+        items = cut_b.front ∙ (ap (take count) cut_a.back
+            ∙ sym (told_row items low count (omega (arith, b.1, long, there))));
         parts = cut_b.front_are;
         cut = (omega (arith, is.0), cut_a.cut, cut_b.cut);
       }
@@ -93,10 +86,6 @@ module _ (old mid : List ℕ) (old_utf8 : IsUtf8 old) (mid_utf8 : IsUtf8 mid) (f
   are_through (part ∷ second) are_second = ((told_part part are_second.0).cut, are_through second are_second.1)
 
 -- Parts that keep a text's characters in order have their places in order.
-after_numbers : (first count : ℕ) → after first (map Old (numbers_from first count)) ≡ first + count
-after_numbers first zero = omega arith
-after_numbers first (suc count) = after_numbers (suc first) count ∙ omega arith
-
 module _ (mid : List ℕ) (utf8 : IsUtf8 mid) where
   places_rise : (low high : ℕ) → IsCharBoundary mid low → IsCharBoundary mid high → index_of (chars mid) low
       ≤ index_of (chars mid) high → low ≤ high
@@ -113,34 +102,45 @@ module _ (mid : List ℕ) (utf8 : IsUtf8 mid) where
           (items_of (chars mid) parts)
       new_left [] k = k
       new_left (c ∷ characters) k = new_left characters k.1
-  ascending low (OldPart from to ∷ parts) at_low are keeps = (
-    places_rise low from at_low are.0.1 first_low,
-    omega (arith, are.0.0),
-    ascending to parts are.0.2 are.1 rest,
-  )
-    where
-      less : index_of (chars mid) from < index_of (chars mid) to
-      less = indexes_less mid utf8 from to are.0.1 are.0.2 are.0.0
+  ascending low (OldPart from to ∷ parts) at_low are keeps =
+      let row = old_row mid utf8 from to are.0 in
+      let k : Keeps (chars mid) (index_of (chars mid) low) (Old (index_of (chars mid) from)
+      ∷ (map Old (numbers_from (suc (index_of (chars mid) from)) row.count) ++ items_of (chars mid) parts))
+      = subst (λ (i : List Item). Keeps (chars mid) (index_of (chars mid) low) (i ++ items_of (chars mid) parts))
+      row.items keeps in (
+        places_rise low from at_low are.0.1 k.0,
+        omega (arith, are.0.0),
+        ascending to parts are.0.2 are.1 (subst (λ (n : ℕ). Keeps (chars mid) n (items_of (chars mid) parts)) row.last
+            (row_rest (chars mid) (suc (index_of (chars mid) from)) row.count (items_of (chars mid) parts) k.3)),
+      )
 
-      some : index_of (chars mid) to - index_of (chars mid) from
-          ≡ suc ((index_of (chars mid) to - index_of (chars mid) from) - 1)
-      some = omega (arith, less)
+pub kept_order : {text : List ℕ} {parts : List Part} → AreKept text parts → Ascend 0 parts
+kept_order {text} {parts} k =
+    ascending text k.utf8 0 parts (IsCharBoundary-start text k.utf8) k.are
+    (subst (λ (n : ℕ). Keeps (chars text) n (items_of (chars text) parts)) (sym (index_first (chars text))) k.keeps)
 
-      keeps_row : Keeps (chars mid) (index_of (chars mid) low) (map Old (numbers_from (index_of (chars mid) from)
-          (suc ((index_of (chars mid) to - index_of (chars mid) from) - 1))) ++ items_of (chars mid) parts)
-      keeps_row = subst (λ (n : ℕ). Keeps (chars mid) (index_of (chars mid) low)
-          (map Old (numbers_from (index_of (chars mid) from) n) ++ items_of (chars mid) parts)) some keeps
+-- Parts `second` of the text that `first` leaves, told through `first`.
+pub record AreComposed (old mid : List ℕ) (first second : List Part) : Type 0 where
+  pub through : AreThrough first second
+  pub order : Ascend 0 second
+  pub items : items_of (chars old) (through_parts first second) ≡ then_items (items_of (chars old) first)
+      (items_of (chars mid) second)
+  pub kept : AreKept old (through_parts first second)
 
-      first_low : index_of (chars mid) low ≤ index_of (chars mid) from
-      first_low = keeps_row.0
-
-      rest : Keeps (chars mid) (index_of (chars mid) to) (items_of (chars mid) parts)
-      rest =
-          let k : Keeps (chars mid)
-          (after (index_of (chars mid) from)
-          (map Old (numbers_from (index_of (chars mid) from)
-          (suc ((index_of (chars mid) to - index_of (chars mid) from) - 1))))) (items_of (chars mid) parts)
-          = grind (arith, common_steps, rest_keeps, keeps_row) in
-          subst (λ (n : ℕ). Keeps (chars mid) n (items_of (chars mid) parts))
-          (after_numbers (index_of (chars mid) from) (suc ((index_of (chars mid) to - index_of (chars mid) from) - 1))
-          ∙ omega (arith, less)) k
+pub composed : {old mid : List ℕ} {first second : List Part} → AreKept old first → AreKept mid second
+    → chars mid ≡ text_of (chars old) (items_of (chars old) first) → AreComposed old mid first second
+composed {old} {mid} {first} {second} a b over =
+    let told = through_items old mid a.utf8 b.utf8 first a.are over second b.are in
+    record {
+      through = are_through old mid a.utf8 b.utf8 first a.are over second b.are;
+      order = kept_order b;
+      items = told.0;
+      kept = record {
+        utf8 = a.utf8;
+        are = told.1;
+        keeps = subst (Keeps (chars old) 0) (sym told.0)
+            (then_keeps (λ c. 1) (λ c. omega arith) (chars old) (items_of (chars old) first)
+            (items_of (chars mid) second) a.keeps
+            (subst (λ (t : List ℕ). Keeps t 0 (items_of (chars mid) second)) over b.keeps));
+      };
+    }

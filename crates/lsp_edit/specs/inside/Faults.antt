@@ -1,13 +1,8 @@
 -- What only proofs and private contracts use of `Faults`.
-use Rattle.std.specs.Prelude.{◌≡◌, ◌⊎◌}
+use Rattle.std.specs.Prelude.{◌≡◌}
 use Rattle.lsp_edit.specs.Prelude.{ℕ, List, Result, Ok, Err, Range, EditFault}
-use Rattle.lsp_edit.specs.declared.fault.EditFault.TheVariants.{NoMemory}
 use Rattle.lsp_edit.specs.Batch.{Fault, ends_of}
 use Rattle.lsp_edit.specs.Faults.{fault_at, places_at}
-
--- The answer is the wanted one, or out of memory.
-abbrev pub IsPlaces : Result (ℕ × ℕ) EditFault → Result (ℕ × ℕ) EditFault → Type 0
-IsPlaces answer wanted = (answer ≡ Err NoMemory) ⊎ (answer ≡ wanted)
 
 -- Some range has these ends in a text.
 pub record HasRange (text : List ℕ) (start stop : ℕ) : Type 0 where

@@ -69,9 +69,9 @@ abbrev pub replaced_parts : List Part → ℕ → ℕ → List ℕ → List Part
 replaced_parts parts start stop bytes
     = put_parts (front_parts parts start ++ new_parts bytes) (back_parts parts stop)
 
--- The part of an old text before any change, if it isn't empty.
-abbrev pub whole_parts : List ℕ → List Part
-whole_parts bytes = if length bytes == 0 then [] else OldPart 0 (length bytes) ∷ []
+-- The old text from one byte offset to another, if it isn't empty.
+abbrev pub old_parts : ℕ → ℕ → List Part
+old_parts from to = if nat_lt from to then OldPart from to ∷ [] else []
 
 -- The parts between two byte offsets.
 abbrev pub between_parts : List Part → ℕ → ℕ → List Part

@@ -1,16 +1,16 @@
 -- Text edits with their byte offsets, in the order of their starts. Only proofs and private
 -- contracts use this: `TextEdits` says the same by indexes.
-use Rattle.std.specs.Prelude.{◌≡◌, ◌⊎◌, ◌+◌, ◌<◌, ◌≤◌, if◌then◌else◌, ◌∷◌, ◌++◌, slice_index_or}
-use Rattle.lsp_edit.specs.Prelude.{ℕ, nat_lt, true, List, [], length, map, Result, Ok, Err, chars, is_utf8, TextEdit, TextEditFault, Overlap}
+use Rattle.std.specs.Prelude.{◌≡◌, ◌+◌, ◌<◌, ◌≤◌, ◌∷◌, ◌++◌, slice_index_or}
+use Rattle.lsp_edit.specs.Prelude.{ℕ, true, List, [], length, map, Result, Ok, Err, chars, is_utf8, TextEdit, TextEditFault, Overlap}
 use Rattle.std.specs.List.{All}
 use Rattle.std.specs.Ordering.{nat_cmp}
 use Rattle.std.specs.List.Sorted.{IsPermutation, IsSortedByKey, IsStableByKey}
 use Rattle.lsp_text.specs.LineStarts.{IsPlace}
 use Rattle.lsp_edit.specs.declared.text_edits.Placed.{Placed}
-use Rattle.lsp_edit.specs.declared.text_edits.TextEditFault.TheVariants.{NoMemory}
 use Rattle.lsp_edit.specs.Batch.{Fault}
-use Rattle.lsp_edit.specs.Parts.{Part, OldPart, index_of, new_parts}
-use Rattle.lsp_edit.specs.TextEdits.{HasRangeFault, LocatedEdit, located}
+use Rattle.lsp_edit.specs.Parts.{Part, index_of, new_parts}
+use Rattle.lsp_edit.specs.inside.Parts.{old_parts}
+use Rattle.lsp_edit.specs.TextEdits.{LocatedEdit, located}
 
 -- An edit with byte offsets, by indexes.
 abbrev pub located_of : List ℕ → Placed → LocatedEdit
@@ -55,10 +55,6 @@ abbrev pub AreApart : ℕ → List Placed → Type 0
 AreApart low [] = Unit {0}
 AreApart low (edit ∷ edits) = (low ≤ edit.start) × AreApart edit.stop edits
 
--- The old text from one byte offset to another, if it isn't empty.
-abbrev pub old_parts : ℕ → ℕ → List Part
-old_parts from to = if nat_lt from to then OldPart from to ∷ [] else []
-
 -- What edits leave of the old text from the byte offset `low` on: their texts, and the old text
 -- between them.
 abbrev pub parts_left : ℕ → ℕ → List Placed → List Part
@@ -86,17 +82,3 @@ pub record DoOverlap (ordered : List Placed) (fault : TextEditFault) : Type 0 wh
   pub second_is : slice_index_or ordered (index + 1) second ≡ second
   pub over : second.start < first.stop
   pub error : fault ≡ Overlap first.number second.number
-
--- The same of a list of edits, once they are sorted.
-pub record PlacedOverlap (units : ℕ → ℕ) (old : List ℕ) (edits : List TextEdit)
-    (fault : TextEditFault) : Type 0 where
-  pub placed : List Placed
-  pub ordered : List Placed
-  pub at : ArePlaced units old edits [] placed
-  pub order : IsInOrder placed ordered
-  pub over : DoOverlap ordered fault
-
--- Out of memory, or why edits have no parts: a range is faulty, or two edits overlap.
-abbrev pub IsPlacingFault : (ℕ → ℕ) → List ℕ → List TextEdit → TextEditFault → Type 0
-IsPlacingFault units old edits fault =
-    (fault ≡ NoMemory) ⊎ HasRangeFault units old edits fault ⊎ PlacedOverlap units old edits fault

@@ -22,14 +22,6 @@ use lsp_text::Encoding;
 use std::alloc::{AllocError, Global};
 
 impl IndexedText {
-    /// Copies a text. Costs the copy, and a search through it for its lines.
-    fn from_str(alloc: Global, text: &str) -> Result<Self, AllocError>
-        requires { length text.now ≤ MAX_TEXT }
-        ensures { IfOk result (λ draft. draft ≡ text.now) }
-    {
-        Self::new(alloc, String::from_str(alloc, text)?)
-    }
-
     /// Applies a change (LSP 3.17, TextDocumentContentChangeEvent), and returns the byte offsets of
     /// its range's ends too. `number` is the number of the change that a fault reports.
     fn after(
@@ -49,9 +41,10 @@ impl IndexedText {
     {
         // States that the text is UTF-8.
         let _ = self.len();
+        let alloc = *self.allocator();
         let new = change.text.as_str();
         let range = match change.range {
-            None => return Ok((Self::from_str(*self.allocator(), new)?, (0, 0))),
+            None => return Ok((Self::new(alloc, String::from_str(alloc, new)?)?, (0, 0))),
             Some(range) => range,
         };
         let (start, stop) = ends(self.text(), encoding, range, number)?;
@@ -71,7 +64,7 @@ impl IndexedText {
         let _ = self.len();
         let alloc = *self.allocator();
         match changes {
-            [Change { range: None, .. }, ..] => Self::from_str(alloc, ""),
+            [Change { range: None, .. }, ..] => Self::new(alloc, String::new(alloc)),
             _ => self.clone_in(alloc),
         }
     }

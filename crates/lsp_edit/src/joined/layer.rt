@@ -4,7 +4,7 @@
 //! No clause says how much room a text is given, nor a layer's rank: these are costs, and with
 //! any other `len` or `rank` each clause holds.
 
-ghost use Rattle.std.specs.Prelude.{◌≡◌, IfOk, OnOk, length, string_bytes, ◌++◌};
+ghost use Rattle.std.specs.Prelude.{◌≡◌, IfOk, OnOk, string_bytes, ◌++◌};
 ghost use Rattle.lsp_edit.specs.Layers.{layer_parts, owned_part, owned_parts};
 ghost use Rattle.lsp_edit.specs.inside.Layers.{AreSameItems};
 ghost use Rattle.lsp_edit.specs.Parts.{Ascend, new_parts, part_of, parts_of};
@@ -44,27 +44,6 @@ fn push_new(spans: &mut Vec<OwnedSpan>, text: String) -> Result<(), AllocError>
     Ok(())
 }
 
-/// Copies the texts of spans; neighbouring texts become one. Costs the spans and a copy of their
-/// texts.
-fn owned(alloc: Global, spans: &[Span<'_>]) -> Result<Vec<OwnedSpan>, AllocError>
-    ensures { IfOk result (λ owned. AreSameItems (owned_parts owned.items) (parts_of spans.now)) }
-{
-    let mut owned = Vec::new(alloc);
-    let mut text = String::new(alloc);
-    for span in spans {
-        match *span {
-            Span::Old { from, to } => {
-                let filled = mem::replace(&mut text, String::new(alloc));
-                push_new(&mut owned, filled)?;
-                owned.push(OwnedSpan::Old { from, to })?;
-            }
-            Span::New(new) => text.push_str(new)?,
-        }
-    }
-    push_new(&mut owned, text)?;
-    Ok(owned)
-}
-
 impl OwnedSpan {
     /// Returns a span like this one, whose text is borrowed from it.
     fn borrowed(&self) -> Span<'_>
@@ -81,12 +60,25 @@ impl OwnedSpan {
 }
 
 impl Layer {
-    /// Makes the layer of spans, with their texts copied.
+    /// Makes the layer of spans, with their texts copied; neighbouring texts become one. Costs the
+    /// spans and a copy of their texts.
     pub fn of_spans(alloc: Global, rank: u32, spans: &[Span<'_>]) -> Result<Self, AllocError>
         ensures { IfOk result (λ layer. AreSameItems (layer_parts layer) (parts_of spans.now)) }
     {
-        let spans = owned(alloc, spans)?;
-        Ok(Layer { rank, spans })
+        let mut owned = Vec::new(alloc);
+        let mut text = String::new(alloc);
+        for span in spans {
+            match *span {
+                Span::Old { from, to } => {
+                    let filled = mem::replace(&mut text, String::new(alloc));
+                    push_new(&mut owned, filled)?;
+                    owned.push(OwnedSpan::Old { from, to })?;
+                }
+                Span::New(new) => text.push_str(new)?,
+            }
+        }
+        push_new(&mut owned, text)?;
+        Ok(Layer { rank, spans: owned })
     }
 
     /// Returns the spans with their texts borrowed. Costs one step for each.

@@ -1,46 +1,56 @@
 //! A change of pieces: its places in the current text, and the spans after it.
 
-ghost use Rattle.std.specs.Prelude.{◌≡◌, ◌≢◌, ◌+◌, ◌≤◌, ℕ, IfErr, OnErr, OnOk, Ok, Err, IsOk, Some, None, length, string_len};
+ghost use Rattle.std.specs.Prelude.{◌≡◌, ◌≢◌, ◌+◌, ◌≤◌, ℕ, IfErr, IfOk, OnErr, OnOk, Ok, Err, IsOk, MatchOption, MatchResult, Some, None, length, string_len};
 ghost use Rattle.std.specs.Str.{chars};
 ghost use Rattle.lsp_text.specs.Units.{units_in};
 ghost use Rattle.lsp_edit.specs.declared.fault.EditFault.TheVariants.{NoMemory};
-ghost use Rattle.lsp_edit.specs.Edited.{Applied, content_change, edited_bytes};
-ghost use Rattle.lsp_edit.specs.Edited.{edited_text};
+ghost use Rattle.lsp_edit.specs.Edited.{Applied, content_change, edited_bytes, edited_text};
 ghost use Rattle.lsp_edit.specs.Faults.{IsFaultOfChange, places_at};
 ghost use Rattle.lsp_edit.specs.Batch.{ends_of, items_after};
 ghost use Rattle.lsp_edit.specs.Delta.{AreEndsIn};
-ghost use Rattle.lsp_edit.specs.inside.Faults.{HasRange, IsPlaces};
+ghost use Rattle.lsp_edit.specs.inside.Faults.{HasRange};
 ghost use Rattle.lsp_text.specs.declared.position.Range.{Range};
 
 use crate::change::Change;
 use crate::ends::ends;
 use crate::fault::EditFault;
-use crate::pieces::current::{current_or_new, replaced};
-use crate::pieces::spans::Spans;
 use crate::pieces::{MAX_TEXT, Pieces};
-use lsp_text::{Encoding, Range};
+use lsp_buffer::TextBuffer;
+use lsp_text::Encoding;
 use std::alloc::AllocError;
 
 impl<'a> Pieces<'a> {
-    /// Returns the byte offsets of a range's two ends in the current text. A fault reports the
-    /// number of the change: how many came before.
-    fn places(&mut self, encoding: Encoding, range: Range) -> Result<(usize, usize), EditFault>
+    /// Returns the current text, if it was made already, or else the text of the spans.
+    fn current_or_new(&self, current: Option<TextBuffer>) -> Result<TextBuffer, AllocError>
+        requires { MatchOption current (Unit {0}) (λ text. text ≡ edited_bytes self.now.edited) }
+        ensures { IfOk result (λ current. current ≡ edited_bytes self.now.edited) }
+    {
+        match current {
+            Some(current) => Ok(current),
+            None => TextBuffer::new(self.alloc, self.text()?),
+        }
+    }
+
+    /// Returns the byte offsets of the two ends of a change's range in the current text, if it has
+    /// a range. A fault reports the number of the change: how many came before.
+    fn places(&mut self, encoding: Encoding, change: &Change) -> Result<(usize, usize), EditFault>
         ensures unchanged { self.new ≡ self.old }
         ensures memory { result ≡ Err NoMemory → self.old.edited.changes ≢ 0 }
-        ensures places { IsPlaces result (places_at self.old.edited.changes
-            (edited_text self.old.edited) (ends_of (units_in encoding)
-            (edited_text self.old.edited) range)) }
+        ensures found { MatchResult result
+            (AreEndsIn (units_in encoding) (edited_text self.old.edited)
+            (content_change change.now))
+            (IsFaultOfChange self.old.edited.changes
+            (items_after (units_in encoding) self.old.edited.before self.old.edited.items
+            (content_change change.now))) }
     {
+        let Some(range) = change.range else {
+            return Ok((0, 0));
+        };
         if self.changes == 0 {
             return ends(self.before.get(), encoding, range, 0);
         }
-        let current = current_or_new(
-            self.current.take(),
-            self.alloc,
-            self.before.get(),
-            self.spans.as_slice(),
-            self.len,
-        )?;
+        let current = self.current.take();
+        let current = self.current_or_new(current)?;
         // States that the text is UTF-8.
         let _ = current.len();
         let places = ends(&current, encoding, range, self.changes);
@@ -48,16 +58,18 @@ impl<'a> Pieces<'a> {
         places
     }
 
-    /// Replaces the whole text.
-    fn apply_to_all(&mut self, text: &'a str)
+    /// Replaces the whole text. After an error everything is unchanged.
+    fn apply_to_all(&mut self, text: &'a str) -> Result<(), AllocError>
         requires { length (edited_bytes self.old.edited) + length text.now ≤ MAX_TEXT }
-        ensures { (units : ℕ → ℕ) → Applied units self.old.edited
-            (record { range = None; text = chars text.now }) self.new.edited }
+        ensures applied { OnOk result ((units : ℕ → ℕ) → Applied units self.old.edited
+            (record { range = None; text = chars text.now }) self.new.edited) }
+        ensures unchanged { OnErr result (self.new ≡ self.old) }
     {
-        self.spans = Spans::all_new(self.alloc, text);
+        self.spans.replace_all(text)?;
         self.len = text.len();
         self.current = None;
         self.changes = self.changes.saturating_add(1);
+        Ok(())
     }
 
     /// Replaces the bytes from `start` to `stop` of the current text, which are the ends of a
@@ -74,9 +86,12 @@ impl<'a> Pieces<'a> {
     {
         let current = match self.current.take() {
             None => None,
-            Some(current) => Some(replaced(current, start, stop, text)?),
+            Some(mut current) => {
+                current.replace_range(start, stop, text)?;
+                Some(current)
+            }
         };
-        self.spans.replace(self.alloc, start, stop, text)?;
+        self.spans.replace(start, stop, text)?;
         self.len = self.len - (stop - start) + text.len();
         self.current = current;
         self.changes = self.changes.saturating_add(1);
@@ -100,32 +115,9 @@ impl<'a> Pieces<'a> {
         ensures unchanged { OnErr result (self.new ≡ self.old) }
     {
         match change.range {
-            None => self.apply_to_all(&change.text),
+            None => self.apply_to_all(&change.text)?,
             Some(_) => self.put(ends.0, ends.1, &change.text)?,
         }
-        Ok(())
-    }
-
-    /// Replaces a range by a new text.
-    fn apply_to_range(
-        &mut self,
-        encoding: Encoding,
-        range: Range,
-        text: &'a str,
-    ) -> Result<(), EditFault>
-        requires { length (edited_bytes self.old.edited) + length text.now ≤ MAX_TEXT }
-        ensures applied { OnOk result (Applied (units_in encoding) self.old.edited
-            (record { range = Some range; text = chars text.now }) self.new.edited) }
-        ensures unchanged { OnErr result (self.new ≡ self.old) }
-        ensures error { IfErr result (λ fault. IsFaultOfChange self.old.edited.changes
-            (items_after (units_in encoding) self.old.edited.before self.old.edited.items
-            (record { range = Some range; text = chars text.now })) fault) }
-        ensures memory { result ≡ Err NoMemory → self.old.edited.changes ≡ 0
-            → IsOk (items_after (units_in encoding) self.old.edited.before self.old.edited.items
-            (record { range = Some range; text = chars text.now })) }
-    {
-        let (start, stop) = self.places(encoding, range)?;
-        self.put(start, stop, text)?;
         Ok(())
     }
 
@@ -149,10 +141,8 @@ impl<'a> Pieces<'a> {
             → IsOk (items_after (units_in encoding) self.old.edited.before self.old.edited.items
             (content_change change.now)) }
     {
-        match change.range {
-            None => self.apply_to_all(&change.text),
-            Some(range) => self.apply_to_range(encoding, range, &change.text)?,
-        }
+        let ends = self.places(encoding, change)?;
+        self.put_change(ends, change)?;
         Ok(())
     }
 }

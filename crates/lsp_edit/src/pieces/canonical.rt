@@ -4,10 +4,10 @@ ghost use Rattle.std.specs.Prelude.{◌≡◌, ◌++◌, ◌<◌, ◌⊎◌, ℕ
 ghost use Rattle.std.specs.Str.{chars};
 ghost use Rattle.lsp_text.specs.LineStarts.{IsPlace};
 ghost use Rattle.lsp_text.specs.Units.{units_in};
-ghost use Rattle.lsp_edit.specs.Canonical.{canonical, gaps};
+ghost use Rattle.lsp_edit.specs.Canonical.{canonical};
 ghost use Rattle.lsp_edit.specs.Edited.{content_change};
 ghost use Rattle.lsp_edit.specs.inside.Gaps.{change_at, gap_between};
-ghost use Rattle.lsp_edit.specs.laws.Batches.{AllHaveExactEnds};
+ghost use Rattle.lsp_edit.specs.Keeps.{Keeps};
 ghost use Rattle.lsp_edit.specs.Parts.{AreParts, items_of, parts_of};
 
 use crate::change::Change;
@@ -55,8 +55,8 @@ pub fn canonical_of(
     encoding: Encoding,
 ) -> Result<Vec<Change>, AllocError>
     requires parts { AreParts before.now (parts_of spans.now) }
-    requires ends { AllHaveExactEnds (chars before.now)
-        (gaps (chars before.now) (items_of (chars before.now) (parts_of spans.now))) }
+    requires keeps { Keeps (chars before.now) 0
+        (items_of (chars before.now) (parts_of spans.now)) }
     ensures { IfOk result (λ changes. map content_change changes.items
         ≡ canonical (units_in encoding) (chars before.now)
         (items_of (chars before.now) (parts_of spans.now))) }

@@ -1,11 +1,10 @@
-//! Spans of a text in which some bytes are replaced: at most two spans are cut, and one is
-//! inserted.
+//! What a replacement needs of spans: walks to both of its ends, and the spans between them.
 
-ghost use Rattle.std.specs.Prelude.{◌≡◌, ◌++◌, ◌-◌, ◌≤◌, ◌<◌, ℕ, OnOk, OnErr, IfOk, length, take, drop};
+ghost use Rattle.std.specs.Prelude.{◌≡◌, ◌++◌, ◌-◌, ◌≤◌, ◌<◌, OnOk, IfOk, take, drop};
 ghost use Rattle.lsp_edit.specs.Parts.{new_parts, part_of, parts_of};
-ghost use Rattle.lsp_edit.specs.inside.Parts.{AreBefore, AreCut, AreOrdered, ArePassed, EndAfter, IsFirstCut, IsMark, first_front, front_parts, put_first_back, put_part, replaced_parts};
+ghost use Rattle.lsp_edit.specs.inside.Parts.{AreBefore, AreCut, AreOrdered, ArePassed, EndAfter, IsFirstCut, IsMark, first_front, front_parts, put_first_back, put_part};
 
-use crate::pieces::span::Span;
+use crate::pieces::span::{Span, push_new};
 use std::alloc::{AllocError, Global};
 
 /// Appends a span. Two parts of the old text that touch become one.
@@ -73,7 +72,7 @@ fn back_to(spans: &[Span], index: usize, passed: usize, place: usize) -> (usize,
 
 /// Returns how many spans end at or before the offset `low`, and how many bytes those have. The
 /// walk begins at a span that begins there or before.
-fn passed_by(spans: &[Span], index: usize, passed: usize, low: usize) -> (usize, usize)
+pub fn passed_by(spans: &[Span], index: usize, passed: usize, low: usize) -> (usize, usize)
     requires marked { IsMark spans.now index passed }
     requires order { passed ≤ low }
     requires ordered { AreOrdered (parts_of spans.now) }
@@ -98,7 +97,7 @@ fn passed_by(spans: &[Span], index: usize, passed: usize, low: usize) -> (usize,
 /// Returns how many spans end before an offset, and how many bytes those have. The next span is cut
 /// there, or ends there. The walk begins at the span with this index, which has `passed` bytes
 /// before it.
-fn ended_by(spans: &[Span], index: usize, passed: usize, place: usize) -> (usize, usize)
+pub fn ended_by(spans: &[Span], index: usize, passed: usize, place: usize) -> (usize, usize)
     requires marked { IsMark spans.now index passed }
     requires ordered { AreOrdered (parts_of spans.now) }
     requires cut { AreCut (parts_of spans.now) place }
@@ -120,7 +119,7 @@ fn ended_by(spans: &[Span], index: usize, passed: usize, place: usize) -> (usize
 /// Returns the spans that replace those from the first to the one with the index `last`. They are
 /// what the first has before `start`, the new text, and what the last has after `stop`. Both
 /// offsets are counted from the start of their spans.
-fn between<'a>(
+pub fn between<'a>(
     alloc: Global,
     spans: &[Span<'a>],
     start: usize,
@@ -138,52 +137,9 @@ fn between<'a>(
     if start > 0 && !spans.is_empty() {
         new.push(spans[0].front(start))?;
     }
-    if !text.is_empty() {
-        new.push(Span::New(text))?;
-    }
+    push_new(&mut new, text)?;
     if last < spans.len() {
         put(&mut new, spans[last].back(stop))?;
     }
     Ok(new)
-}
-
-/// Replaces the bytes between two byte offsets by a new text, which adds at most two spans. Out of
-/// memory changes nothing.
-///
-/// Returns the span that is there now, by how many spans come before it and how many bytes those
-/// have. Costs a walk from the span `near`, which has `before` bytes before it, and one move of the
-/// spans that follow.
-pub fn replace<'a>(
-    spans: &mut Vec<Span<'a>>,
-    near: usize,
-    before: usize,
-    start: usize,
-    stop: usize,
-    text: &'a str,
-) -> Result<(usize, usize), AllocError>
-    requires marked { IsMark spans.old.items near before }
-    requires at_start { AreCut (parts_of spans.old.items) start }
-    requires at_stop { AreCut (parts_of spans.old.items) stop }
-    requires order { start ≤ stop }
-    requires ordered { AreOrdered (parts_of spans.old.items) }
-    ensures ok { OnOk result
-        (parts_of spans.new.items ≡ replaced_parts (parts_of spans.old.items) start stop text.now) }
-    ensures marked { IfOk result (λ mark. IsMark spans.new.items mark.0 mark.1) }
-    ensures unchanged { OnErr result (spans.new.items ≡ spans.old.items) }
-{
-    let (first, passed) = ended_by(spans, near, before, start);
-    let rest = &spans[first..];
-    let (last, more) = passed_by(rest, 0, 0, stop - passed);
-    let alloc = *spans.allocator();
-    let new = between(
-        alloc,
-        rest,
-        start - passed,
-        last,
-        stop - passed - more,
-        text,
-    )?;
-    let past = first + rest.len().min(last + 1);
-    let _ = spans.splice(first..past, new)?;
-    Ok((first, passed))
 }

@@ -4,10 +4,10 @@
 //! a move, and `Pieces::spans` could not return them.
 
 ghost use Rattle.std.specs.Prelude.{◌≡◌, ◌≤◌, OnErr, OnOk, length};
-ghost use Rattle.lsp_edit.specs.Parts.{parts_of};
+ghost use Rattle.lsp_edit.specs.Parts.{new_parts, parts_of};
 ghost use Rattle.lsp_edit.specs.inside.Parts.{AreCut, AreOrdered, replaced_parts};
 
-use crate::pieces::replace::replace;
+use crate::pieces::replace::{between, ended_by, passed_by};
 use crate::pieces::span::Span;
 use std::alloc::AllocError;
 use std::marker::Model;
@@ -52,7 +52,23 @@ impl<'a> Row<'a> {
         &self.spans
     }
 
-    /// Replaces the bytes between two byte offsets by a new text. Out of memory changes nothing.
+    /// Replaces all spans by a new text. Out of memory changes nothing.
+    pub fn replace_all(&mut self, text: &'a str) -> Result<(), AllocError>
+        ensures ok { OnOk result (parts_of self.new ≡ new_parts text.now) }
+        ensures unchanged { OnErr result (self.new ≡ self.old) }
+    {
+        self.spans.reserve(1)?;
+        self.spans.truncate(0);
+        self.near = 0;
+        self.before = 0;
+        if !text.is_empty() {
+            self.spans.push_reserved(Span::New(text));
+        }
+        Ok(())
+    }
+
+    /// Replaces the bytes between two byte offsets by a new text, which adds at most two spans. Out
+    /// of memory changes nothing.
     ///
     /// Costs a walk over the spans from the last change to this one, and one move of the spans that
     /// follow.
@@ -66,9 +82,22 @@ impl<'a> Row<'a> {
         ensures few { OnOk result (length self.new ≤ usize.MAX) }
         ensures unchanged { OnErr result (self.new ≡ self.old) }
     {
-        let (near, before) = replace(&mut self.spans, self.near, self.before, start, stop, text)?;
-        self.near = near;
-        self.before = before;
+        let (first, passed) = ended_by(&self.spans, self.near, self.before, start);
+        let rest = &self.spans[first..];
+        let (last, more) = passed_by(rest, 0, 0, stop - passed);
+        let alloc = *self.spans.allocator();
+        let new = between(
+            alloc,
+            rest,
+            start - passed,
+            last,
+            stop - passed - more,
+            text,
+        )?;
+        let past = first + rest.len().min(last + 1);
+        let _ = self.spans.splice(first..past, new)?;
+        self.near = first;
+        self.before = passed;
         Ok(())
     }
 }

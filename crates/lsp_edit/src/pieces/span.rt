@@ -1,11 +1,12 @@
 //! A span: a part of a text after changes, without a copy of its characters.
 
-ghost use Rattle.std.specs.Prelude.{◌≡◌, ◌++◌, ◌≤◌, ◌<◌, ℕ, OnOk, length, string_bytes, MatchOption, ◌∷◌, []};
-ghost use Rattle.lsp_edit.specs.Parts.{IsPartOf, bytes_in, part_len, part_of, parts_of};
-ghost use Rattle.lsp_edit.specs.inside.Parts.{IsCutAt, joined, back_part, front_part, put_part, IsOrdered};
+ghost use Rattle.std.specs.Prelude.{◌≡◌, ◌++◌, IfOk, OnOk, length, string_bytes, MatchOption, ◌∷◌, []};
+ghost use Rattle.std.specs.Str.{IsUtf8};
+ghost use Rattle.lsp_edit.specs.Parts.{IsPartOf, bytes_in, new_parts, part_len, part_of, parts_of};
+ghost use Rattle.lsp_edit.specs.inside.Parts.{IsCutAt, joined, back_part, front_part, IsOrdered, old_parts};
 
 use lsp_buffer::TextBuffer;
-use std::alloc::AllocError;
+use std::alloc::{AllocError, Global};
 
 /// A part of a text after changes. It isn't empty.
 #[derive(Clone, Copy, Debug, PartialEq, Eq)]
@@ -86,4 +87,36 @@ impl<'a> Span<'a> {
             Span::New(text) => out.push_str(text),
         }
     }
+}
+
+/// Appends the old text from one byte offset to another, if it isn't empty.
+pub(crate) fn push_old(spans: &mut Vec<Span>, from: usize, to: usize) -> Result<(), AllocError>
+    ensures { OnOk result
+        (parts_of spans.new.items ≡ parts_of spans.old.items ++ old_parts from to) }
+{
+    if from < to {
+        spans.push(Span::Old { from, to })?;
+    }
+    Ok(())
+}
+
+/// Appends a new text, if it isn't empty.
+pub(crate) fn push_new<'a>(spans: &mut Vec<Span<'a>>, text: &'a str) -> Result<(), AllocError>
+    ensures { OnOk result
+        (parts_of spans.new.items ≡ parts_of spans.old.items ++ new_parts text.now) }
+{
+    if !text.is_empty() {
+        spans.push(Span::New(text))?;
+    }
+    Ok(())
+}
+
+/// Makes the spans of a text before any change, with room for those after one.
+pub(crate) fn whole<'a>(alloc: Global, before: &TextBuffer) -> Result<Vec<Span<'a>>, AllocError>
+    ensures parts { IfOk result (λ spans. parts_of spans.items ≡ old_parts 0 (length before.now)) }
+    ensures utf8 { OnOk result (IsUtf8 before.now) }
+{
+    let mut spans = Vec::with_capacity(alloc, 3)?;
+    push_old(&mut spans, 0, before.len())?;
+    Ok(spans)
 }

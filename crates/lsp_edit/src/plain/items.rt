@@ -1,22 +1,21 @@
 //! Items, characters and gaps, one by one.
 
-ghost use Rattle.std.specs.Prelude.{◌≡◌, ◌+◌, ◌++◌, ◌≤◌, ◌<◌, IfOk, OnOk, Ok, Some, true, IsCharBoundary, map, length, take, drop, string_bytes, encode_utf8_all};
+ghost use Rattle.std.specs.Prelude.{◌≡◌, ◌++◌, ◌≤◌, IfOk, OnOk, map, length, take, drop, string_bytes, encode_utf8_all};
 ghost use Rattle.std.specs.Str.{chars};
-ghost use Rattle.lsp_text.specs.LineStarts.{AreLinesOf};
 ghost use Rattle.lsp_text.specs.TextLines.{numbers_from};
 ghost use Rattle.lsp_text.specs.Units.{units_in};
 ghost use Rattle.lsp_edit.specs.Items.{Old as OldItem, New as NewItem, character_of as spec_character_of, text_of as spec_text_of};
-ghost use Rattle.lsp_edit.specs.Canonical.{canonical as spec_canonical, is_changed};
+ghost use Rattle.lsp_edit.specs.Canonical.{canonical as spec_canonical};
 ghost use Rattle.lsp_edit.specs.Edited.{content_change};
 ghost use Rattle.lsp_edit.specs.Keeps.{Keeps};
-ghost use Rattle.lsp_edit.specs.laws.Batches.{HasExactEnds};
 ghost use Rattle.lsp_edit.specs.Plain.{item_of, items_in_order};
 ghost use Rattle.lsp_edit.specs.inside.Gaps.{change_at, gap_at};
 
 use crate::change::Change;
-use crate::ends::ends;
+use crate::pieces::MAX_TEXT;
 use crate::plain::Item;
-use lsp_text::{Encoding, Lines, Range};
+use lsp_text::plain::exact_position;
+use lsp_text::{Encoding, Range};
 use std::alloc::{AllocError, Global};
 
 /// Returns the characters of a text.
@@ -110,49 +109,27 @@ pub(crate) fn put_between(
     Ok(after)
 }
 
-/// Returns the index of a byte offset: how many characters begin before it.
-pub(crate) fn index_of(alloc: Global, text: &str, place: usize) -> Result<usize, AllocError>
-    requires { IsCharBoundary text.now place }
-    ensures { IfOk result (λ index. index ≡ length (chars (take place text.now))) }
-{
-    let front = characters(alloc, &text[..place])?;
-    Ok(front.len())
-}
-
-/// Returns the byte offset of an index: how many bytes come before it.
-fn place_of(alloc: Global, old: &[char], index: usize) -> Result<usize, AllocError>
-    requires { index ≤ length old.now }
-    ensures { IfOk result (λ place. place ≡ length (encode_utf8_all (take index old.now))) }
-{
-    let front = encoded(alloc, &old[..index])?;
-    Ok(front.len())
-}
-
 /// Appends the change of a gap, if the gap is changed.
 fn put_gap(
     changes: &mut Vec<Change>,
-    before: &str,
-    lines: &Lines,
-    encoding: Encoding,
     old: &[char],
+    encoding: Encoding,
     low: usize,
     high: usize,
     text: &[char],
 ) -> Result<(), AllocError>
-    requires indexed { AreLinesOf lines.now before.now }
-    requires old { old.now ≡ chars before.now }
-    requires ends { is_changed (gap_at low high text.now) ≡ true →
-        HasExactEnds (chars before.now) (gap_at low high text.now) }
+    requires size { length (encode_utf8_all old.now) ≤ MAX_TEXT }
+    requires low { low ≤ length old.now }
+    requires high { high ≤ length old.now }
     ensures { OnOk result (map content_change changes.new.items
         ≡ map content_change changes.old.items
-        ++ change_at (units_in encoding) (chars before.now) (gap_at low high text.now)) }
+        ++ change_at (units_in encoding) old.now (gap_at low high text.now)) }
 {
     if low < high || !text.is_empty() {
-        let alloc = *changes.allocator();
-        let start = lines.position(before, encoding, place_of(alloc, old, low)?);
-        let stop = lines.position(before, encoding, place_of(alloc, old, high)?);
+        let start = exact_position(old, encoding, low);
+        let stop = exact_position(old, encoding, high);
         let range = Some(Range { start, stop });
-        let text = encoded(alloc, text)?;
+        let text = encoded(*changes.allocator(), text)?;
         changes.push(Change { range, text })?;
     }
     Ok(())
@@ -161,18 +138,15 @@ fn put_gap(
 /// Returns the changes of the changed gaps, from the last to the first.
 pub(crate) fn gaps_written(
     alloc: Global,
-    before: &str,
-    lines: &Lines,
-    encoding: Encoding,
     old: &[char],
+    encoding: Encoding,
     items: &[Item],
 ) -> Result<Vec<Change>, AllocError>
-    requires indexed { AreLinesOf lines.now before.now }
-    requires old { old.now ≡ chars before.now }
-    requires keeps { Keeps (chars before.now) 0 (items_in_order items.now) }
+    requires size { length (encode_utf8_all old.now) ≤ MAX_TEXT }
+    requires keeps { Keeps old.now 0 (items_in_order items.now) }
     ensures { IfOk result
         (λ changes. map content_change changes.items
-        ≡ spec_canonical (units_in encoding) (chars before.now) (items_in_order items.now)) }
+        ≡ spec_canonical (units_in encoding) old.now (items_in_order items.now)) }
 {
     let mut changes = Vec::new(alloc);
     let mut low = 0;
@@ -180,15 +154,14 @@ pub(crate) fn gaps_written(
     for item in items {
         match *item {
             Item::Old(high) => {
-                put_gap(&mut changes, before, lines, encoding, old, low, high, &text)?;
+                put_gap(&mut changes, old, encoding, low, high, &text)?;
                 low = high + 1;
                 text = Vec::new(alloc);
             }
             Item::New(character) => text.push(character)?,
         }
     }
-    let end = old.len();
-    put_gap(&mut changes, before, lines, encoding, old, low, end, &text)?;
+    put_gap(&mut changes, old, encoding, low, old.len(), &text)?;
     changes.reverse();
     Ok(changes)
 }

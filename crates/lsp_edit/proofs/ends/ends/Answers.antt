@@ -6,4 +6,4 @@ pub returns : goal.returns
 returns c =
     c.ends_in_order.ensures
     ∙ places_same (units_in c.args.encoding) (chars c.args.text.now) c.args.range c.args.change _ _
-    c.resolve-start.ensures.value c.resolve-stop.ensures.value
+    (c.ok-start.ensures.value ∙ c.resolve.ensures.value) (c.ok-stop.ensures.value ∙ c.resolve-2.ensures.value)

@@ -1,6 +1,5 @@
 use Rattle.lsp_edit.proofs.Prelude.{arith, next_is, units_in}
-use Rattle.lsp_edit.proofs.Batches.PlainLemmas.{applying_begins}
-use Rattle.lsp_edit.proofs.Composing.RoomLemmas.{applying_on}
+use Rattle.lsp_edit.proofs.Composing.RoomLemmas.{applying_begins, applying_on}
 use Rattle.lsp_edit.proofs.plain.compose.Goals as goal
 
 pub loop-change-init : goal.loop-change-init

@@ -1,4 +1,4 @@
-use Rattle.lsp_edit.proofs.Prelude.{List, length, drop, map, subst, ◌∙◌, inr, drop_all, err_from_is_err_and, next_is, chars, units_in, TextEdit, ArePlaced, located_of}
+use Rattle.lsp_edit.proofs.Prelude.{List, length, map, subst, ◌∙◌, inr, drop_all, err_from_is_err_and, next_is, chars, units_in, TextEdit, ArePlaced, located_of}
 use Rattle.lsp_edit.proofs.Batches.TextEditLemmas.{locating_stops, placed_more}
 use Rattle.lsp_edit.proofs.text_edits.place_all.Goals as goal
 

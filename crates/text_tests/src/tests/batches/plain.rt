@@ -18,7 +18,7 @@ const AFTER: &str = "a\r\nQb";
 static CANONICAL: [Edit; 2] = [(2, 0, 2, 0, "Q"), (1, 0, 1, 1, "")];
 
 /// Returns whether a composition leaves `AFTER`, by this canonical batch.
-fn is_left(plain: &Plain<'_>, wanted: &[Change], refused: &mut usize) -> Result<bool, AllocError> {
+fn is_left(plain: &Plain, wanted: &[Change], refused: &mut usize) -> Result<bool, AllocError> {
     let text = again!(refused, AllocError, plain.text())?;
     let canonical = again!(refused, AllocError, plain.canonical(Encoding::Utf16))?;
     Ok(text.as_str() == AFTER && canonical.as_slice() == wanted)

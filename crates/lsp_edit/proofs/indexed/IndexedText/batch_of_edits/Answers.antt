@@ -1,16 +1,15 @@
 use Rattle.lsp_edit.proofs.Prelude.{refl, units_in, chars}
-use Rattle.lsp_edit.proofs.Canonical.GapLemmas.{ends_exact}
 use Rattle.lsp_edit.proofs.Batches.LawLemmas.{units_some}
-use Rattle.lsp_edit.proofs.Batches.LocatedLemmas.{batch_by_indexes, fault_by_indexes, items_keep, located_is, parts_are}
+use Rattle.lsp_edit.proofs.Batches.LocatedLemmas.{batch_by_indexes, items_keep, located_is, parts_are}
 use Rattle.lsp_edit.proofs.indexed.IndexedText.batch_of_edits.Goals as goal
 
 pub canonical_of-requires-clause-parts : goal.canonical_of-requires-clause-parts
 canonical_of-requires-clause-parts c =
     rw c.deref.ensures.value (parts_are _ c.in-Ok.ensures.utf8 _ _ _ c.in-Ok.ensures.are)
 
-pub canonical_of-requires-clause-ends : goal.canonical_of-requires-clause-ends
-canonical_of-requires-clause-ends c =
-    rw c.deref.ensures.value (ends_exact _ _ (items_keep _ c.in-Ok.ensures.utf8 _ _ _ c.in-Ok.ensures.are))
+pub canonical_of-requires-clause-keeps : goal.canonical_of-requires-clause-keeps
+canonical_of-requires-clause-keeps c =
+    rw c.deref.ensures.value (items_keep _ c.in-Ok.ensures.utf8 _ _ _ c.in-Ok.ensures.are)
 
 pub returns-clause-batch : goal.returns-clause-batch
 returns-clause-batch c =
@@ -21,8 +20,7 @@ returns-clause-batch c =
 pub returns-in-Err-clause-error : goal.returns-in-Err-clause-error
 returns-in-Err-clause-error c =
     rw (← c.text-text.ensures)
-    (c.decided_fault.ensures.error (fault_by_indexes (chars c.text-text.result.now) (units_in c.args.encoding)
-    c.args.edits.now _ c.in-Err.ensures.error))
+    (c.decided_fault.ensures.error c.in-Err.ensures.error)
 
 -- Spans are there only of edits whose ranges all lie in the text.
 pub returns-in_err-canonical_of-clause-memory : goal.returns-in_err-canonical_of-clause-memory

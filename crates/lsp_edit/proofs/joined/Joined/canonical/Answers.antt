@@ -1,24 +1,20 @@
 use Rattle.lsp_edit.proofs.Prelude.{refl, rest_is, layer_parts, ap, ◌∙◌, JoinedData, parts_of}
-use Rattle.lsp_edit.proofs.Deltas.LayerLemmas.{folded_next, folded_order, folded_start, folded_through}
-use Rattle.lsp_edit.proofs.Canonical.GapLemmas.{ends_exact}
+use Rattle.lsp_edit.proofs.Deltas.LayerLemmas.{folded_both, folded_next, folded_start}
 use Rattle.lsp_edit.proofs.joined.Joined.canonical.Goals as goal
 
 pub loop-layer-init : goal.loop-layer-init
 loop-layer-init c =
     rw c.deref-layer-items.ensures.value
     (folded_start c.text-text.result.now c.self.inside.before c.self.inside.layers.items _ c.args.self.now
-    c.whole-whole.ensures.utf8 c.text-text.ensures c.self.view_is c.self.invariant
-    (ap parts_of (c.in_ok-spans.ensures.items ∙ c.as_slice.ensures) ∙ c.whole-whole.ensures.parts))
+    c.in_ok-spans.ensures.utf8 c.text-text.ensures c.self.view_is c.self.invariant c.in_ok-spans.ensures.parts)
 
 pub spans_through-requires : goal.spans_through-requires
 spans_through-requires c =
-    let folded = rw (rest_is layer_parts c.deref-layer-items.result.now c.loop-layer.layer-index c.layer-item.result
-    _ c.loop-layer-test.true refl) at c.loop-layer.invariant in record {
-      through = rw (c.deref.ensures.value, c.deref-in-loop-layer.ensures.value, c.in_ok-next.ensures, c.layer-item.is)
-          (folded_through c.args.self.now.before (parts_of c.loop-layer.spans.items) _ _ c.args.self.now.items folded);
-      order = rw (c.deref-in-loop-layer.ensures.value, c.in_ok-next.ensures, c.layer-item.is)
-          (folded_order c.args.self.now.before (parts_of c.loop-layer.spans.items) _ _ c.args.self.now.items folded);
-    }
+    let both = folded_both c.args.self.now.before (parts_of c.loop-layer.spans.items) _ _ c.args.self.now.items
+    (rw (rest_is layer_parts c.deref-layer-items.result.now c.loop-layer.layer-index c.layer-item.result
+    _ c.loop-layer-test.true refl) at c.loop-layer.invariant) in
+    rw (c.deref.ensures.value, c.deref-in-loop-layer.ensures.value, c.in_ok-next.ensures, c.layer-item.is)
+    (record { through = both.through; order = both.order })
 
 pub loop-layer-preserved : goal.loop-layer-preserved
 loop-layer-preserved c =
@@ -29,7 +25,7 @@ loop-layer-preserved c =
     (rw (c.deref.ensures.value, c.deref-in-loop-layer.ensures.value, c.in_ok-next.ensures, c.layer-item.is) at
     c.in_ok-spans-2.ensures)
 
-pub canonical_of-requires-clause-ends : goal.canonical_of-requires-clause-ends
-canonical_of-requires-clause-ends c =
+pub canonical_of-requires-clause-keeps : goal.canonical_of-requires-clause-keeps
+canonical_of-requires-clause-keeps c =
     rw (c.text-text.ensures ∙ ap (λ (j : JoinedData). j.before) c.self.view_is, c.deref-2.ensures.value)
-    (ends_exact _ _ c.loop-layer.invariant.keeps)
+    c.loop-layer.invariant.kept.keeps

@@ -1,5 +1,5 @@
 use Rattle.lsp_edit.proofs.Prelude.{◌∙◌, arith, chars, plain}
-use Rattle.lsp_edit.proofs.Deltas.OwnedLemmas.{last_all, last_same, last_through, last_order, two_last}
+use Rattle.lsp_edit.proofs.Deltas.OwnedLemmas.{last_all, last_same, last_through, two_last}
 use Rattle.lsp_edit.proofs.joined.Joined.join_last.Goals as goal
 
 pub then-requires : goal.then-requires
@@ -8,12 +8,9 @@ then-requires c =
     let two = two_last c.self.inside.layers.items c.len-len.result c.index-first.result.now c.index-second.result.now
     (omega (arith, c.if-len-lt2.false)) (omega (arith, c.len-len.ensures, c.self.inside.layers.ok))
     c.index-first.ensures c.index-second.ensures in
-    record {
-      through = last_through before (plain before) c.self.inside.layers.items _ c.index-first.result.now
-          c.index-second.result.now two c.self.invariant;
-      order = last_order before (plain before) c.self.inside.layers.items _ c.index-first.result.now
-          c.index-second.result.now two c.self.invariant;
-    }
+    let both = last_through before (plain before) c.self.inside.layers.items _ c.index-first.result.now
+    c.index-second.result.now two c.self.invariant in
+    record { through = both.0; order = both.1 }
 
 pub invariant_of-self : goal.invariant_of-self
 invariant_of-self c =

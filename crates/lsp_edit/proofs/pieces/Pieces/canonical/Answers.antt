@@ -1,15 +1,13 @@
-use Rattle.lsp_edit.proofs.Prelude.{units_in, arith, common_steps}
+use Rattle.lsp_edit.proofs.Prelude.{same_edited, units_in, arith, common_steps}
 use Rattle.lsp_edit.proofs.Composing.AppliedLemmas.{keeps_seen}
-use Rattle.lsp_edit.proofs.Canonical.GapLemmas.{ends_exact}
 use Rattle.lsp_edit.proofs.Batches.LawLemmas.{canonical_law, units_some}
 use Rattle.lsp_edit.proofs.Canonical.PairLemmas.{pairs_kept}
 use Rattle.lsp_edit.proofs.Canonical.RebuiltLemmas.{canonical_makes}
-use Rattle.lsp_edit.proofs.Composing.SpannedLemmas.{same_edited}
 use Rattle.lsp_edit.proofs.pieces.Pieces.canonical.Goals as goal
 
-pub canonical_of-requires-clause-ends : goal.canonical_of-requires-clause-ends
-canonical_of-requires-clause-ends c =
-    rw (c.get-before.ensures, c.as_slice.ensures) (ends_exact _ _ c.self.invariant.0.keeps)
+pub canonical_of-requires-clause-keeps : goal.canonical_of-requires-clause-keeps
+canonical_of-requires-clause-keeps c =
+    rw (c.get-before.ensures, c.as_slice.ensures) c.self.invariant.0.keeps
 
 pub returns : goal.returns
 returns c =

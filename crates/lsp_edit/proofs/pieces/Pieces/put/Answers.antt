@@ -1,8 +1,6 @@
-use Rattle.lsp_edit.proofs.Prelude.{ℕ, List, arith, sym, ap, ◌∙◌, replace_range, Part, parts_of, bytes_of, spans_in, IsCurrent, text_before}
-use Rattle.lsp_edit.proofs.Composing.CurrentLemmas.{current_is, current_utf8}
-use Rattle.lsp_edit.proofs.Composing.AppliedLemmas.{ranged, next_told, next_holds}
-use Rattle.lsp_edit.proofs.Composing.SpannedLemmas.{same_edited}
-use Rattle.lsp_edit.proofs.pieces.Pieces.put.Goals.{in-None, in-Some+in_ok-replaced-in-Some}
+use Rattle.lsp_edit.proofs.Prelude.{same_edited, ℕ, List, arith, sym, ap, ◌∙◌, replace_range, Part, parts_of, bytes_of, IsCurrent, text_before}
+use Rattle.lsp_edit.proofs.Composing.AppliedLemmas.{current_is, ranged, next_told, next_holds}
+use Rattle.lsp_edit.proofs.pieces.Pieces.put.Goals.{in-None, in-Some+in_ok-replace_range-in-Some}
 use Rattle.lsp_edit.proofs.pieces.Pieces.put.Goals as goal
 
 pub overflow_sub-self : goal.overflow_sub-self
@@ -13,14 +11,13 @@ overflow_sub-self-2 c =
     let r = ranged c.self.invariant.0 c.self.view_is c.args.text.now c.utf8.text c.requires.room c.requires.ends in
     omega (arith, r.within)
 
-pub replaced-requires : goal.replaced-requires
-replaced-requires c =
+pub replace_range-requires : goal.replace_range-requires
+replace_range-requires c =
     let r = ranged c.self.invariant.0 c.self.view_is c.args.text.now c.utf8.text c.requires.room c.requires.ends in
-    let is = current_is _ _ _ c.self.invariant.1 (sym c.take.ensures.value ∙ c.in-Some.is) in
-    let utf8 = current_utf8 _ _ _ _ c.self.invariant.0 c.in-Some.current is in record {
+    let is = current_is _ _ _ c.self.invariant.1 (sym c.take.ensures.value ∙ c.in-Some.is) in record {
       order = r.order;
-      at_start = r.start_at c.in-Some.current utf8 is;
-      at_stop = r.stop_at c.in-Some.current utf8 is;
+      at_start = r.start_at c.in-Some.current is;
+      at_end = r.stop_at c.in-Some.current is;
       room = r.short c.in-Some.current is;
     }
 
@@ -33,19 +30,19 @@ pub invariant_of-self-2 : goal.invariant_of-self-2
 invariant_of-self-2 c =
     let r = ranged c.self.invariant.0 c.self.view_is c.args.text.now c.utf8.text c.requires.room c.requires.ends in
     let made = c.in_ok-replace.ensures.ok in
-    let current : IsCurrent (bytes_of (text_before c.self.inside.before) (parts_of (spans_in c.replace.new.self)))
+    let current : IsCurrent (bytes_of (text_before c.self.inside.before) (parts_of c.replace.new.self))
     c.match-take.current
     = elim c.match-take.branch [
       | in-None w ↦ rw w.current-is tt
-      | in-Some+in_ok-replaced-in-Some w ↦
+      | in-Some+in_ok-replace_range-in-Some w ↦
           rw w.current-is
-          (w.in_ok-replaced-in-Some.ensures
+          (w.in_ok-replace_range-in-Some.ensures.changed
           ∙ (ap (λ (bytes : List ℕ). replace_range bytes c.args.start c.args.stop c.args.text.now)
           (current_is _ _ _ c.self.invariant.1 (sym c.take.ensures.value ∙ w.in-Some.is))
           ∙ (sym r.bytes ∙ ap (λ (parts : List Part). bytes_of (text_before c.self.inside.before) parts) (sym made))))
     ] in (
       next_holds c.requires.ends.units _ _ _ _ _ _
-          (r.next (spans_in c.replace.new.self) made (omega (arith, c.in_ok-replace.ensures.few))) _ made _
+          (r.next c.replace.new.self made (omega (arith, c.in_ok-replace.ensures.few))) _ made _
           c.saturating_add-self-inside.ensures,
       current,
     )
@@ -56,5 +53,5 @@ returns-clause-applied c = λ units range found.
     c.utf8.text c.requires.room (record { units = units; range = range; ends = found }) in
     let made = c.in_ok-replace.ensures.ok in
     next_told units _ _ _ _ _ _
-    (r.next (spans_in c.replace.new.self) made (omega (arith, c.in_ok-replace.ensures.few))) c.args.self.now.edited
+    (r.next c.replace.new.self made (omega (arith, c.in_ok-replace.ensures.few))) c.args.self.now.edited
     (same_edited c.self.view_is) _ made _ c.saturating_add-self-inside.ensures

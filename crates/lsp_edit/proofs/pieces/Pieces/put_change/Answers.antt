@@ -1,4 +1,4 @@
-use Rattle.lsp_edit.proofs.Prelude.{None, Some, subst, ContentChange, Applied}
+use Rattle.lsp_edit.proofs.Prelude.{Some, None, subst, ContentChange, Applied}
 use Rattle.lsp_edit.proofs.Composing.AppliedLemmas.{edit_is}
 use Rattle.lsp_edit.proofs.pieces.Pieces.put_change.Goals as goal
 
@@ -15,8 +15,8 @@ returns-in_ok-put-in-Some-clause-applied c = λ units are.
     (edit_is c.args.change.now (Some c.in-Some.field-0) _ c.in-Some.is c.deref-in-Some.ensures)
     (c.in_ok-put-in-Some.ensures.applied units c.in-Some.field-0 (are c.in-Some.field-0 c.in-Some.is))
 
-pub returns-in-None-clause-applied : goal.returns-in-None-clause-applied
-returns-in-None-clause-applied c = λ units are.
+pub returns-in_ok-apply_to_all-in-None-clause-applied : goal.returns-in_ok-apply_to_all-in-None-clause-applied
+returns-in_ok-apply_to_all-in-None-clause-applied c = λ units are.
     subst (λ (change : ContentChange). Applied units c.args.self.now.edited change c.apply_to_all.new.self.edited)
     (edit_is c.args.change.now None _ c.in-None.is c.deref.ensures)
-    (c.apply_to_all.ensures units)
+    (c.in_ok-apply_to_all-in-None.ensures.applied units)

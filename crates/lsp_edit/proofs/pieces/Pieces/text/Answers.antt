@@ -1,11 +1,11 @@
-use Rattle.lsp_edit.proofs.Composing.EditedLemmas.{now_bytes}
-use Rattle.lsp_edit.proofs.Composing.SpannedLemmas.{same_edited}
+use Rattle.lsp_edit.proofs.Prelude.{append-nil, arith, common_steps, same_edited}
+use Rattle.lsp_edit.proofs.Composing.EditedLemmas.{bytes_seen}
 use Rattle.lsp_edit.proofs.pieces.Pieces.text.Goals as goal
 
+pub loop-span-init : goal.loop-span-init
+loop-span-init c =
+    rw (c.get-before.ensures, c.as_slice-span-items.ensures) (c.self.invariant.0.are, grind (arith, common_steps))
+
 pub returns : goal.returns
-returns c = rw (
-  ← (same_edited c.self.view_is),
-  now_bytes _ _ _ _ c.self.invariant.0,
-  ← c.as_slice.ensures,
-  ← c.get-before.ensures,
-) c.text_of_spans.ensures
+returns c = rw (bytes_seen c.self.invariant.0 (same_edited c.self.view_is))
+    (grind (arith, common_steps, append-nil, c.get-before.ensures, c.as_slice-span-items.ensures))

@@ -8,7 +8,7 @@ loop-span-init c = rw (
   c.new-changes.ensures.items,
   c.new-text.ensures.bytes,
 ) (walk_begins (units_in c.args.encoding) c.args.before.now c.len-end.ensures.utf8 (parts_of c.args.spans.now)
-    c.requires.parts c.requires.ends)
+    c.requires.parts c.requires.keeps)
 
 pub put_gap-requires-clause-ends : goal.put_gap-requires-clause-ends
 put_gap-requires-clause-ends c =

@@ -1,4 +1,4 @@
-use Rattle.lsp_edit.proofs.Prelude.{◌-◌, arith, common_steps}
+use Rattle.lsp_edit.proofs.Prelude.{arith, common_steps}
 use Rattle.lsp_edit.proofs.Parts.MarkLemmas.{span_ordered}
 use Rattle.lsp_edit.proofs.pieces.replace.back_to.Goals as goal
 

@@ -1,4 +1,3 @@
-use Rattle.lsp_edit.proofs.Prelude.{◌-◌}
 use Rattle.lsp_edit.proofs.Parts.MarkLemmas.{mark_passing}
 use Rattle.lsp_edit.proofs.pieces.replace.passed_by.Goals as goal
 

@@ -1,57 +1,37 @@
-use Rattle.lsp_edit.proofs.Prelude.{◌≡◌, length, sym, ap, ◌∙◌, arith, chars, length-map, err_from_is_err_and, units_in, PlainData, item_of, items_in_order}
-use Rattle.lsp_edit.proofs.Composing.AppliedLemmas.{fault_told}
-use Rattle.lsp_edit.proofs.Composing.EditedLemmas.{edited_chars, places_told}
-use Rattle.lsp_edit.proofs.Batches.PlainLemmas.{found, range_put}
+use Rattle.lsp_edit.proofs.Prelude.{ap, List, PlainData, arith, character_of, common_steps, denoted, edited_text, ends_of, err_from_is_err_and, item_of, length, length-map, units_in, ℕ, ◌∙◌}
+use Rattle.lsp_edit.proofs.Batches.PlainLemmas.{ends_bounded, range_faulted, range_put}
 use Rattle.lsp_edit.proofs.plain.Plain.replaced.Goals as goal
 
-pub returns-in_err-start : goal.returns-in_err-start
-returns-in_err-start c =
-    let p = err_from_is_err_and c.from_residual-in_err-start.result c.from_residual-in_err-start.ensures.1 in
-    rw (p.1, p.2)
-    (fault_told (units_in c.args.encoding) c.args.self.now.before c.args.self.now.items c.args.text.now c.args.range
-    c.args.self.now.changes _
-    (places_told (units_in c.args.encoding) c.args.range _ c.args.self.now (chars c.as_str-current.result.now)
-    c.self.inside.changes
-    (sym (ap (λ (e : PlainData). e.changes) c.self.view_is))
-    (sym (edited_chars c.args.self.now c.as_str-current.result.now c.as_str-current.utf8
-    (c.as_str-current.ensures.value ∙ c.in_ok-now.ensures)))
-    c.in_err-start.ensures))
-
-pub index_of-requires : goal.index_of-requires
-index_of-requires c = (found (units_in c.args.encoding) c.args.self.now c.args.range
-    c.self.inside.changes c.in_ok-start.start c.in_ok-start.stop c.as_str-current.result.now c.as_str-current.utf8
-    (c.as_str-current.ensures.value ∙ c.in_ok-now.ensures) c.in_ok-start.ensures).start_at
-
-pub index_of-requires-2 : goal.index_of-requires-2
-index_of-requires-2 c = (found (units_in c.args.encoding) c.args.self.now c.args.range
-    c.self.inside.changes c.in_ok-start.start c.in_ok-start.stop c.as_str-current.result.now c.as_str-current.utf8
-    (c.as_str-current.ensures.value ∙ c.in_ok-now.ensures) c.in_ok-start.ensures).stop_at
+pub returns-in_err-low : goal.returns-in_err-low
+returns-in_err-low c =
+    let p = err_from_is_err_and c.from_residual-in_err-low.result c.from_residual-in_err-low.ensures.1 in
+    let start = c.denoted-start.ensures ∙ ap (λ (t : List ℕ). denoted (units_in c.args.encoding) t c.in-Some.range.start)
+    (c.deref.ensures.value ∙ c.in_ok-now.ensures.text) in
+    let stop = c.denoted-stop.ensures ∙ ap (λ (t : List ℕ). denoted (units_in c.args.encoding) t c.in-Some.range.stop)
+    (c.deref-2.ensures.value ∙ c.in_ok-now.ensures.text) in
+    rw (p.1, p.2, c.in-Some.is, ← ap (λ (e : PlainData). e.changes) c.self.view_is)
+    (range_faulted c.self.inside.changes c.args.self.now.items c.args.text.now _
+    (ends_of (units_in c.args.encoding) (edited_text c.args.self.now) c.in-Some.range)
+    (rw (start, stop) at c.in_err-low.ensures))
 
 pub put_between-requires : goal.put_between-requires
 put_between-requires c =
-    let r = found (units_in c.args.encoding) c.args.self.now c.args.range c.self.inside.changes c.in_ok-start.start
-    c.in_ok-start.stop c.as_str-current.result.now c.as_str-current.utf8
-    (c.as_str-current.ensures.value ∙ c.in_ok-now.ensures) c.in_ok-start.ensures in
-    let low : c.in_ok-low.low ≡ r.ends.low = c.in_ok-low.ensures ∙ r.low in
-    let high : c.in_ok-high.high ≡ r.ends.high = c.in_ok-high.ensures ∙ r.high in record {
-      order = omega (arith, r.ends.order);
+    let start = c.denoted-start.ensures ∙ ap (λ (t : List ℕ). denoted (units_in c.args.encoding) t c.in-Some.range.start)
+    (c.deref.ensures.value ∙ c.in_ok-now.ensures.text) in
+    let stop = c.denoted-stop.ensures ∙ ap (λ (t : List ℕ). denoted (units_in c.args.encoding) t c.in-Some.range.stop)
+    (c.deref-2.ensures.value ∙ c.in_ok-now.ensures.text) in
+    let bounds = ends_bounded (units_in c.args.encoding) (edited_text c.args.self.now) c.in-Some.range
+    c.self.inside.changes c.in_ok-low.low c.in_ok-low.high (rw (start, stop) at c.in_ok-low.ensures) in record {
+      order = bounds.0;
       within = omega (
         arith,
-        r.within,
-        ap length c.deref.ensures.value,
+        bounds.1,
+        ap length c.deref-3.ensures.value,
         length-map c.self.inside.items.items item_of,
+        length-map c.args.self.now.items (character_of c.args.self.now.before),
         ap (λ (e : PlainData). length e.items) c.self.view_is,
       );
     }
 
 pub returns : goal.returns
-returns c =
-    let r = found (units_in c.args.encoding) c.args.self.now c.args.range c.self.inside.changes c.in_ok-start.start
-    c.in_ok-start.stop c.as_str-current.result.now c.as_str-current.utf8
-    (c.as_str-current.ensures.value ∙ c.in_ok-now.ensures) c.in_ok-start.ensures in
-    range_put (units_in c.args.encoding) c.args.self.now.before c.args.self.now.items _ _ c.args.text.now c.args.range
-    c.in_ok-start.start c.in_ok-start.stop c.in_ok-low.low c.in_ok-high.high r.ends
-    (ap items_in_order c.deref.ensures.value ∙ ap (λ (e : PlainData). e.items) c.self.view_is)
-    (c.in_ok-low.ensures ∙ r.low)
-    (c.in_ok-high.ensures ∙ r.high)
-    c.in_ok-put_between.ensures
+returns c = rw c.in-Some.is (grind (arith, common_steps, range_put))

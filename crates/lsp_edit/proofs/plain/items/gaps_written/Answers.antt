@@ -1,6 +1,5 @@
-use Rattle.lsp_edit.proofs.Prelude.{rest_is, rest_none, ℕ, List, ◌+◌, ◌++◌, length, map, ap, ap₂, ◌∙◌, arith, reverse, chars, units_in, Old, New, item_of, items_in_order, gap_at, change_at, content_change}
-use Rattle.lsp_edit.proofs.Batches.PlainLemmas.{write_begins, write_new, write_old, write_end}
-use Rattle.lsp_edit.proofs.Canonical.WalkLemmas.{walk_turned}
+use Rattle.lsp_edit.proofs.Prelude.{ap, List, New, Old, ap₂, arith, change_at, content_change, gap_at, item_of, map, refl, rest_is, rest_none, reverse, units_in, ℕ, ◌++◌, ◌+◌, ◌∙◌}
+use Rattle.lsp_edit.proofs.Canonical.WalkLemmas.{walk_turned, write_end, write_new, write_old}
 use Rattle.lsp_edit.proofs.plain.items.gaps_written.Goals.{in-Old+in_ok-put_gap-in-Old, in-New+in_ok-push-in-New}
 use Rattle.lsp_edit.proofs.plain.items.gaps_written.Goals as goal
 
@@ -8,7 +7,7 @@ pub loop-item-init : goal.loop-item-init
 loop-item-init c = rw (
   c.new-changes.ensures.items,
   c.new-text.ensures.items,
-) (write_begins (units_in c.args.encoding) (chars c.args.before.now) (items_in_order c.args.items.now) c.requires.keeps)
+) (record { error = refl; keeps = c.requires.keeps; whole = λ some. absurd (omega arith) })
 
 pub loop-item-preserved : goal.loop-item-preserved
 loop-item-preserved c =
@@ -22,15 +21,14 @@ loop-item-preserved c =
             w.in_ok-put_gap-in-Old.ensures,
             w.deref.ensures.value,
           )
-          (write_old (units_in c.args.encoding) (chars c.args.before.now) _ _ _ _ _ c.loop-item.invariant w.in-Old.high
-          _
+          (write_old (units_in c.args.encoding) c.args.old.now _ _ _ _ _ c.loop-item.invariant w.in-Old.high
+          (w.in-Old.high + 1) _
           (rest_is item_of c.args.items.now c.loop-item.item-index _ (Old w.in-Old.high) c.loop-item-test.true
           (ap item_of w.in-Old.is))
-          (w.in-Old.high + 1) (omega arith))
+          (omega arith))
       | in-New+in_ok-push-in-New w ↦
           rw (w.changes-is, w.low-is, w.text-is, w.in_ok-push-in-New.ensures.items)
-          (write_new (units_in c.args.encoding) (chars c.args.before.now) _ _ _ _ _ c.loop-item.invariant
-          w.in-New.character _
+          (write_new (units_in c.args.encoding) c.args.old.now _ _ _ _ _ c.loop-item.invariant w.in-New.character _
           (rest_is item_of c.args.items.now c.loop-item.item-index _ (New w.in-New.character) c.loop-item-test.true
           (ap item_of w.in-New.is)))
     ]
@@ -41,7 +39,6 @@ returns c =
     (walk_turned c.put_gap-2.new.changes.items
     ∙ ap reverse (c.in_ok-put_gap.ensures
     ∙ (ap₂ (λ (n : ℕ) (text : List ℕ). map content_change c.loop-item.changes.items ++ change_at
-    (units_in c.args.encoding)
-    (chars c.args.before.now) (gap_at c.loop-item.low n text)) (ap length c.requires.old) c.deref-2.ensures.value
-    ∙ write_end (units_in c.args.encoding) (chars c.args.before.now) _ _ _ _ _ c.loop-item.invariant
+    (units_in c.args.encoding) c.args.old.now (gap_at c.loop-item.low n text)) refl c.deref-2.ensures.value
+    ∙ write_end (units_in c.args.encoding) c.args.old.now _ _ _ _ _ c.loop-item.invariant
     (rest_none item_of c.args.items.now c.loop-item.item-index c.loop-item-test.false))))

@@ -1,5 +1,5 @@
 use Rattle.lsp_edit.proofs.Prelude.{◌++◌, drop, string_bytes, owned_parts, AreSameItems, new_parts, parts_of}
-use Rattle.lsp_edit.proofs.joined.layer.owned.Given as goal
+use Rattle.lsp_edit.proofs.joined.layer.Layer.of_spans.Given as goal
 
 abbrev pub invariant-loop-span : goal.invariant-loop-span
 invariant-loop-span l =

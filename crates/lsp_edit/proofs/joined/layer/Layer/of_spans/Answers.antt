@@ -1,7 +1,7 @@
 use Rattle.lsp_edit.proofs.Prelude.{rest_is, rest_none, ◌++◌, List, ap, subst, string_bytes, IsUtf8-string_bytes, owned_parts, AreSameItems, Part, OldPart, NewPart, new_parts, part_of, parts_of}
 use Rattle.lsp_edit.proofs.Deltas.OwnedLemmas.{same_ends, same_new, same_old_on}
-use Rattle.lsp_edit.proofs.joined.layer.owned.Goals.{in-Old+in_ok-push_new-in-Old+in_ok-push-in-Old, in-New+in_ok-push_str-in-New}
-use Rattle.lsp_edit.proofs.joined.layer.owned.Goals as goal
+use Rattle.lsp_edit.proofs.joined.layer.Layer.of_spans.Goals.{in-Old+in_ok-push_new-in-Old+in_ok-push-in-Old, in-New+in_ok-push_str-in-New}
+use Rattle.lsp_edit.proofs.joined.layer.Layer.of_spans.Goals as goal
 
 pub loop-span-preserved : goal.loop-span-preserved
 loop-span-preserved c =
