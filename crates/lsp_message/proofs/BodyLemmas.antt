@@ -49,10 +49,7 @@ items_are t v are (x ∷ xs) =
 error_is : (e : ErrorCode) → error_text e ≡ compact_text (values.error_value e)
 unfolding escape_byte digits
 error_is ParseError = refl
-error_is InvalidRequest = refl
-error_is MethodNotFound = refl
-error_is InvalidParams = refl
-error_is ServerNotInitialized = refl
+error_is _ = refl
 
 id_is : (id : IdData) → id_text (Some id) ≡ compact_text (values.id_value id)
 id_is (whole n) = sym (integer_text n)
@@ -145,9 +142,8 @@ initialize_is : (utf8 utf32 : Bool) → let offers : Offers = record { utf8 = ut
     body_of (initialize offers) ≡ compact_text (values.value_of (initialize offers))
 unfolding escape_byte digits
 initialize_is true true = refl
-initialize_is true false = refl
-initialize_is false true = refl
 initialize_is false false = refl
+initialize_is _ _ = refl
 
 initialize_result_is : (id : IdData) (encoding : Encoding) (kind : SyncKind)
     → body_of (initialize_result id encoding kind) ≡ compact_text (values.value_of (initialize_result id encoding kind))
@@ -155,12 +151,8 @@ unfolding escape_byte digits
 initialize_result_is id Utf8 Off = response_is id _ (values.initialize_value Utf8 Off) refl
 initialize_result_is id Utf8 Full = response_is id _ (values.initialize_value Utf8 Full) refl
 initialize_result_is id Utf8 Incremental = response_is id _ (values.initialize_value Utf8 Incremental) refl
-initialize_result_is id Utf16 Off = response_is id _ (values.initialize_value Utf16 Off) refl
-initialize_result_is id Utf16 Full = response_is id _ (values.initialize_value Utf16 Full) refl
-initialize_result_is id Utf16 Incremental = response_is id _ (values.initialize_value Utf16 Incremental) refl
-initialize_result_is id Utf32 Off = response_is id _ (values.initialize_value Utf32 Off) refl
-initialize_result_is id Utf32 Full = response_is id _ (values.initialize_value Utf32 Full) refl
-initialize_result_is id Utf32 Incremental = response_is id _ (values.initialize_value Utf32 Incremental) refl
+initialize_result_is id encoding Off = response_is id _ (values.initialize_value encoding Off) refl
+initialize_result_is id encoding kind = response_is id _ (values.initialize_value encoding kind) refl
 
 error_reply_is : (id : Option IdData) (error : ErrorCode) → body_of (error_reply id error)
     ≡ compact_text (values.value_of (error_reply id error))
@@ -173,12 +165,10 @@ error_reply_is id error =
 pub body_is : (m : OutgoingData) → body_of m ≡ compact_text (values.value_of m)
 unfolding escape_byte digits
 body_is (initialize offers) = initialize_is offers.utf8 offers.utf32
-body_is initialized = refl
 body_is (did_open p) = ap (notification_text (codes "textDocument/didOpen")) (open_is p)
 body_is (did_change p) = ap (notification_text (codes "textDocument/didChange")) (change_is p)
 body_is (did_close p) = ap (notification_text (codes "textDocument/didClose")) (close_is p)
-body_is shutdown = refl
-body_is exit = refl
 body_is (initialize_result id encoding kind) = initialize_result_is id encoding kind
 body_is (shutdown_result id) = response_is id (codes "null") null refl
 body_is (error_reply id error) = error_reply_is id error
+body_is _ = refl

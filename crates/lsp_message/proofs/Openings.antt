@@ -1,8 +1,12 @@
 -- A value by its first token.
-use Rattle.lsp_message.proofs.Prelude.{◌≡◌, ℕ, zero, suc, ◌-◌, List, ◌∷◌, length, Bool, true, false, Option, Some, None, refl, sym, ap, ◌∙◌, arith, Token, parse_map, token_of, left_some, left-parse_map, value_is, Num, Data, boolean, number, array, object, Items, Members, as_array, as_object, of_json, converted, number_of, is_null, value_at, items_at, rest_of, kept, none-some, same_Some, common_steps}
+use Rattle.lsp_message.proofs.Prelude.{◌≡◌, ℕ, zero, suc, ◌-◌, List, ◌∷◌, length, Bool, true, false, Option, Some, None, refl, sym, ap, ◌∙◌, arith, Token, parse_map, token_of, left_some, Num, Data, boolean, number, array, object, Items, Members, as_array, as_object, of_json, converted, number_of, is_null, value_at, items_at, rest_of, kept, none-some, same_Some, common_steps}
 use Rattle.json.specs.declared.token.Token.{Token as Read}
 use Rattle.lsp_message.specs.inside.Objects.{IsArrayOpening}
-use Rattle.lsp_message.proofs.Grammar.{value_at-null, value_at-boolean, value_at-string, number_read, value_at-shallow_array, value_at-shallow_object, value_at-array, value_at-object}
+use Rattle.lsp_message.proofs.Grammar.{number_read}
+pub use Rattle.lsp_message.proofs.Grammar.{value_at-nil, value_at-null, value_at-boolean, value_at-string, value_at-no_number, value_at-shallow_array, value_at-shallow_object, value_at-array, value_at-object}
+pub use Rattle.lsp_message.proofs.Converted.{on_err}
+pub use Rattle.std.proofs.lemmas.Result.{on_err_weaker, on_ok_weaker}
+pub use Rattle.json.proofs.Grammar.{left-parse_map, value_is}
 use Rattle.json.specs.declared.token.Token.TheVariants as read
 
 -- ---- the value of a token that opens
@@ -71,3 +75,6 @@ pub opened_array : (o : Bool) (depth : ℕ) (old new : List Token) → o ≡ tru
     → value_at depth old ≡ parse_map array (items_at (depth - 1) (length new) new)
 opened_array true depth old new is h = ap (value_at depth) h.1 ∙ value_at-array depth new h.0
 opened_array false depth old new is h = absurd cc
+
+-- what a first token says of the value
+pub ruleset first_tokens = (first_read, value_at-nil, value_at-null, value_at-boolean, value_at-string, value_at-no_number, value_at-shallow_array, value_at-shallow_object, value_at-array, value_at-object, value_is, on_err, on_ok_weaker, on_err_weaker, left-parse_map)

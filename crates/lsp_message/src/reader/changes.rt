@@ -18,6 +18,7 @@ use std::alloc::Global;
 
 /// Reads the bracket of an array, or skips another value. Returns whether the value is an array.
 #[inline(always)]
+#[tactic(auto, using(crate::proofs::Openings::first_tokens))]
 fn open_array(reader: &mut Reader<'_>, depth: usize) -> Result<bool, Invalid>
     ensures ok { IfOk result (λ o. IsArrayOpening o depth reader.old reader.new) }
     ensures shorter { OnOk result (length reader.new < length reader.old) }

@@ -34,6 +34,7 @@ pub(crate) enum Object<K> {
 
 /// Reads a value. `kept` is what is kept of an object without members.
 #[inline(always)]
+#[tactic(auto, using(crate::proofs::Openings::first_tokens))]
 pub(crate) fn read_object<'a, K: Kept<'a>>(
     kept: K,
     reader: &mut Reader<'a>,

@@ -4,9 +4,6 @@ use Rattle.lsp_message.proofs.Grammar.{value_at-nil, value_at-string, value_at-n
 use Rattle.lsp_message.proofs.Openings.{first_read}
 use Rattle.lsp_message.proofs.reader.scalar.read_scalar.Goals as goal
 
-pub returns-in_err-token-clause-error : goal.returns-in_err-token-clause-error
-returns-in_err-token-clause-error c = on_err _ (value_at-nil c.args.depth c.args.reader.now (grind arith))
-
 pub returns-in-String-clause-ok : goal.returns-in-String-clause-ok
 returns-in-String-clause-ok c =
     let first : c.args.reader.now ≡ token_of c.in_ok-token.token ∷ c.next.new.self = grind arith in
@@ -26,10 +23,3 @@ returns-in-Some-clause-ok c =
     let read = value_at-number c.args.depth c.in-Number.text.now c.next.new.self (number_data c.in-Some.number)
     c.in-Some.ensures in
     (number read.0, ap (value_at c.args.depth) is ∙ read.1, read.2)
-
-pub returns-in-None-clause-error : goal.returns-in-None-clause-error
-returns-in-None-clause-error c = grind (arith, common_steps, value_at-no_number, c.in-None.ensures)
-
-pub returns-in_ok-skip_value_from-in_default : goal.returns-in_ok-skip_value_from-in_default
-returns-in_ok-skip_value_from-in_default c =
-    grind (arith, common_steps, first_read, c.in_ok-skip_value_from-in_default.ensures)

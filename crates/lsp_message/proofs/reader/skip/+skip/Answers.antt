@@ -3,69 +3,10 @@ use Rattle.lsp_message.proofs.Converted.{on_err}
 use Rattle.lsp_message.proofs.Grammar.{value_at-nil, value_at-string, value_at-boolean, value_at-null, value_at-number, value_at-no_number, value_at-shallow_array, value_at-shallow_object, value_at-array, value_at-object, items_at-more, items_at-refused, items_at-end, members_at-more, members_at-refused, members_at-no_key, members_at-end}
 use Rattle.lsp_message.proofs.reader.skip.+skip.Goals as goal
 
-pub skip_value-returns-in_err-token-clause-error : goal.skip_value-returns-in_err-token-clause-error
-skip_value-returns-in_err-token-clause-error t c = on_err _ (value_at-nil c.args.depth c.args.reader.now (grind arith))
-
-pub skip_value_from-returns-then-depth-eq0-clause-error : goal.skip_value_from-returns-then-depth-eq0-clause-error
-skip_value_from-returns-then-depth-eq0-clause-error t c =
-    grind (arith, common_steps, value_at-shallow_array, c.in-BeginArray.is)
-
-pub skip_value_from-returns-then-depth-eq0-2-clause-error : goal.skip_value_from-returns-then-depth-eq0-2-clause-error
-skip_value_from-returns-then-depth-eq0-2-clause-error t c =
-    grind (arith, common_steps, value_at-shallow_object, c.in-BeginObject.is)
-
-pub skip_value_from-returns-in-String-clause-ok : goal.skip_value_from-returns-in-String-clause-ok
-skip_value_from-returns-in-String-clause-ok t c = grind (arith, common_steps, value_at-string, c.in-String.is)
-
-pub skip_value_from-returns-in-Bool-clause-ok : goal.skip_value_from-returns-in-Bool-clause-ok
-skip_value_from-returns-in-Bool-clause-ok t c = grind (arith, common_steps, value_at-boolean, c.in-Bool.is)
-
-pub skip_value_from-returns-in-Null-clause-ok : goal.skip_value_from-returns-in-Null-clause-ok
-skip_value_from-returns-in-Null-clause-ok t c = grind (arith, common_steps, value_at-null, c.in-Null.is)
-
 pub skip_value_from-returns-in-Some-clause-ok : goal.skip_value_from-returns-in-Some-clause-ok
 skip_value_from-returns-in-Some-clause-ok t c =
     ap (λ k. rest_of (value_at c.args.depth (token_of k ∷ c.args.reader.now))) c.in-Number.is
     ∙ ap rest_of (value_at-number c.args.depth c.in-Number.text.now c.args.reader.now _ c.in-Some.ensures).1
-
-pub skip_value_from-returns-in-None-clause-error : goal.skip_value_from-returns-in-None-clause-error
-skip_value_from-returns-in-None-clause-error t c =
-    grind (arith, common_steps, value_at-no_number, c.in-Number.is, c.in-None.ensures)
-
-pub skip_value_from-returns-in-EndObject-clause-error : goal.skip_value_from-returns-in-EndObject-clause-error
-skip_value_from-returns-in-EndObject-clause-error t c = grind (arith, common_steps, value_is)
-
-pub skip_value_from-returns-else-depth-eq0-clause-ok : goal.skip_value_from-returns-else-depth-eq0-clause-ok
-skip_value_from-returns-else-depth-eq0-clause-ok t c =
-    grind (
-      arith,
-      common_steps,
-      value_at-array,
-      on_ok_weaker,
-      left-parse_map,
-      c.in-BeginArray.is,
-      c.skip_items.ensures.ok,
-    )
-
-pub skip_value_from-returns-else-depth-eq0-clause-error : goal.skip_value_from-returns-else-depth-eq0-clause-error
-skip_value_from-returns-else-depth-eq0-clause-error t c =
-    grind (arith, common_steps, value_at-array, on_err_weaker, c.in-BeginArray.is, c.skip_items.ensures.error)
-
-pub skip_value_from-returns-else-depth-eq0-2-clause-ok : goal.skip_value_from-returns-else-depth-eq0-2-clause-ok
-skip_value_from-returns-else-depth-eq0-2-clause-ok t c =
-    grind (
-      arith,
-      common_steps,
-      value_at-object,
-      on_ok_weaker,
-      left-parse_map,
-      c.in-BeginObject.is,
-      c.skip_members.ensures.ok,
-    )
-
-pub skip_value_from-returns-else-depth-eq0-2-clause-error : goal.skip_value_from-returns-else-depth-eq0-2-clause-error
-skip_value_from-returns-else-depth-eq0-2-clause-error t c =
-    grind (arith, common_steps, value_at-object, on_err_weaker, c.in-BeginObject.is, c.skip_members.ensures.error)
 
 pub skip_items-items-preserved : goal.skip_items-items-preserved
 skip_items-items-preserved t c =
