@@ -8,7 +8,7 @@ use Rattle.json.specs.Lex.{token, comma, colon, lex, between, punctuate, fresh, 
 use Rattle.json.proofs.Printed.Strings.{content-escape, lex-escape}
 use Rattle.json.proofs.Printed.Numbers.{lex-number}
 use Rattle.json.proofs.Printed.Plain.{escape_on_plain}
-use Rattle.lsp_message.proofs.Converted.{read_json}
+use Rattle.lsp_message.proofs.Grammar.{read_json}
 
 -- ---- blanks
 

@@ -1,6 +1,5 @@
 -- A member that was put in, and the others; and why what is kept of a value is enough.
 use Rattle.lsp_message.proofs.Prelude.{◌≡◌, ℕ, List, Some, refl, sym, Data, number, float, Members, put, get_member, get_member-put, get_member-put_other, is_version_two, is_null, text_in, version_in, coordinate_in, kept}
-pub use Rattle.json.proofs.Grammar.{left_some}
 
 pub get_put_same : (k name : List ℕ) (d : Data) (ms : Members) → k ≡ name → get_member name (put k d ms) ≡ Some d
 get_put_same k name d ms is = rw is (get_member-put name d ms)
@@ -30,4 +29,12 @@ kept_null (number (float x)) = refl
 kept_null d = refl
 
 -- what is kept of an object after one more member
-pub ruleset one_more_member = (get_put_same, get_put_other, left_some, kept_text, kept_version, kept_coordinate, kept_two, kept_null)
+pub ruleset one_more_member = (
+  get_put_same,
+  get_put_other,
+  kept_text,
+  kept_version,
+  kept_coordinate,
+  kept_two,
+  kept_null,
+)

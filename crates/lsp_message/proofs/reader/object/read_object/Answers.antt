@@ -1,6 +1,5 @@
-use Rattle.lsp_message.proofs.Prelude.{◌≡◌, ◌∷◌, refl, ap, ◌∙◌, arith, parse_map, token_of, object, value_at, common_steps}
-use Rattle.lsp_message.proofs.Grammar.{value_at-nil, value_at-null, value_at-shallow_object, value_at-object}
-use Rattle.lsp_message.proofs.Openings.{first_read}
+use Rattle.lsp_message.proofs.Prelude.{◌≡◌, ◌∷◌, refl, ap, ◌∙◌, arith, parse_map, token_of, object, value_at}
+use Rattle.lsp_message.proofs.Grammar.{value_at-object}
 use Rattle.lsp_message.proofs.reader.object.read_object.Goals as goal
 
 pub returns-in_ok-kept-in-BeginObject-clause-ok : goal.returns-in_ok-kept-in-BeginObject-clause-ok
