@@ -133,10 +133,10 @@ front_is : (units : ℕ → ℕ) (text rest : List ℕ) (offset left count : ℕ
 front_is units text rest offset left count h =
     ap (take (length h.passed)) h.text_is ∙ take_at h.passed rest (length h.passed) refl
 
--- The offset is within the text.
-pub passed_few : (units : ℕ → ℕ) (bytes rest : List ℕ) (offset left count : ℕ) → IsUtf8 bytes
-    → HasPassed units (chars bytes) rest offset left count → offset ≤ length bytes
-passed_few units bytes rest offset left count utf8 h =
+-- The bytes of a text are those that were passed and those of the rest.
+pub passed_length : (units : ℕ → ℕ) (bytes rest : List ℕ) (offset left count : ℕ) → IsUtf8 bytes
+    → HasPassed units (chars bytes) rest offset left count → length bytes ≡ offset + length (encode_utf8_all rest)
+passed_length units bytes rest offset left count utf8 h =
     omega (
       arith,
       h.offset_is,
