@@ -31,19 +31,8 @@ passed_then : (units : ℕ → ℕ) (text part back rest : List ℕ) (offset lef
     → HasPassed units text (rest ++ back) (offset + x) y count
 passed_then units text part back rest offset left x y count h more = record {
   passed = h.passed ++ more.passed;
-  text_is =
-      h.text_is
-      ∙ (ap (λ (xs : List ℕ). h.passed ++ (xs ++ back)) more.text_is
-      ∙ (ap (λ (xs : List ℕ). h.passed ++ xs) (append_assoc more.passed rest back)
-      ∙ sym (append_assoc h.passed more.passed (rest ++ back))));
-  offset_is =
-      ap length (encodes-append h.passed more.passed)
-      ∙ omega (
-        arith,
-        length-append (encode_utf8_all h.passed) (encode_utf8_all more.passed),
-        h.offset_is,
-        more.offset_is,
-      );
+  text_is = rw h.text_is (rw more.text_is (simp append_assoc));
+  offset_is = grind (arith, common_steps, encodes-append, length-append);
   count_is = omega (arith, sum_by-append units h.passed more.passed, h.count_is, more.count_is);
 }
 

@@ -10,19 +10,11 @@ use Rattle.lsp_store.proofs.Tables.RefusalLemmas.{meaning_accepted, meaning_shor
 use Rattle.lsp_store.proofs.Tables.StoreLemmas.{seen}
 use Rattle.lsp_store.proofs.Tables.TableLemmas.{at_uri, entry_found}
 
--- what follows where a call succeeds, or fails
-pub on_ok_on : {A E P O Q : Type 0} (r : Result A E) → (P → O → Q) → OnOk r P → OnOk r O → OnOk r Q
-on_ok_on (Ok a) then p o = then p o
-on_ok_on (Err e) then p o = tt
-
+-- what follows from two facts of a call that succeeds
 pub if_ok_on : {A E O : Type 0} {P Q : A → Type 0} (r : Result A E) → ((a : A) → P a → O → Q a) → IfOk r P → OnOk r O
     → IfOk r Q
 if_ok_on (Ok a) then p o = then a p o
 if_ok_on (Err e) then p o = tt
-
-pub ok_from : {A E Q : Type 0} {P : A → Type 0} (r : Result A E) → ((a : A) → P a → Q) → IfOk r P → OnOk r Q
-ok_from (Ok a) then p = then a p
-ok_from (Err e) then p = tt
 
 -- ---- the text that a delta is of
 

@@ -1,5 +1,5 @@
 use Rattle.lsp_store.proofs.Prelude.{◌≡◌, ◌++◌, List, ℕ, ap, ◌∙◌, rules, w32, to_z, of_z, to_z-of_z, IfErr-weaker, StoreData}
-use Rattle.lsp_store.proofs.Tables.PlanLemmas.{on_ok_on, planned_accepted, planned_refused}
+use Rattle.lsp_store.proofs.Tables.PlanLemmas.{if_ok_on, planned_accepted, planned_refused}
 use Rattle.lsp_store.proofs.store.Store.push_planned_body.Goals as goal
 
 pub returns-clause-body : goal.returns-clause-body
@@ -7,8 +7,8 @@ returns-clause-body c =
     let version : to_z w32 (of_z w32 c.in_ok-uri.version) ≡ c.in_ok-uri.version =
     to_z-of_z w32 c.in_ok-uri.version (search rules) in
     let limits = ap (λ (d : StoreData). d.limits) c.self.view_is in
-    on_ok_on c.push_body.result
-    (λ is within uri version encoding batch q.
+    if_ok_on c.push_body.result
+    (λ _ is within uri version encoding batch q.
     let body = c.in_ok-uri.ensures uri version encoding batch q in (
       is ∙ ap (λ (b : List ℕ). c.args.bytes.now.items ++ b) body,
       planned_accepted _ _ _ _ _ _ q c.self.inside.limits limits _ body within,
