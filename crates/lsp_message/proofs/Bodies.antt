@@ -1,5 +1,5 @@
 -- The value of each written message: it is not deep, and its text is read back as it.
-use Rattle.lsp_message.proofs.Prelude.{◌≡◌, ℕ, ◌^◌, ◌<◌, ◌≤◌, suc, List, [], ◌∷◌, map, true, Option, Some, None, FitsSigned, IsUtf8, IfSome, All, codes, refl, sym, ap, ◌∙◌, subst, arith, ℤ, IsUtf8-are_ascii, Data, number, string, array, object, no_members, member, depth, items_depth, of_integer, read, max_depth, items_of, Encoding, Utf8, Position, Range, Offers, SyncKind, Off, ErrorCode, ParseError, IdData, whole, text, DocumentItem, ContentChangeData, ChangeData, CloseData, OutgoingData, IsProper, IsProperId, IsProperDocument, IsProperChange, IsProperEdit, IsProperRange, IsProperPosition}
+use Rattle.lsp_message.proofs.Prelude.{◌≡◌, ℕ, ◌^◌, ◌<◌, ◌≤◌, suc, List, [], ◌∷◌, map, true, Option, Some, None, FitsSigned, IsUtf8, IfSome, All, codes, refl, sym, ap, ◌∙◌, subst, arith, rules, ℤ, IsUtf8-are_ascii, Data, number, unsigned, string, array, object, no_members, member, depth, items_depth, of_integer, read, max_depth, items_of, Encoding, Utf8, Position, Range, Offers, SyncKind, Off, ErrorCode, ParseError, IdData, whole, text, DocumentItem, ContentChangeData, ChangeData, CloseData, OutgoingData, IsProper, IsProperId, IsProperDocument, IsProperChange, IsProperEdit, IsProperRange, IsProperPosition}
 use Rattle.std.specs.Int.{w32}
 use Rattle.lsp_text.specs.Units.{name_of}
 use Rattle.lsp_message.proofs.BodyLemmas.{body_is}
@@ -49,26 +49,18 @@ sound_names : (es : List Encoding) → SoundItems (items_of (map (λ e. string (
 sound_names [] = sound_no_items
 sound_names (e ∷ es) = sound_item _ _ (sound_string (name_of e) (utf8-name_of e)) (sound_names es)
 
+sound_small : (n : ℕ) → n < 2 ^ 32 → Sound (number (unsigned n))
+sound_small n h = sound_unsigned n (omega arith)
+
 sound_version : (z : ℤ) → FitsSigned w32 z → Sound (number (of_integer z))
 sound_version z h = let small = h.sfits in sound_integer z (record { sfits = omega arith })
 
-sound_position : (p : Position) → IsProperPosition p → Sound (values.position_value p)
-sound_position p h =
-    let line = h.line in
-    let character = h.character in
-    sound_object _ refl (
-      refl,
-      sound_unsigned p.character (omega arith),
-      (refl, sound_unsigned p.line (omega arith), tt),
-    )
-
-sound_range : (r : Range) → IsProperRange r → Sound (values.range_value r)
-sound_range r h = sound_object _ refl (refl, sound_position r.stop h.stop, (refl, sound_position r.start h.start, tt))
+ruleset soundness = (sound_object, sound_array, sound_string, sound_small, sound_version, sound_null, IsUtf8-are_ascii)
 
 sound_edit : (r : Option Range) (s : List ℕ) → IfSome r IsProperRange → IsUtf8 s
     → Sound (values.content_change_value (record { range = r; text = s }))
-sound_edit None s h u = sound_object _ refl (refl, sound_string s u, tt)
-sound_edit (Some r) s h u = sound_object _ refl (refl, sound_range r h, (refl, sound_string s u, tt))
+sound_edit None s h u = search (rules, soundness) depth 12
+sound_edit (Some r) s h u = search (rules, soundness) depth 20
 
 sound_edits : (es : List ContentChangeData) → All IsProperEdit es → SoundItems (items_of
     (map values.content_change_value es))
@@ -95,90 +87,48 @@ utf8-error_message ParseError = IsUtf8-are_ascii _ refl
 utf8-error_message _ = IsUtf8-are_ascii _ refl
 
 sound_error : (e : ErrorCode) → Sound (values.error_value e)
-sound_error e = sound_object _ refl (refl, sound_code e, (refl, sound_string _ (utf8-error_message e), tt))
+sound_error e = search (rules, soundness, sound_code e, utf8-error_message e) depth 12
 
 sound_kind : (kind : SyncKind) → Sound (values.sync_value kind)
 sound_kind Off = sound_object _ refl (refl, sound_unsigned _ (omega arith), (refl, sound_boolean true, tt))
 sound_kind _ = sound_object _ refl (refl, sound_unsigned _ (omega arith), (refl, sound_boolean true, tt))
 
-two : Sound (string (codes "2.0"))
-two = sound_string _ (IsUtf8-are_ascii _ refl)
-
-sound_request : (id : ℕ) (method : List ℕ) (params : Data) → id < 2 ^ 64 → IsUtf8 method → Sound params
-    → Sound (values.request_value id method (Some params))
-sound_request id method params small u h = sound_object _ refl (
-  refl,
-  sound_unsigned id small,
-  (refl, two, (refl, sound_string method u, (refl, h, tt))),
-)
-
 sound_notification : (method : List ℕ) (params : Data) → IsUtf8 method → Sound params
     → Sound (values.notification_value method (Some params))
-sound_notification method params u h = sound_object _ refl (refl, two, (refl, sound_string method u, (refl, h, tt)))
+sound_notification method params u h = search (rules, soundness) depth 12
 
 sound_result : (id : IdData) (d : Data) → IsProperId id → Sound d → Sound (values.result_value id d)
-sound_result id d proper h = sound_object _ refl (refl, sound_id id proper, (refl, two, (refl, h, tt)))
+sound_result id d proper h = search (rules, soundness, sound_id id proper) depth 12
 
 sound_initialize_params : (offers : Offers) → Sound (values.initialize_params offers)
-sound_initialize_params offers =
-    let general =
-    sound_object (member (codes "positionEncodings") (array (items_of (values.names_of offers))) no_members) refl (
-      refl,
-      sound_array _ (sound_names _),
-      tt,
-    ) in
-    let capabilities = sound_object (member (codes "general") _ no_members) refl (refl, general, tt) in
-    sound_object _ refl (refl, capabilities, (refl, sound_null, (refl, sound_null, tt)))
+sound_initialize_params offers = search (rules, soundness, sound_names) depth 20
 
 sound_open_params : (p : DocumentItem) → IsProperDocument p → Sound (values.open_params p)
-sound_open_params p h =
-    let document : Sound (values.opened_document p) =
-    sound_object _ refl (
-      refl,
-      sound_string p.language h.language,
-      (
-        refl,
-        sound_string p.text h.text,
-        (refl, sound_string p.uri h.uri, (refl, sound_version p.version h.version, tt)),
-      ),
-    ) in
-    sound_object _ refl (refl, document, tt)
+sound_open_params p h = search (rules, soundness) depth 12
 
 sound_change_params : (p : ChangeData) → IsProperChange p → Sound (values.change_params p)
-sound_change_params p h =
-    let document : Sound (values.versioned_document p.uri p.version) =
-    sound_object _ refl (refl, sound_string p.uri h.uri, (refl, sound_version p.version h.version, tt)) in
-    sound_object _ refl (refl, sound_array _ (sound_edits p.changes h.changes), (refl, document, tt))
+sound_change_params p h = search (rules, soundness, sound_edits p.changes h.changes) depth 12
 
 sound_close_params : (p : CloseData) → IsUtf8 p.uri → Sound (values.close_params p)
-sound_close_params p u =
-    let document : Sound (object (member (codes "uri") (string p.uri) no_members)) =
-    sound_object _ refl (refl, sound_string p.uri u, tt) in
-    sound_object _ refl (refl, document, tt)
+sound_close_params p u = search (rules, soundness) depth 12
 
 sound_initialize_value : (encoding : Encoding) (kind : SyncKind) → Sound (values.initialize_value encoding kind)
 sound_initialize_value encoding kind =
-    let announced : Sound (values.announced_value encoding kind) =
-    sound_object _ refl (refl, sound_string _ (utf8-name_of encoding), (refl, sound_kind kind, tt)) in
-    sound_object _ refl (refl, announced, tt)
+    search (rules, soundness, utf8-name_of encoding, sound_kind kind) depth 12
 
 pub sound-value_of : (m : OutgoingData) → IsProper m → Sound (values.value_of m)
 sound-value_of (spec.initialize offers) h =
-    sound_request 1 _ _ (omega arith) (IsUtf8-are_ascii _ refl) (sound_initialize_params offers)
+    let small : 1 < 2 ^ 32 = omega arith in search (rules, soundness, sound_initialize_params offers) depth 12
 sound-value_of spec.initialized h = sound_notification _ _ (IsUtf8-are_ascii _ refl) (sound_object no_members refl tt)
 sound-value_of (spec.did_open p) h = sound_notification _ _ (IsUtf8-are_ascii _ refl) (sound_open_params p h)
 sound-value_of (spec.did_change p) h = sound_notification _ _ (IsUtf8-are_ascii _ refl) (sound_change_params p h)
 sound-value_of (spec.did_close p) h = sound_notification _ _ (IsUtf8-are_ascii _ refl) (sound_close_params p h)
-sound-value_of spec.shutdown h = sound_object _ refl (
-  refl,
-  sound_unsigned 2 (omega arith),
-  (refl, two, (refl, sound_string _ (IsUtf8-are_ascii _ refl), tt)),
-)
-sound-value_of spec.exit h = sound_object _ refl (refl, two, (refl, sound_string _ (IsUtf8-are_ascii _ refl), tt))
+sound-value_of spec.shutdown h = let small : 2 < 2 ^ 32 = omega arith in search (rules, soundness) depth 12
+sound-value_of spec.exit h = search (rules, soundness) depth 12
 sound-value_of (spec.initialize_result id encoding kind) h = sound_result id _ h (sound_initialize_value encoding kind)
 sound-value_of (spec.shutdown_result id) h = sound_result id _ h sound_null
 sound-value_of (spec.error_reply id error) h =
-    sound_object _ refl (refl, sound_error error, (refl, sound_id_or_null id h, (refl, two, tt)))
+    search (rules, soundness, sound_error error, sound_id_or_null id h) depth 12
 
 -- the body of a message is read as its value
 pub read-body_of : (m : OutgoingData) → IsProper m → read (spec.body_of m) ≡ Some (values.value_of m)

@@ -21,38 +21,25 @@ five a b c d e = simp append_assoc
 six : (a b c d e f : List ℕ) → ((((a ++ b) ++ c) ++ d) ++ e) ++ f ≡ a ++ (b ++ (c ++ (d ++ (e ++ f))))
 six a b c d e f = simp append_assoc
 
-eight : (a b c d e f g h : List ℕ) → ((((((a ++ b) ++ c) ++ d) ++ e) ++ f) ++ g) ++ h
-    ≡ a ++ (b ++ (c ++ (d ++ (e ++ (f ++ (g ++ h))))))
-eight a b c d e f g h = simp append_assoc
-
 within : (a b c d e : List ℕ) → (a ++ (b ++ (c ++ d))) ++ e ≡ a ++ (b ++ (c ++ (d ++ e)))
 within a b c d e = simp append_assoc
 
--- the items after the first, with the closing bracket
-items_later : {X : Type 0} (t : X → List ℕ) (v : X → Data) → ((x : X) → t x ≡ compact_text (v x)) → (xs : List X)
-    → flat_map (λ x. codes "," ++ t x) xs ++ codes "]" ≡ items_text true (items_of (map v xs))
-items_later t v are [] = refl
-items_later t v are (x ∷ xs) =
-    ap (λ s. 44 ∷ s) (append_assoc (t x) (flat_map (λ y. codes "," ++ t y) xs) (codes "]") ∙ ap₂ (λ a b. a ++ b) (are x)
-    (items_later t v are xs))
+-- the items of an array, with the closing bracket
+module _ {X : Type 0} (t : X → List ℕ) (v : X → Data) (are : (x : X) → t x ≡ compact_text (v x)) where
+  items_later : (xs : List X) → flat_map (λ x. codes "," ++ t x) xs ++ codes "]" ≡ items_text true (items_of (map v xs))
+  items_later [] = refl
+  items_later (x ∷ xs) = simp append_assoc (rw (are x, items_later xs) refl)
 
--- all items, with the closing bracket
-items_are : {X : Type 0} (t : X → List ℕ) (v : X → Data) → ((x : X) → t x ≡ compact_text (v x)) → (xs : List X)
-    → join_by t (codes ",") xs ++ codes "]" ≡ items_text false (items_of (map v xs))
-items_are t v are [] = refl
-items_are t v are (x ∷ xs) =
-    append_assoc (t x) (flat_map (λ y. codes "," ++ t y) xs) (codes "]") ∙ ap₂ (λ a b. a ++ b) (are x)
-    (items_later t v are xs)
+  items_are : (xs : List X) → join_by t (codes ",") xs ++ codes "]" ≡ items_text false (items_of (map v xs))
+  items_are [] = refl
+  items_are (x ∷ xs) = simp append_assoc (rw (are x, items_later xs) refl)
 
 -- ---- parts
 
 error_is : (e : ErrorCode) → error_text e ≡ compact_text (values.error_value e)
 unfolding escape_byte digits
 error_is ParseError = refl
-error_is InvalidRequest = refl
-error_is MethodNotFound = refl
-error_is InvalidParams = refl
-error_is ServerNotInitialized = refl
+error_is _ = refl
 
 id_is : (id : IdData) → id_text (Some id) ≡ compact_text (values.id_value id)
 id_is (whole n) = sym (integer_text n)
@@ -64,9 +51,7 @@ id_or_null_is (Some id) = id_is id
 
 position_is : (p : Position) → position_text p ≡ compact_text (values.position_value p)
 unfolding escape_byte
-position_is p =
-    ap (λ s. codes "{\"character\":" ++ s) (four (decimal p.character) (codes ",\"line\":") (decimal p.line)
-    (codes "}"))
+position_is p = simp append_assoc
 
 range_is : (r : Range) → range_text r ≡ compact_text (values.range_value r)
 unfolding escape_byte
@@ -90,21 +75,9 @@ edit_is e = edit_of_is e.range e.text
 
 pub document_is : (p : DocumentItem) → document_text p ≡ compact_text (values.opened_document p)
 unfolding escape_byte
-document_is p =
-    ap (λ s. codes "{\"languageId\":" ++ s)
-    (eight (quoted p.language) (codes ",\"text\":") (quoted p.text) (codes ",\"uri\":") (quoted p.uri)
-    (codes ",\"version\":") (signed_decimal p.version) (codes "}")
-    ∙ ap (λ n. quoted p.language
-    ++ (codes ",\"text\":"
-    ++ (quoted p.text ++ (codes ",\"uri\":" ++ (quoted p.uri ++ (codes ",\"version\":" ++ (n ++ codes "}")))))))
-    (sym (integer_text p.version)))
+document_is p = simp (append_assoc, integer_text)
 
 -- ---- params and results
-
-open_is : (p : DocumentItem) → codes "{\"textDocument\":" ++ document_text p ++ codes "}"
-    ≡ compact_text (values.open_params p)
-unfolding escape_byte
-open_is p = ap (λ s. codes "{\"textDocument\":" ++ s ++ codes "}") (document_is p)
 
 change_is : (p : ChangeData) → codes "{\"contentChanges\":[" ++ join_by content_change_text (codes ",") p.changes
     ++ codes "],\"textDocument\":{\"uri\":"
@@ -125,19 +98,10 @@ change_is p =
     (ap (λ n. quoted p.uri ++ (version ++ (n ++ codes "}}"))) (sym (integer_text p.version))
     ∙ sym (within (quoted p.uri) version number (codes "}") (codes "}")))))
 
-close_is : (p : CloseData) → codes "{\"textDocument\":{\"uri\":" ++ quoted p.uri ++ codes "}}"
-    ≡ compact_text (values.close_params p)
-unfolding escape_byte
-close_is p = ap (λ s. codes "{\"textDocument\":{\"uri\":" ++ s)
-    (sym (append_assoc (quoted p.uri) (codes "}") (codes "}")))
-
 response_is : (id : IdData) (result : List ℕ) (value : Data) → result ≡ compact_text value → result_text id result
     ≡ compact_text (values.result_value id value)
 unfolding escape_byte
-response_is id result value is =
-    ap (λ s. codes "{\"id\":" ++ s)
-    (four (id_text (Some id)) (codes ",\"jsonrpc\":\"2.0\",\"result\":") result (codes "}")
-    ∙ ap₂ (λ i r. i ++ (codes ",\"jsonrpc\":\"2.0\",\"result\":" ++ (r ++ codes "}"))) (id_is id) is)
+response_is id result value is = simp append_assoc (rw (id_is, is) refl)
 
 -- ---- bodies
 
@@ -145,22 +109,8 @@ initialize_is : (utf8 utf32 : Bool) → let offers : Offers = record { utf8 = ut
     body_of (initialize offers) ≡ compact_text (values.value_of (initialize offers))
 unfolding escape_byte digits
 initialize_is true true = refl
-initialize_is true false = refl
-initialize_is false true = refl
 initialize_is false false = refl
-
-initialize_result_is : (id : IdData) (encoding : Encoding) (kind : SyncKind)
-    → body_of (initialize_result id encoding kind) ≡ compact_text (values.value_of (initialize_result id encoding kind))
-unfolding escape_byte digits
-initialize_result_is id Utf8 Off = response_is id _ (values.initialize_value Utf8 Off) refl
-initialize_result_is id Utf8 Full = response_is id _ (values.initialize_value Utf8 Full) refl
-initialize_result_is id Utf8 Incremental = response_is id _ (values.initialize_value Utf8 Incremental) refl
-initialize_result_is id Utf16 Off = response_is id _ (values.initialize_value Utf16 Off) refl
-initialize_result_is id Utf16 Full = response_is id _ (values.initialize_value Utf16 Full) refl
-initialize_result_is id Utf16 Incremental = response_is id _ (values.initialize_value Utf16 Incremental) refl
-initialize_result_is id Utf32 Off = response_is id _ (values.initialize_value Utf32 Off) refl
-initialize_result_is id Utf32 Full = response_is id _ (values.initialize_value Utf32 Full) refl
-initialize_result_is id Utf32 Incremental = response_is id _ (values.initialize_value Utf32 Incremental) refl
+initialize_is _ _ = refl
 
 error_reply_is : (id : Option IdData) (error : ErrorCode) → body_of (error_reply id error)
     ≡ compact_text (values.value_of (error_reply id error))
@@ -173,12 +123,11 @@ error_reply_is id error =
 pub body_is : (m : OutgoingData) → body_of m ≡ compact_text (values.value_of m)
 unfolding escape_byte digits
 body_is (initialize offers) = initialize_is offers.utf8 offers.utf32
-body_is initialized = refl
-body_is (did_open p) = ap (notification_text (codes "textDocument/didOpen")) (open_is p)
+body_is (did_open p) = simp (append_assoc, integer_text)
 body_is (did_change p) = ap (notification_text (codes "textDocument/didChange")) (change_is p)
-body_is (did_close p) = ap (notification_text (codes "textDocument/didClose")) (close_is p)
-body_is shutdown = refl
-body_is exit = refl
-body_is (initialize_result id encoding kind) = initialize_result_is id encoding kind
+body_is (did_close p) = simp append_assoc
+body_is (initialize_result id encoding kind) =
+    response_is id _ (values.initialize_value encoding kind) (simp append_assoc)
 body_is (shutdown_result id) = response_is id (codes "null") null refl
 body_is (error_reply id error) = error_reply_is id error
+body_is _ = refl

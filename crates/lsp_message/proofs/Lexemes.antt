@@ -8,7 +8,7 @@ use Rattle.json.specs.Lex.{token, comma, colon, lex, between, punctuate, fresh, 
 use Rattle.json.proofs.Printed.Strings.{content-escape, lex-escape}
 use Rattle.json.proofs.Printed.Numbers.{lex-number}
 use Rattle.json.proofs.Printed.Plain.{escape_on_plain}
-use Rattle.lsp_message.proofs.Converted.{read_json}
+use Rattle.lsp_message.proofs.Grammar.{read_json}
 
 -- ---- blanks
 
@@ -187,11 +187,14 @@ abbrev pub with_length : Option ℕ → Members → Members
 with_length None ms = ms
 with_length (Some n) ms = put (codes "rangeLength") (number (unsigned n)) ms
 
-pub length_later : {e : List ℕ} {into : Members → Members} (old new : List ℕ) (length : Option ℕ)
-    → IsLengthAt old length new → AreLaterAt 0 new into e → AreLaterAt 0 old (λ ms. into (with_length length ms)) e
+pub length_later : {a b c : List ℕ} {into : Members → Members} (old new text : List ℕ) (length : Option ℕ)
+    → IsLengthAt old length new → IsTaken new (codes "\"text\":") a → IsValueAt 0 a (string text) b
+    → AreLaterAt 0 b into c
+    → AreLaterAt 0 old (λ ms. into (put (codes "text") (string text) (with_length length ms))) c
 unfolding lex content
-length_later {e} {into} old new None same rest = subst (λ t. AreLaterAt 0 t into e) (sym same) rest
-length_later old new (Some n) (a, b, t, u, v) rest = later (codes "rangeLength") t u (λ r. refl) v rest
+length_later old new text None t u v rest = later (codes "text") t u (λ r. refl) v rest
+length_later old new text (Some n) (name, value, end, t, m, l, w) u v rest =
+    later (codes "rangeLength") t m (λ r. refl) l (later (codes "text") w u (λ r. refl) v rest)
 
 abbrev pub change_data : Option ℕ → Data → List ℕ → Data
 change_data length range text =

@@ -5,9 +5,9 @@
 -- `RefusalLemmas`. `MemberLemmas` leads from `message_of` to the private contracts of `src/message.rt`.
 --
 -- `Incoming::read.ok` has two main ways. By tokens, each object is read a member at a time: `Grammar` says what
--- one more token or member makes of the value (`members_at-more`), `Openings` what the first token does, `Puts` what
+-- one more token or member makes of the value (`members_next`), `Openings` what the first token does, `Puts` what
 -- a kept member is then, and why a scalar is enough. A keystroke is read by its bytes: `Lexemes` says what each
--- part of its text is read as. `Growing` is for the list of changes, `Digits` for numbers, `Converted` for values.
+-- part of its text is read as. `Digits` is for numbers.
 mod Prelude
 pub mod Readings
 pub mod Sound
@@ -20,10 +20,8 @@ pub mod RefusalLemmas
 pub mod Examples
 pub mod Tokens
 pub mod BodyLemmas
-pub mod Converted
 pub mod Grammar
 pub mod Openings
 pub mod Puts
-pub mod Growing
 pub mod Digits
 pub mod Lexemes

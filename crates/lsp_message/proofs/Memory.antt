@@ -1,10 +1,5 @@
 -- Which values are changes, by a look at them, and that some are there where memory is taken for them.
-use Rattle.lsp_message.proofs.Prelude.{◌≡◌, ◌<◌, ℕ, true, ◌&&◌, List, [], ◌∷◌, length, Option, None, Some, option_and_then, refl, arith, ℤ, is_some, IsSomeAnd, list_all, view, items_view, Value, ContentChangeData, ChangeData, HasChanges, content_change_in, content_changes_in, common_steps}
-
-one_more : (edit : Option ContentChangeData) (edits : Option (List ContentChangeData)) →
-    is_some (option_and_then (λ e. option_and_then (λ es. Some (e ∷ es)) edits) edit) ≡ (is_some edit && is_some edits)
-one_more (Some e) None = refl
-one_more _ _ = refl
+use Rattle.lsp_message.proofs.Prelude.{◌≡◌, ◌<◌, ℕ, true, List, [], ◌∷◌, length, Option, None, Some, option_and_then, refl, arith, ℤ, is_some, IsSomeAnd, list_all, view, items_view, Value, ContentChangeData, ChangeData, HasChanges, content_change_in, content_changes_in, common_steps}
 
 pub edits_there : (values : List Value) → list_all (λ v. is_some (content_change_in (view v))) values
     ≡ is_some (content_changes_in (items_view values))

@@ -1,40 +1,12 @@
 -- A value by its first token.
-use Rattle.lsp_message.proofs.Prelude.{◌≡◌, ℕ, zero, suc, ◌-◌, List, ◌∷◌, length, Bool, true, false, Option, Some, None, refl, sym, ap, ◌∙◌, arith, Token, parse_map, token_of, left_some, left-parse_map, value_is, Num, Data, boolean, number, array, object, Items, Members, as_array, as_object, of_json, converted, number_of, is_null, value_at, items_at, rest_of, kept, none-some, same_Some, common_steps}
+use Rattle.lsp_message.proofs.Prelude.{◌≡◌, ℕ, zero, suc, List, ◌∷◌, false, Option, Some, None, option_map, refl, sym, ap, ◌∙◌, arith, Token, parse_map, token_of, Data, boolean, number, object, as_array, as_object, of_json, converted, number_of, is_null, value_at, array_at, object_at, kept, none-some, common_steps}
+use Rattle.std.proofs.lemmas.Option.{some_pair_parts}
 use Rattle.json.specs.declared.token.Token.{Token as Read}
-use Rattle.lsp_message.specs.inside.Objects.{IsArrayOpening}
-use Rattle.lsp_message.proofs.Grammar.{value_at-null, value_at-boolean, value_at-string, number_read, value_at-shallow_array, value_at-shallow_object, value_at-array, value_at-object}
 use Rattle.json.specs.declared.token.Token.TheVariants as read
-
--- ---- the value of a token that opens
-
-pub array_read : (depth : ℕ) (ts rest : List Token) → rest_of (value_at depth (Token.begin_array ∷ ts)) ≡ Some rest
-    → (ds : Items) × (value_at depth (Token.begin_array ∷ ts) ≡ Some (array ds, rest))
-array_read zero ts rest e = absurd (none-some _ (sym (ap rest_of (value_at-shallow_array 0 ts refl)) ∙ e))
-array_read (suc d) ts rest e = grind (arith, common_steps, value_at-array, left_some, left-parse_map)
-
-pub object_read : (depth : ℕ) (ts rest : List Token) → rest_of (value_at depth (Token.begin_object ∷ ts)) ≡ Some rest
-    → (ms : Members) × (value_at depth (Token.begin_object ∷ ts) ≡ Some (object ms, rest))
-object_read zero ts rest e = absurd (none-some _ (sym (ap rest_of (value_at-shallow_object 0 ts refl)) ∙ e))
-object_read (suc d) ts rest e = grind (arith, common_steps, value_at-object, left_some, left-parse_map)
-
--- ---- the value of any other token
-
--- a token that is a whole value
-one_token : (depth : ℕ) (t : Token) (ts rest : List Token) (d : Data) → value_at depth (t ∷ ts) ≡ Some (d, ts)
-    → rest_of (value_at depth (t ∷ ts)) ≡ Some rest → value_at depth (t ∷ ts) ≡ Some (d, rest)
-one_token depth t ts rest d is e = is ∙ ap (λ r. Some (d, r)) (same_Some ts rest (sym (ap rest_of is) ∙ e))
-
-number_token : (depth : ℕ) (s : List ℕ) (ts rest : List Token) (o : Option Num) → number_of s ≡ o
-    → rest_of (value_at depth (Token.number s ∷ ts)) ≡ Some rest
-    → (n : Num) × (value_at depth (Token.number s ∷ ts) ≡ Some (number n, rest))
-number_token depth s ts rest None is e = absurd (none-some _ (sym (ap rest_of (number_read depth s ts None is)) ∙ e))
-number_token depth s ts rest (Some n) is e =
-    (n, one_token depth (Token.number s) ts rest (number n) (number_read depth s ts (Some n) is) e)
-
--- a token that begins no value
-no_value : {P : Type 0} (depth : ℕ) (t : Token) (ts rest : List Token) → value_at depth (t ∷ ts) ≡ None
-    → rest_of (value_at depth (t ∷ ts)) ≡ Some rest → P
-no_value depth t ts rest none e = absurd (none-some _ (sym (ap rest_of none) ∙ e))
+use Rattle.lsp_message.proofs.Grammar.{mapped}
+pub use Rattle.json.proofs.Grammar.{value_is}
+pub use Rattle.lsp_message.proofs.Grammar.{on_err, parsed, unparsed, value_at-nil, value_at-shallow_array, value_at-shallow_object, value_at-array, value_at-object}
+pub use Rattle.std.proofs.lemmas.Result.{on_err_weaker, on_ok_weaker}
 
 -- what a value is not, by a first token that is another
 pub record Begins (t : Read) (d : Data) : Type 0 where
@@ -44,30 +16,43 @@ pub record Begins (t : Read) (d : Data) : Type 0 where
   pub nothing : (t ≡ read.Null → ⊥) → ((s : _) → t ≡ read.String s → ⊥) → ((s : _) → t ≡ read.Number s → ⊥)
       → kept d ≡ boolean false
 
-pub first_read : (depth : ℕ) (t : Read) (ts rest : List Token) → rest_of (value_at depth (token_of t ∷ ts)) ≡ Some rest
-    → (d : Data) × (value_at depth (token_of t ∷ ts) ≡ Some (d, rest)) × Begins t d
-first_read depth read.BeginObject ts rest e = grind (arith, common_steps, object_read)
-first_read depth read.EndObject ts rest e =
-    no_value depth Token.end_object ts rest (ap (converted of_json) (value_is depth (Token.end_object ∷ ts))) e
-first_read depth read.BeginArray ts rest e = grind (arith, common_steps, array_read)
-first_read depth read.EndArray ts rest e =
-    no_value depth Token.end_array ts rest (ap (converted of_json) (value_is depth (Token.end_array ∷ ts))) e
-first_read depth (read.Key s) ts rest e =
-    no_value depth (Token.key s.now) ts rest (ap (converted of_json) (value_is depth (Token.key s.now ∷ ts))) e
-first_read depth (read.String s) ts rest e = grind (arith, common_steps, one_token, value_at-string)
-first_read depth (read.Number s) ts rest e = let found = number_token depth s.now ts rest (number_of s.now) refl e in (
-  number found.0,
-  found.1,
-  record { no_object = λ _. refl; no_array = λ _. refl; no_null = λ _. refl; nothing = λ _ _ h. absurd (h s refl) },
+-- what was read under a constructor
+inside : {B : Type 0} (f : B → Data) (r : Option (B × List Token)) (d : Data) (rest : List Token)
+    → parse_map f r ≡ Some (d, rest) → (b : B) × (d ≡ f b)
+inside f None d rest e = absurd (cc)
+inside f (Some p) d rest e = (p.0, sym (some_pair_parts (f p.0) d p.1 rest e).0)
+
+pub begins : (depth : ℕ) (t : Read) (ts rest : List Token) (d : Data) → value_at depth (token_of t ∷ ts)
+    ≡ Some (d, rest) → Begins t d
+begins zero read.BeginObject ts rest d e = absurd (none-some _ (sym (value_at-shallow_object 0 ts refl) ∙ e))
+begins (suc n) read.BeginObject ts rest d e = grind (arith, common_steps, value_at-object, inside)
+begins zero read.BeginArray ts rest d e = absurd (none-some _ (sym (value_at-shallow_array 0 ts refl) ∙ e))
+begins (suc n) read.BeginArray ts rest d e = grind (arith, common_steps, value_at-array, inside)
+begins depth (read.Number s) ts rest d e =
+    let is : value_at depth (Token.number s.now ∷ ts)
+    ≡ parse_map number (option_map (λ n. (n, ts)) (number_of s.now)) =
+    ap (converted of_json) (value_is depth (Token.number s.now ∷ ts)) ∙ mapped number ts (number_of s.now) in
+    let found = inside number (option_map (λ n. (n, ts)) (number_of s.now)) d rest (sym is ∙ e) in
+    rw found.1 (record {
+      no_object = λ _. refl;
+      no_array = λ _. refl;
+      no_null = λ _. refl;
+      nothing = λ _ _ other. absurd (other s refl);
+    })
+begins depth _ ts rest d e = grind (arith, common_steps, value_is)
+
+-- what a first token says of the value
+pub ruleset first_tokens = (
+  begins,
+  value_at-nil,
+  value_is,
+  parsed,
+  unparsed,
+  value_at-shallow_array,
+  value_at-shallow_object,
+  value_at-array,
+  value_at-object,
+  on_err,
+  on_ok_weaker,
+  on_err_weaker,
 )
-first_read depth (read.Bool b) ts rest e = grind (arith, common_steps, one_token, value_at-boolean)
-first_read depth read.Null ts rest e = grind (arith, common_steps, one_token, value_at-null)
-first_read depth read.Bad ts rest e =
-    no_value depth Token.bad ts rest (ap (converted of_json) (value_is depth (Token.bad ∷ ts))) e
-
--- ---- what an opening says of the value
-
-pub opened_array : (o : Bool) (depth : ℕ) (old new : List Token) → o ≡ true → IsArrayOpening o depth old new
-    → value_at depth old ≡ parse_map array (items_at (depth - 1) (length new) new)
-opened_array true depth old new is h = ap (value_at depth) h.1 ∙ value_at-array depth new h.0
-opened_array false depth old new is h = absurd cc

@@ -16,7 +16,7 @@ pub use Rattle.std.specs.Prelude.{Float, IsSome, IsSomeAnd, Ok, OnOk, Result, de
 pub use Rattle.std.specs.Str.{chars, is_utf8}
 pub use Rattle.std.specs.Str.Parse.{AllDigits, digits_value}
 pub use Rattle.fast_float.specs.Text.{IsWellFormed, Parts, scan}
-pub use Rattle.json.proofs.Grammar.{items_end, items_fail, items_more, left-parse_map, left_none, left_some, members_end, members_fail, members_more, members_no_key, read_key-shorter, value-begin_array, value-begin_object, value_is}
+pub use Rattle.json.proofs.Grammar.{items_end, items_more, members_end, members_more, members_no_key, read_key-shorter, value-begin_array, value-begin_object, value_is}
 pub use Rattle.json.proofs.Printed.Utf8.{IsUtf8-are_ascii, IsUtf8-boolean, IsUtf8-quoted, are_ascii}
 pub use Rattle.json.specs.Json.{Json, after_end_array, if_last, items, members, parse_map, read_key, value}
 pub use Rattle.json.specs.Lex.{Lexeme, between, comma, fresh, token, tokens}
@@ -35,7 +35,7 @@ pub use Rattle.lsp_message.specs.Message.{IdData, MessageData, OutcomeData, Read
 pub use Rattle.lsp_message.specs.Outgoing.{OutgoingData, body_of, content_change_text, did_close, did_open, document_text, error_reply, error_text, exit, id_text, initialize, initialize_result, initialized, notification_text, position_text, range_text, result_text, shutdown, shutdown_result}
 pub use Rattle.lsp_message.specs.Written.{opened_document, range_before, value_of}
 pub use Rattle.lsp_message.specs.Params.{ChangeData, CloseData, ContentChangeData, DocumentItem, HasChanges, change_of, close_of, content_change_in, coordinate_in, open_of, position_in, range_in, range_of, version_from, version_in}
-pub use Rattle.lsp_message.specs.Seen.{IsFaultOfError, IsReadFault, content_change_view, did_change_of, message_view, outgoing_view}
+pub use Rattle.lsp_message.specs.Seen.{IsFaultOfError, IsReadFault, content_change_view, did_change_of, incoming_view, message_view, outgoing_view}
 pub use Rattle.lsp_message.specs.Values.{each_of, is_missing, is_null, member_at, natural_in, text_in}
 pub use Rattle.lsp_message.specs.declared.agreement.Offers.{Offers}
 pub use Rattle.lsp_message.specs.declared.agreement.SyncKind.{SyncKind}
@@ -45,7 +45,7 @@ pub use Rattle.lsp_message.specs.declared.outgoing.ErrorCode.TheVariants.{Invali
 pub use Rattle.lsp_message.specs.inside.Lexemes.{IsLengthAt, IsTaken, IsValueAt, document_data, one_change}
 pub use Rattle.lsp_message.specs.inside.Message.{answer_of, call_of, outcome_of, reading_by, reading_of_members, reading_with}
 pub use Rattle.lsp_message.specs.inside.Params.{content_changes_in}
-pub use Rattle.lsp_message.specs.inside.Reading.{items_at, members_at, rest_of, value_at}
+pub use Rattle.lsp_message.specs.inside.Reading.{array_at, items_at, items_then, members_at, object_at, value_at}
 pub use Rattle.lsp_message.specs.inside.Scalars.{kept, kept_number, number_data}
 pub use Rattle.lsp_message.specs.inside.Tokens.{Appends, joined, member_tokens, tokens_of}
 pub use Rattle.lsp_message.specs.laws.Messages.{IdLaw, IsIdOf, IsTwo, MessageRows, NamedLaw, NamesRequest, NotificationLaw, RefusalLaw, RefusedRows, error_of, id_of, method_of, params_of, result_of, version_of}

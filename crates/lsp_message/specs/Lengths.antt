@@ -1,6 +1,6 @@
 -- What notes of a body go by: the `rangeLength` of its changes (LSP 3.17,
 -- TextDocumentContentChangeEvent), or the params of a `didSave`.
-use Rattle.std.specs.Prelude.{◌∷◌}
+use Rattle.std.specs.Prelude.{◌∷◌, if◌then◌else◌}
 use Rattle.lsp_message.specs.Prelude.{ℕ, Bool, true, false, List, [], Option, Some, None, bytes_eq, codes, Data, Items, no_items, item}
 use Rattle.lsp_message.specs.Incoming.{IncomingData, did_change, other_notification}
 use Rattle.lsp_message.specs.Message.{Reading, message, notification}
@@ -12,7 +12,7 @@ is_save method = bytes_eq method (codes "textDocument/didSave")
 
 -- Do notes go by more of a message than what it asks?
 abbrev pub is_noted : IncomingData → Bool
-is_noted (did_change (Some change)) = true
+is_noted (did_change params) = true
 is_noted (other_notification method) = is_save method
 is_noted m = false
 
@@ -35,3 +35,14 @@ notification_params body = None
 abbrev pub lengths_of : Reading → List (Option ℕ)
 lengths_of body =
     lengths_found (array_in (member_at (codes "contentChanges") (notification_params body)))
+
+-- The lengths that notes go by, by what a body asks: those of a change.
+abbrev pub lengths_noted : IncomingData → Reading → List (Option ℕ)
+lengths_noted (did_change params) body = lengths_of body
+lengths_noted m body = []
+
+-- The params that notes go by, by what a body asks: those of a `didSave`.
+abbrev pub params_noted : IncomingData → Reading → Option Data
+params_noted (other_notification method) body
+    = if is_save method then notification_params body else None
+params_noted m body = None

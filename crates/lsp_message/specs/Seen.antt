@@ -1,6 +1,6 @@
 -- The types of `src/` as the definitions see them: `x_view` is the data of an `x`.
 use Rattle.std.specs.Prelude.{◌≡◌, ◌≢◌, ◌<◌}
-use Rattle.lsp_message.specs.Prelude.{ℕ, ℤ, Some, true, List, length, slice_index, map, option_map, string_bytes, view, Message, ReadFault, NotJson, NotAMessage, NoMemory}
+use Rattle.lsp_message.specs.Prelude.{ℕ, ℤ, List, length, slice_index, map, option_map, string_bytes, view, Message, ReadFault, NotJson, NotAMessage, NoMemory}
 use Rattle.std.specs.Str.{IsUtf8}
 use Rattle.serde_json.specs.Errors.{IsMemory}
 use Rattle.serde_json.specs.declared.error.Error.{Error}
@@ -19,7 +19,7 @@ use Rattle.lsp_message.specs.declared.reader.incoming.Incoming.{Incoming}
 use Rattle.lsp_message.specs.declared.reader.incoming.Incoming.TheVariants as asked
 use Rattle.lsp_message.specs.declared.reader.noted.Noted.{Noted}
 use Rattle.lsp_message.specs.Incoming as incoming
-use Rattle.lsp_message.specs.Lengths.{is_save, lengths_of, notification_params}
+use Rattle.lsp_message.specs.Lengths.{lengths_noted, params_noted}
 use Rattle.lsp_message.specs.Message as spec
 use Rattle.lsp_message.specs.Outgoing as out
 use Rattle.lsp_message.specs.Params.{DocumentItem, ContentChangeData, ChangeData, CloseData}
@@ -92,14 +92,11 @@ incoming_view (asked.DidClose params) = incoming.did_close (option_map close_vie
 incoming_view (asked.OtherNotification method) = incoming.other_notification (string_bytes method)
 
 -- What was read of a body: what it asks, and what notes go by, of a change its lengths, and of a
--- `didSave` its params.
+-- `didSave` its params. Of any other body notes go by nothing.
 pub record IsNoted (body : spec.Reading) (m : Incoming) (noted : Noted) : Type 0 where
   pub asks : incoming_view m ≡ incoming.incoming_of body
-  pub lengths : (change : ChangeData)
-      → incoming.incoming_of body ≡ incoming.did_change (Some change)
-      → noted.lengths.items ≡ lengths_of body
-  pub params : (method : List ℕ) → incoming.incoming_of body ≡ incoming.other_notification method
-      → is_save method ≡ true → option_map view noted.params ≡ notification_params body
+  pub lengths : noted.lengths.items ≡ lengths_noted (incoming_view m) body
+  pub params : option_map view noted.params ≡ params_noted (incoming_view m) body
 
 -- A message that is written, with its texts as bytes.
 abbrev pub outgoing_view : Outgoing → out.OutgoingData

@@ -87,7 +87,8 @@ pub fn params_open(_alloc: Global, params: Option<Value>) -> Result<OpenParams, 
     ensures error { IfErr result
         (λ e. (e ≡ InvalidParams) × (open_of (option_map view params) ≡ None)) }
 {
-    open_in(params).ok_or(ParamsFault::InvalidParams)
+    let document = document_in(params).ok_or(ParamsFault::InvalidParams)?;
+    open_by(document).ok_or(ParamsFault::InvalidParams)
 }
 
 /// Reads the params of a `textDocument/didChange` (LSP 3.17, DidChangeTextDocumentParams).
@@ -113,21 +114,9 @@ pub fn params_close(_alloc: Global, params: Option<Value>) -> Result<CloseParams
     ensures error { IfErr result
         (λ e. (e ≡ InvalidParams) × (close_of (option_map view params) ≡ None)) }
 {
-    close_in(params).ok_or(ParamsFault::InvalidParams)
-}
-
-fn open_in(params: Option<Value>) -> Option<OpenParams>
-    ensures { option_map open_view result ≡ open_of (option_map view params) }
-{
-    open_by(document_in(params)?)
-}
-
-fn close_in(params: Option<Value>) -> Option<CloseParams>
-    ensures { option_map close_view result ≡ close_of (option_map view params) }
-{
-    let mut document = document_in(params)?;
-    let uri = text(take(&mut document, "uri"))?;
-    Some(CloseParams { uri })
+    let mut document = document_in(params).ok_or(ParamsFault::InvalidParams)?;
+    let uri = text(take(&mut document, "uri")).ok_or(ParamsFault::InvalidParams)?;
+    Ok(CloseParams { uri })
 }
 
 /// Returns the members of `textDocument`.

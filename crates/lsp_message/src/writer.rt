@@ -167,7 +167,8 @@ impl WriteValue for Outgoing {
                 write_notification(writer, "textDocument/didClose", params)
             }
             Outgoing::Shutdown => {
-                Object((Member("id", 2_u32), VERSION, Member("method", "shutdown"))).write(writer)
+                let call = (VERSION, Member("method", "shutdown"));
+                Object((Member("id", 2_u32), call)).write(writer)
             }
             Outgoing::Exit => Object((VERSION, Member("method", "exit"))).write(writer),
             Outgoing::InitializeResult { id, encoding, kind } => {

@@ -6,7 +6,7 @@ pub use Rattle.std.proofs.lemmas.Int.{to_z-of_z}
 pub use Rattle.std.proofs.lemmas.List.{append_assoc, drop-drop, drop_all, length-map, length-take, length-take-le, map-append, reverse-append, take-append-drop, take_all, take_at}
 pub use Rattle.std.proofs.lemmas.List.Sums.{sum_by-append, sum_by-cons, sum_by-le-sum_by, sum_by-take-drop, sum_by-take-le, sum_by_push}
 pub use Rattle.std.proofs.lemmas.Option.{slice_get-map}
-pub use Rattle.std.proofs.lemmas.Result.{IfErr-weaker, err_from_is_err_and, on_ok_weaker}
+pub use Rattle.std.proofs.lemmas.Result.{IfErr-weaker, IfOk-weaker, err_from_is_err_and, on_ok_weaker}
 pub use Rattle.std.proofs.lemmas.Slice.Eq.{bytes_eq-Decides}
 pub use Rattle.std.proofs.lemmas.Str.{IsCharBoundary-start, IsUtf8-between, IsUtf8-past_char, IsUtf8-string_bytes, IsUtf8-take, chars-append, chars-nil, chars_from_encodes, chars_past_char, encodes-append, encodes-chars, encodes_same, len_utf8_bounds, length-encode, scalars-chars}
 pub use Rattle.std.specs.Char.{len_utf8}

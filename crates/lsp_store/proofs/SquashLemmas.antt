@@ -1,5 +1,5 @@
 -- Batches of changes on one document, as one: what the fields that are kept are.
-use Rattle.lsp_store.proofs.Prelude.{ℕ, ℤ, ◌≡◌, ◌<◌, ◌≤◌, Bool, false, inr, lt-ltb, ltb-false, TooManyChanges, nat_lt, if◌then◌else◌, List, length, IsUtf8, encode_utf8_all, Option, None, Some, Ok, refl, sym, ap, ap₂, ◌∙◌, subst, arith, le-ltb, encodes-chars, chars, LimitsData, units_in, Encoding, Item, text_of, text_within, bytes_left, ContentChange, meaning, canonical, bytes_after, meant_by, canonical_law, units_some, StoreFault, Stored, IsRefusal, body_refusal, change_body, Plan, StoreData, entry_under, IsPlanOf, IsPlanOn, HasReached, IsSquashAfter, SquashData, add_refusal, reached_entry, squash_after, squash_batch, squash_refusal, squash_under, DocumentItem, IsLeftToMeaning, Refusal, changed, entry_refusal, is_stale, too_many_changes, common_steps}
+use Rattle.lsp_store.proofs.Prelude.{ℕ, ℤ, ◌≡◌, ◌<◌, ◌≤◌, false, inr, lt-ltb, ltb-false, TooManyChanges, nat_lt, List, length, IsUtf8, encode_utf8_all, Option, None, Ok, refl, sym, ap, ap₂, ◌∙◌, subst, arith, le-ltb, encodes-chars, chars, LimitsData, units_in, Encoding, Item, text_within, bytes_left, ContentChange, meaning, canonical, bytes_after, meant_by, canonical_law, units_some, StoreFault, Stored, IsRefusal, body_refusal, change_body, Plan, StoreData, entry_under, IsPlanOf, IsPlanOn, HasReached, IsSquashAfter, SquashData, add_refusal, reached_entry, squash_after, squash_refusal, squash_under, DocumentItem, IsLeftToMeaning, Refusal, changed, entry_refusal, is_stale, common_steps}
 use Rattle.lsp_edit.specs.Compose.{then_items}
 use Rattle.lsp_edit.specs.Joined.{IsJoined, IsReached, JoinedData}
 use Rattle.lsp_edit.proofs.Batches.ComposeLemmas.{then_means}
@@ -21,25 +21,14 @@ seen uri limits encoding joined version = record {
 -- ---- the message
 
 module _ (uri : List ℕ) (limits : LimitsData) (encoding : Encoding) (joined : JoinedData) (version : ℤ)
-    (kept : SquashData) (view : seen uri limits encoding joined version ≡ kept)
     (made : List ContentChange) (is : made ≡ canonical (units_in encoding) (chars joined.before) joined.items) where
-  pub batch_is : made ≡ squash_batch kept
-  batch_is = is ∙ ap squash_batch view
-
-  written_refusal : (if nat_lt limits.max_changes (length made) then Some too_many_changes else body_refusal limits
-      (change_body uri version made)) ≡ squash_refusal kept
-  written_refusal = grind (arith, common_steps, nat_lt, batch_is)
-
-  pub many_refused : limits.max_changes < length made → IsRefusal (squash_refusal kept) TooManyChanges
-  many_refused many = subst (λ (r : Option Refusal). IsRefusal r TooManyChanges) written_refusal
-      (inr (rw (lt-ltb limits.max_changes (length made) many) refl))
+  pub many_refused : limits.max_changes < length made
+      → IsRefusal (squash_refusal (seen uri limits encoding joined version)) TooManyChanges
+  many_refused many = inr (rw (← is, lt-ltb limits.max_changes (length made) many) refl)
 
   pub few_refusal : length made ≤ limits.max_changes → body_refusal limits (change_body uri version made)
-      ≡ squash_refusal kept
-  few_refusal few =
-      subst (λ (many : Bool). (if many then Some too_many_changes else body_refusal limits
-      (change_body uri version made)) ≡ squash_refusal kept) (le-ltb limits.max_changes (length made) few)
-      written_refusal
+      ≡ squash_refusal (seen uri limits encoding joined version)
+  few_refusal few = rw (← is, le-ltb limits.max_changes (length made) few) refl
 
 -- ---- the message of all batches is accepted on the document as it was, and leaves the one that was reached
 
@@ -76,27 +65,23 @@ module _ (kept : SquashData) (entry : DocumentItem) (version : ℤ) (more : List
   left_to_meaning left = λ units. rw (← same_text, ← at.version) (left units)
 
 -- A batch more, by what is kept of the batches before it.
-pub joins_after : (uri : List ℕ) (limits : LimitsData) (encoding : Encoding) (joined next : JoinedData)
-    (before version next_version : ℤ) (kept : SquashData) (more : List ContentChange)
-    → seen uri limits encoding joined before ≡ kept
-    → add_refusal kept version more ≡ None → IsJoined (units_in encoding) joined more next → next_version ≡ version
-    → IsSquashAfter kept version more (seen uri limits encoding next next_version)
-joins_after uri limits encoding joined next before version next_version kept more view accepted is version_is = record {
+joins_after : (uri : List ℕ) (limits : LimitsData) (encoding : Encoding) (joined next : JoinedData)
+    (before version next_version : ℤ) (more : List ContentChange)
+    → add_refusal (seen uri limits encoding joined before) version more ≡ None
+    → IsJoined (units_in encoding) joined more next → next_version ≡ version
+    → IsSquashAfter (seen uri limits encoding joined before) version more (seen uri limits encoding next next_version)
+joins_after uri limits encoding joined next before version next_version more accepted is version_is = record {
   accepted = accepted;
   others = is.others;
-  means = more_means;
+  means = is.means;
   is = next_is;
   together = λ b p.
-      then_means (units_in kept.encoding) (chars kept.text) b more kept.items is.others p more_means
+      then_means (units_in encoding) (chars joined.before) b more joined.items is.others p is.means
       ∙ ap Ok (sym (ap (λ (k : SquashData). k.items) next_is));
 }
   where
-    more_means : meaning (units_in kept.encoding) (text_of (chars kept.text) kept.items) more ≡ Ok is.others
-    more_means = subst (λ (k : SquashData). meaning (units_in k.encoding) (text_of (chars k.text) k.items) more
-        ≡ Ok is.others) view is.means
-
-    next_is : seen uri limits encoding next next_version ≡ record kept {
-      items = then_items kept.items is.others;
+    next_is : seen uri limits encoding next next_version ≡ record (seen uri limits encoding joined before) {
+      items = then_items joined.items is.others;
       version = version;
     }
     next_is = grind (arith, common_steps, ap₂)
@@ -104,42 +89,38 @@ joins_after uri limits encoding joined next before version next_version kept mor
 -- ---- a batch on a document that is changed with the batches
 
 module _ (uri : List ℕ) (limits : LimitsData) (encoding : Encoding) (joined : JoinedData) (before : ℤ)
-    (kept : SquashData) (view : seen uri limits encoding joined before ≡ kept) (stored : Stored)
-    (utf8 : IsUtf8 stored.text) (at : (u : List ℕ) → HasReached kept (entry_under u stored)) (version : ℤ)
+    (stored : Stored) (utf8 : IsUtf8 stored.text)
+    (at : (u : List ℕ) → HasReached (seen uri limits encoding joined before) (entry_under u stored)) (version : ℤ)
     (more : List ContentChange) where
-  stored_refusal : entry_refusal limits (units_in encoding) (entry_under uri stored) version more
-      ≡ add_refusal kept version more
+  stored_refusal : add_refusal (seen uri limits encoding joined before) version more
+      ≡ entry_refusal limits (units_in encoding) (entry_under uri stored) version more
   stored_refusal =
-      ap (λ (k : SquashData). entry_refusal k.limits (units_in k.encoding) (entry_under uri stored) version more) view
-      ∙ sym (refusal_is kept (entry_under uri stored) version more utf8 (at uri))
+      refusal_is (seen uri limits encoding joined before) (entry_under uri stored) version more utf8 (at uri)
 
   pub change_refused : (fault : StoreFault)
       → IsRefusal (entry_refusal limits (units_in encoding) (entry_under uri stored) version more) fault
-      → IsRefusal (add_refusal kept version more) fault
-  change_refused fault why = subst (λ (r : Option Refusal). IsRefusal r fault) stored_refusal why
+      → IsRefusal (add_refusal (seen uri limits encoding joined before) version more) fault
+  change_refused fault why = subst (λ (r : Option Refusal). IsRefusal r fault) (sym stored_refusal) why
 
   pub change_accepted : entry_refusal limits (units_in encoding) (entry_under uri stored) version more ≡ None
-      → add_refusal kept version more ≡ None
-  change_accepted accepted = sym stored_refusal ∙ accepted
+      → add_refusal (seen uri limits encoding joined before) version more ≡ None
+  change_accepted accepted = stored_refusal ∙ accepted
 
   pub change_left : IsLeftToMeaning limits (entry_under uri stored) version more
-      → IsLeftToMeaning kept.limits (reached_entry kept) version more
+      → IsLeftToMeaning limits (reached_entry (seen uri limits encoding joined before)) version more
   change_left left =
-      left_to_meaning kept (entry_under uri stored) version more utf8 (at uri)
-      (subst (λ (k : SquashData). IsLeftToMeaning k.limits (entry_under uri stored) version more) view left)
+      left_to_meaning (seen uri limits encoding joined before) (entry_under uri stored) version more utf8 (at uri) left
 
   pub change_at : IsReached joined stored.text
-  change_at = record {
-    utf8 = utf8;
-    text_is = (at uri).text ∙ sym (ap (λ (k : SquashData). text_of (chars k.text) k.items) view);
-  }
+  change_at = record { utf8 = utf8; text_is = (at uri).text }
 
   pub change_adds : entry_refusal limits (units_in encoding) (entry_under uri stored) version more ≡ None
       → (next : JoinedData) (next_version : ℤ) → IsJoined (units_in encoding) joined more next → next_version ≡ version
-      → IsSquashAfter kept version more (seen uri limits encoding next next_version)
+      → IsSquashAfter (seen uri limits encoding joined before) version more
+      (seen uri limits encoding next next_version)
   change_adds accepted next next_version is version_is =
-      joins_after uri limits encoding joined next before version next_version kept more view
-      (sym stored_refusal ∙ accepted) is version_is
+      joins_after uri limits encoding joined next before version next_version more (stored_refusal ∙ accepted) is
+      version_is
 
 -- ---- a batch that was planned
 
@@ -148,48 +129,38 @@ pub reached_under : (limits : LimitsData) (encoding : Encoding) {squash : Squash
     → HasReached squash entry → HasReached (squash_under limits encoding squash) entry
 reached_under limits encoding at = record { text = at.text; version = at.version }
 
-module _ (uri : List ℕ) (limits : LimitsData) (encoding : Encoding) (joined next : JoinedData) (before next_version : ℤ)
-    (kept : SquashData) (view : seen uri limits encoding joined before ≡ kept)
+module _ (uri : List ℕ) (encoding : Encoding) (joined next : JoinedData) (before next_version : ℤ)
     (store : StoreData) (plan : Plan) (given : next_version ≡ plan.version) (text : List ℕ)
-    (same : (on : IsPlanOn store plan) → text ≡ on.entry.text) (at : (on : IsPlanOn store plan)
-    → HasReached kept on.entry)
+    (same : (on : IsPlanOn store plan) → text ≡ on.entry.text)
+    (at : (on : IsPlanOn store plan) → HasReached (seen uri store.limits encoding joined before) on.entry)
     (joins : (units : ℕ → ℕ) (batch : List ContentChange) → meaning units (chars text) batch ≡ meant_by text plan.delta
     → IsJoined units joined batch next)
     (reaches : (max_len : ℕ) (left : List ℕ) → text_within max_len text (meant_by text plan.delta) ≡ Ok left
     → IsReached next left)
-    (document : List ℕ) (version : ℤ) (coded : Encoding) (batch : List ContentChange)
-    (q : IsPlanOf store document version coded batch plan) (coded_is : kept.encoding ≡ coded)
-    (limits_are : kept.limits ≡ store.limits) where
-  entry_accepts : entry_refusal store.limits (units_in coded) q.on.entry version batch ≡ None
+    (document : List ℕ) (version : ℤ) (batch : List ContentChange)
+    (q : IsPlanOf store document version encoding batch plan) where
+  entry_accepts : entry_refusal store.limits (units_in encoding) q.on.entry version batch ≡ None
   entry_accepts = rw q.is_open at q.accepted
 
-  kept_accepts : entry_refusal kept.limits (units_in kept.encoding) q.on.entry version batch ≡ None
-  kept_accepts = grind (arith, common_steps, ap₂, entry_accepts)
+  added_accepted : add_refusal (seen uri store.limits encoding joined before) version batch ≡ None
+  added_accepted = refusal_is (seen uri store.limits encoding joined before) q.on.entry version batch
+      (on_utf8 q.on.entry.text plan.delta q.on.on) (at q.on) ∙ entry_accepts
 
-  added_accepted : add_refusal kept version batch ≡ None
-  added_accepted = refusal_is kept q.on.entry version batch (on_utf8 q.on.entry.text plan.delta q.on.on) (at q.on)
-      ∙ kept_accepts
-
-  batch_means : meaning (units_in coded) (chars text) batch ≡ meant_by text plan.delta
+  batch_means : meaning (units_in encoding) (chars text) batch ≡ meant_by text plan.delta
   batch_means = rw (same q.on) q.delta.means
-
-  encoding_is : encoding ≡ coded
-  encoding_is = ap (λ (k : SquashData). k.encoding) view ∙ coded_is
-
-  added_joins : IsJoined (units_in encoding) joined batch next
-  added_joins = subst (λ (e : Encoding). IsJoined (units_in e) joined batch next) (sym encoding_is)
-      (joins (units_in coded) batch batch_means)
 
   plan_within : text_within store.limits.max_text text (meant_by text plan.delta)
       ≡ Ok (bytes_after q.on.entry.text plan.delta)
   plan_within = rw (same q.on) (rw q.delta.means at q.delta.is)
 
   -- The batch is added, and leads to the document after the plan.
-  pub plan_added : IsSquashAfter kept version batch (seen uri limits encoding next next_version)
-      × HasReached (seen uri limits encoding next next_version) (changed (units_in coded) q.on.entry version batch)
+  pub plan_added : IsSquashAfter (seen uri store.limits encoding joined before) version batch
+      (seen uri store.limits encoding next next_version)
+      × HasReached (seen uri store.limits encoding next next_version)
+      (changed (units_in encoding) q.on.entry version batch)
   plan_added = (
-    joins_after uri limits encoding joined next before version next_version kept batch view added_accepted added_joins
-        (given ∙ q.version_is),
+    joins_after uri store.limits encoding joined next before version next_version batch added_accepted
+        (joins (units_in encoding) batch batch_means) (given ∙ q.version_is),
     record {
       text = ap chars (meaning_accepted store.limits q.on.entry.text _ _ q.delta.is).1
           ∙ (reaches store.limits.max_text (bytes_after q.on.entry.text plan.delta) plan_within).text_is;
@@ -199,10 +170,9 @@ module _ (uri : List ℕ) (limits : LimitsData) (encoding : Encoding) (joined ne
 
 -- The document that a plan is of is the one that was reached.
 pub plan_at : (uri : List ℕ) (limits : LimitsData) (encoding : Encoding) (joined : JoinedData) (before : ℤ)
-    (kept : SquashData) → seen uri limits encoding joined before ≡ kept
-    → (store : StoreData) (plan : Plan) (on : IsPlanOn store plan) (text : List ℕ) → text ≡ on.entry.text
-    → HasReached kept on.entry → IsReached joined text
-plan_at uri limits encoding joined before kept view store plan on text same at = record {
+    (store : StoreData) (plan : Plan) (on : IsPlanOn store plan) (text : List ℕ) → text ≡ on.entry.text
+    → HasReached (seen uri limits encoding joined before) on.entry → IsReached joined text
+plan_at uri limits encoding joined before store plan on text same at = record {
   utf8 = subst IsUtf8 (sym same) (on_utf8 on.entry.text plan.delta on.on);
-  text_is = ap chars same ∙ (at.text ∙ sym (ap (λ (k : SquashData). text_of (chars k.text) k.items) view));
+  text_is = ap chars same ∙ at.text;
 }

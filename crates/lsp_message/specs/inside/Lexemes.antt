@@ -47,12 +47,13 @@ abbrev pub IsDocumentAt : List ℕ → List ℕ → ℤ → List ℕ → Type 0
 IsDocumentAt old uri version new =
     (v : Data) × IsValueAt 1 old (document_data uri v) new × (version_in (Some v) ≡ Some version)
 
--- A comma and the member `rangeLength`, if they are there.
+-- A comma, and the member `rangeLength` and its comma, if they are there.
 abbrev pub IsLengthAt : List ℕ → Option ℕ → List ℕ → Type 0
-IsLengthAt old None new = old ≡ new
+IsLengthAt old None new = IsTaken old (codes ",") new
 IsLengthAt old (Some n) new =
-    (comma : List ℕ) × (name : List ℕ) × IsTaken old (codes ",") comma
-    × IsTaken comma (codes "\"rangeLength\":") name × IsValueAt 0 name (number (unsigned n)) new
+    (name : List ℕ) × (value : List ℕ) × (end : List ℕ) × IsTaken old (codes ",") name
+    × IsTaken name (codes "\"rangeLength\":") value × IsValueAt 0 value (number (unsigned n)) end
+    × IsTaken end (codes ",") new
 
 -- One change, in its array.
 abbrev pub AreChangesAt : List ℕ → Range → Option ℕ → List ℕ → List ℕ → Type 0

@@ -1,6 +1,6 @@
 -- What the code keeps of objects and arrays. In names, `ms` are the members of an object.
-use Rattle.std.specs.Prelude.{◌≡◌, ◌<◌, ◌∷◌}
-use Rattle.lsp_message.specs.Prelude.{ℕ, List, Bool, true, false, not, Option, Some, None, option_map, option_and_then, is_some, map, codes, ⊤, Token, Data, null, object, Members, get_member, as_object, as_array, as_str, Scalar}
+use Rattle.std.specs.Prelude.{◌≡◌}
+use Rattle.lsp_message.specs.Prelude.{false, not, Option, Some, None, option_map, option_and_then, is_some, map, codes, ⊤, Data, null, object, Members, get_member, as_object, as_str, Scalar}
 use Rattle.lsp_message.specs.Message.{is_version_two}
 use Rattle.lsp_message.specs.Params.{coordinate_in, version_in, position_in, range_of, content_change_in}
 use Rattle.lsp_message.specs.Seen.{content_change_view}
@@ -13,7 +13,6 @@ use Rattle.lsp_message.specs.declared.reader.change.ChangeMembers.{ChangeMembers
 use Rattle.lsp_message.specs.declared.reader.document.DocumentMembers.{DocumentMembers}
 use Rattle.lsp_message.specs.declared.reader.params.ParamsMembers.{ParamsMembers}
 use Rattle.lsp_message.specs.declared.reader.message.MessageMembers.{MessageMembers}
-use Rattle.lsp_message.specs.inside.Reading.{value_at}
 use Rattle.lsp_message.specs.inside.Scalars.{kept, scalar_data}
 
 -- What was read of a value that may be an object, where `Is` says what is kept of its members.
@@ -21,12 +20,6 @@ abbrev pub IsObject : {K : Type 0} → (K → Members → Type 0) → Object K �
 IsObject Is (read.Of k) d = (ms : Members) × (d ≡ object ms) × Is k ms
 IsObject Is read.Null d = d ≡ null
 IsObject Is read.Other d = (as_object d ≡ None) × (is_null d ≡ false)
-
--- The code read an array's bracket, or all of another value.
-abbrev pub IsArrayOpening : Bool → ℕ → List Token → List Token → Type 0
-IsArrayOpening true depth old new = (0 < depth) × (old ≡ Token.begin_array ∷ new)
-IsArrayOpening false depth old new =
-    (d : Data) × (value_at depth old ≡ Some (d, new)) × (as_array d ≡ None)
 
 -- ---- the members of an object
 

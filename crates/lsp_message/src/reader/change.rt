@@ -10,7 +10,7 @@ ghost use Rattle.lsp_message.specs.inside.Objects.{IsChangeOf};
 use crate::reader::fault::{Fault, Read};
 use crate::reader::object::{Kept, Object, read_object};
 use crate::reader::range::read_range;
-use crate::reader::scalar::read_text;
+use crate::reader::scalar::read_scalar;
 use crate::reader::skip::skip_value;
 use json::Reader;
 use lsp_edit::Change;
@@ -31,7 +31,7 @@ impl<'a> Kept<'a> for ChangeMembers<'a> {
     #[tactic(auto, using(crate::proofs::Puts::one_more_member))]
     fn read_member(&mut self, reader: &mut Reader<'a>, depth: usize, name: &str) -> Read<()> {
         match name {
-            "text" => self.text = read_text(reader, depth)?,
+            "text" => self.text = read_scalar(reader, depth)?.text(),
             "range" => self.range = read_range(reader, depth)?,
             _ => skip_value(reader, depth)?,
         }

@@ -11,7 +11,7 @@ ghost use Rattle.lsp_message.specs.inside.Objects.{IsDocumentOf, IsDocumentIn};
 use crate::params::{CloseParams, OpenParams};
 use crate::reader::fault::{Fault, Read};
 use crate::reader::object::{Kept, Object, read_object};
-use crate::reader::scalar::{read_text, read_version};
+use crate::reader::scalar::read_scalar;
 use crate::reader::skip::skip_value;
 use json::Reader;
 use std::alloc::{AllocError, Global};
@@ -32,10 +32,10 @@ impl<'a> Kept<'a> for DocumentMembers<'a> {
     #[tactic(auto, using(crate::proofs::Puts::one_more_member))]
     fn read_member(&mut self, reader: &mut Reader<'a>, depth: usize, name: &str) -> Read<()> {
         match name {
-            "uri" => self.uri = read_text(reader, depth)?,
-            "languageId" => self.language = read_text(reader, depth)?,
-            "version" => self.version = read_version(reader, depth)?,
-            "text" => self.text = read_text(reader, depth)?,
+            "uri" => self.uri = read_scalar(reader, depth)?.text(),
+            "languageId" => self.language = read_scalar(reader, depth)?.text(),
+            "version" => self.version = read_scalar(reader, depth)?.version(),
+            "text" => self.text = read_scalar(reader, depth)?.text(),
             _ => skip_value(reader, depth)?,
         }
         Ok(())

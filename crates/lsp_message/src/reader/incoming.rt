@@ -12,7 +12,7 @@ ghost use Rattle.lsp_message.specs.Message.{reading, message_of, not_json};
 ghost use Rattle.lsp_message.specs.Lengths.{is_noted};
 ghost use Rattle.lsp_message.specs.Params.{change_of, ParamsMayAllocate};
 ghost use Rattle.lsp_message.specs.Seen.{id_view, message_view, IsNoted, IsReadFault, incoming_view};
-ghost use Rattle.lsp_message.specs.Incoming.{incoming_of, incoming_by, request_of, notification_of, other_notification, did_change};
+ghost use Rattle.lsp_message.specs.Incoming.{incoming_of, incoming_by, request_of, did_change};
 
 use crate::agreement::{Offers, params_initialize};
 use crate::message::{Id, Message, ReadFault, read};
@@ -185,8 +185,7 @@ fn read_tree(alloc: Global, body: &[u8]) -> Result<(Incoming, Noted), AllocError
 /// Turns the fault of a body into what the body asks, or into out of memory.
 fn unread_body(fault: ReadFault) -> Result<Incoming, AllocError>
     ensures ok { IfOk result (λ m. (body : List ℕ) → IsReadFault body fault
-        → (incoming_view m ≡ incoming_of (reading body))
-        × (is_noted (incoming_of (reading body)) ≡ false)) }
+        → (incoming_view m ≡ incoming_of (reading body)) × (is_noted (incoming_view m) ≡ false)) }
     ensures memory { OnErr result (fault ≡ ReadFault.NoMemory) }
 {
     match fault {
@@ -205,11 +204,7 @@ fn noted_of(alloc: Global, message: Message) -> Result<(Incoming, Noted), AllocE
             let incoming = request(alloc, id, method, params);
             Ok((incoming, Noted::nothing(alloc)))
         }
-        Message::Notification { method, mut params } => {
-            let lengths = lengths_found(alloc, params.as_ref())?;
-            let incoming = notification(alloc, method, &mut params)?;
-            Ok((incoming, Noted { lengths, params }))
-        }
+        Message::Notification { method, params } => notification(alloc, method, params),
         Message::Response { id, .. } => Ok((Incoming::Response { id }, Noted::nothing(alloc))),
     }
 }
@@ -257,24 +252,33 @@ fn request(alloc: Global, id: Id, method: String, params: Option<Value>) -> Inco
     }
 }
 
-/// Returns what a notification asks. The params of one of another method stay.
+/// Returns what a notification asks, and what notes of it go by.
 fn notification(
     alloc: Global,
     method: String,
-    params: &mut Option<Value>,
-) -> Result<Incoming, AllocError>
-    ensures asks { IfOk result (λ m. incoming_view m
-        ≡ notification_of (string_bytes method) (option_map view params.old)) }
-    ensures params { IfOk result (λ m. (other : List ℕ)
-        → incoming_view m ≡ other_notification other → params.new ≡ params.old) }
+    params: Option<Value>,
+) -> Result<(Incoming, Noted), AllocError>
+    ensures { IfOk result (λ r. IsNoted
+        (spec.message (spec.notification (string_bytes method) (option_map view params))) r.0 r.1) }
 {
-    match method.as_str() {
-        "exit" => Ok(Incoming::Exit),
-        "textDocument/didOpen" => Ok(Incoming::DidOpen(params_open(alloc, params.take()).ok())),
-        "textDocument/didChange" => change(alloc, params.take()),
-        "textDocument/didClose" => Ok(Incoming::DidClose(params_close(alloc, params.take()).ok())),
-        _ => Ok(Incoming::OtherNotification { method }),
-    }
+    let incoming = match method.as_str() {
+        "exit" => Incoming::Exit,
+        "textDocument/didOpen" => Incoming::DidOpen(params_open(alloc, params).ok()),
+        "textDocument/didChange" => {
+            let lengths = lengths_found(alloc, params.as_ref())?;
+            let incoming = change(alloc, params)?;
+            let params = None;
+            return Ok((incoming, Noted { lengths, params }));
+        }
+        "textDocument/didClose" => Incoming::DidClose(params_close(alloc, params).ok()),
+        "textDocument/didSave" => {
+            let lengths = Vec::new(alloc);
+            let noted = Noted { lengths, params };
+            return Ok((Incoming::OtherNotification { method }, noted));
+        }
+        _ => Incoming::OtherNotification { method },
+    };
+    Ok((incoming, Noted::nothing(alloc)))
 }
 
 fn change(alloc: Global, params: Option<Value>) -> Result<Incoming, AllocError>

@@ -123,19 +123,20 @@ impl<'a> Cursor<'a> {
         }
     }
 
-    /// Reads a comma and the member `rangeLength`, if they are next.
+    /// Reads a comma, and the member `rangeLength` and its comma, if they are next.
     #[inline(always)]
     fn range_length(&mut self) -> Option<Option<u64>>
         ensures { IfSome result
             (λ length. IsLengthAt self.old.rest.now length self.new.rest.now) }
     {
-        let before = *self;
         self.take(",")?;
+        let before = *self;
         let Some(()) = self.take("\"rangeLength\":") else {
             *self = before;
             return Some(None);
         };
         let length = self.natural()?;
+        self.take(",")?;
         Some(Some(length))
     }
 
@@ -150,7 +151,6 @@ impl<'a> Cursor<'a> {
         self.take("\"range\":")?;
         let range = self.range(by_name)?;
         let length = self.range_length()?;
-        self.take(",")?;
         self.take("\"text\":")?;
         let text = self.plain_text()?;
         self.take("}")?;

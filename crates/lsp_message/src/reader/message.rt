@@ -14,7 +14,7 @@ use crate::reader::fault::Read;
 use crate::reader::incoming::Incoming;
 use crate::reader::object::Kept;
 use crate::reader::params::{ParamsMembers, read_params};
-use crate::reader::scalar::{Scalar, read_scalar, read_text};
+use crate::reader::scalar::{Scalar, read_scalar};
 use crate::reader::skip::skip_value;
 use json::Reader;
 use std::alloc::{AllocError, Global};
@@ -41,7 +41,7 @@ impl<'a> Kept<'a> for MessageMembers<'a> {
     fn read_member(&mut self, reader: &mut Reader<'a>, depth: usize, name: &str) -> Read<()> {
         match name {
             "jsonrpc" => self.is_version_two = read_scalar(reader, depth)?.is_two(),
-            "method" => self.method = Some(read_text(reader, depth)?),
+            "method" => self.method = Some(read_scalar(reader, depth)?.text()),
             "id" => self.id = Some(read_scalar(reader, depth)?),
             "error" => self.has_failed = !read_scalar(reader, depth)?.is_null(),
             "result" => {

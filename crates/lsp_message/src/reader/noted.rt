@@ -22,18 +22,18 @@ const NOTED: [&[u8]; 2] = [b"t/didCh", b"t/didSa"];
 /// What notes of a body go by, beside what the body asks.
 #[derive(Debug, PartialEq, Drop)]
 pub struct Noted {
-    /// The `rangeLength` of each change of a `textDocument/didChange`. It is `None` for a change
-    /// without one, and for one that is no whole number in the range of `u64`.
+    /// The `rangeLength` of each change of a `textDocument/didChange`; empty for any other body. It
+    /// is `None` for a change without one, and for one that is no whole number in the range of `u64`.
     pub lengths: Vec<Option<u64>>,
-    /// The params of a `textDocument/didSave`.
+    /// The params of a `textDocument/didSave`; `None` for any other body.
     pub params: Option<Value>,
 }
 
 impl Noted {
     /// Returns what notes of a body go by that is no change and no `didSave`.
     pub(crate) fn nothing(alloc: Global) -> Noted
-        ensures { (r : Reading) (m : Incoming) → incoming_view m ≡ incoming_of r
-            → is_noted (incoming_of r) ≡ false → IsNoted r m result }
+        ensures { (body : Reading) (m : Incoming) → incoming_view m ≡ incoming_of body
+            → is_noted (incoming_view m) ≡ false → IsNoted body m result }
     {
         Noted {
             lengths: Vec::new(alloc),
@@ -47,7 +47,7 @@ pub(crate) fn is_noted(incoming: &Incoming) -> bool
     ensures { result ≡ is_noted (incoming_view incoming.now) }
 {
     match incoming {
-        Incoming::DidChange(Some(_)) => true,
+        Incoming::DidChange(_) => true,
         Incoming::OtherNotification { method } => method.as_str() == "textDocument/didSave",
         _ => false,
     }

@@ -2,7 +2,7 @@
 
 ghost use Rattle.std.specs.Prelude.{◌≡◌, ◌<◌, length, Some, None, Err, IfOk, OnOk};
 ghost use Rattle.serde_json.specs.Data.{Data, Members, no_members, put};
-ghost use Rattle.lsp_message.specs.inside.Reading.{value_at, members_at};
+ghost use Rattle.lsp_message.specs.inside.Reading.{value_at, object_at};
 ghost use Rattle.lsp_message.specs.inside.Objects.{IsObject};
 
 use crate::reader::fault::{Fault, Read};
@@ -34,6 +34,7 @@ pub(crate) enum Object<K> {
 
 /// Reads a value. `kept` is what is kept of an object without members.
 #[inline(always)]
+#[tactic(auto, using(crate::proofs::Openings::first_tokens))]
 pub(crate) fn read_object<'a, K: Kept<'a>>(
     kept: K,
     reader: &mut Reader<'a>,
@@ -66,11 +67,9 @@ pub(crate) fn read_object<'a, K: Kept<'a>>(
 fn read_members<'a, K: Kept<'a>>(kept: K, reader: &mut Reader<'a>, depth: usize) -> Read<K>
     requires { K.IsOf kept no_members }
     ensures ok { IfOk result (λ kept. (ms : Members)
-        × (members_at depth (length reader.old) no_members reader.old ≡ Some (ms, reader.new))
-        × K.IsOf kept ms) }
+        × (object_at depth reader.old ≡ Some (ms, reader.new)) × K.IsOf kept ms) }
     ensures shorter { OnOk result (length reader.new < length reader.old) }
-    ensures error { result ≡ Err Fault.NotJson
-        → members_at depth (length reader.old) no_members reader.old ≡ None }
+    ensures error { result ≡ Err Fault.NotJson → object_at depth reader.old ≡ None }
 {
     let mut kept = kept;
     'members: while let Some(name) = reader.next_key()? {

@@ -8,7 +8,7 @@ ghost use Rattle.lsp_message.specs.inside.Objects.{IsPositionOf};
 
 use crate::reader::fault::{Fault, Read};
 use crate::reader::object::{Kept, Object, read_object};
-use crate::reader::scalar::read_coordinate;
+use crate::reader::scalar::read_scalar;
 use crate::reader::skip::skip_value;
 use json::Reader;
 use lsp_text::Position;
@@ -27,8 +27,8 @@ impl<'a> Kept<'a> for PositionMembers {
     #[tactic(auto, using(crate::proofs::Puts::one_more_member))]
     fn read_member(&mut self, reader: &mut Reader<'a>, depth: usize, name: &str) -> Read<()> {
         match name {
-            "line" => self.line = read_coordinate(reader, depth)?,
-            "character" => self.character = read_coordinate(reader, depth)?,
+            "line" => self.line = read_scalar(reader, depth)?.coordinate(),
+            "character" => self.character = read_scalar(reader, depth)?.coordinate(),
             _ => skip_value(reader, depth)?,
         }
         Ok(())

@@ -27,6 +27,7 @@ pub(crate) enum Scalar<'a> {
 
 /// Reads a value whose arrays and objects nest at most `depth` deep.
 #[inline(always)]
+#[tactic(auto, using(crate::proofs::Openings::first_tokens))]
 pub(crate) fn read_scalar<'a>(reader: &mut Reader<'a>, depth: usize) -> Result<Scalar<'a>, Invalid>
     ensures ok { IfOk result (λ s. (d : Data) × (value_at depth reader.old ≡ Some (d, reader.new))
         × (scalar_data s ≡ kept d)) }
@@ -48,45 +49,10 @@ pub(crate) fn read_scalar<'a>(reader: &mut Reader<'a>, depth: usize) -> Result<S
     }
 }
 
-/// Reads a value as a text; `None` where it is none.
-#[inline(always)]
-pub(crate) fn read_text<'a>(
-    reader: &mut Reader<'a>,
-    depth: usize,
-) -> Result<Option<&'a str>, Invalid>
-    ensures ok { IfOk result (λ r. (d : Data) × (value_at depth reader.old ≡ Some (d, reader.new))
-        × (option_map (λ s. s.now) r ≡ text_in (Some d))) }
-    ensures shorter { OnOk result (length reader.new < length reader.old) }
-    ensures error { OnErr result (value_at depth reader.old ≡ None) }
-{
-    Ok(read_scalar(reader, depth)?.text())
-}
-
-/// Reads a value as a version; `None` where it is none.
-#[inline(always)]
-pub(crate) fn read_version(reader: &mut Reader<'_>, depth: usize) -> Result<Option<i32>, Invalid>
-    ensures ok { IfOk result (λ r. (d : Data) × (value_at depth reader.old ≡ Some (d, reader.new))
-        × (r ≡ version_in (Some d))) }
-    ensures shorter { OnOk result (length reader.new < length reader.old) }
-    ensures error { OnErr result (value_at depth reader.old ≡ None) }
-{
-    Ok(read_scalar(reader, depth)?.version())
-}
-
-/// Reads a value as a line or a character; `None` where it is none.
-#[inline(always)]
-pub(crate) fn read_coordinate(reader: &mut Reader<'_>, depth: usize) -> Result<Option<u32>, Invalid>
-    ensures ok { IfOk result (λ r. (d : Data) × (value_at depth reader.old ≡ Some (d, reader.new))
-        × (r ≡ coordinate_in (Some d))) }
-    ensures shorter { OnOk result (length reader.new < length reader.old) }
-    ensures error { OnErr result (value_at depth reader.old ≡ None) }
-{
-    Ok(read_scalar(reader, depth)?.coordinate())
-}
-
 impl<'a> Scalar<'a> {
+    /// Returns a text; `None` where it is none.
     #[inline(always)]
-    fn text(self) -> Option<&'a str>
+    pub(crate) fn text(self) -> Option<&'a str>
         ensures { option_map (λ s. s.now) result ≡ text_in (Some (scalar_data self.entry)) }
     {
         match self {
@@ -95,7 +61,9 @@ impl<'a> Scalar<'a> {
         }
     }
 
-    fn version(self) -> Option<i32>
+    /// Returns a version; `None` where it is none.
+    #[inline(always)]
+    pub(crate) fn version(self) -> Option<i32>
         ensures { result ≡ version_in (Some (scalar_data self.entry)) }
     {
         match self {
@@ -104,9 +72,9 @@ impl<'a> Scalar<'a> {
         }
     }
 
-    /// Returns a line or a character.
+    /// Returns a line or a character; `None` where it is none.
     #[inline(always)]
-    fn coordinate(self) -> Option<u32>
+    pub(crate) fn coordinate(self) -> Option<u32>
         ensures { result ≡ coordinate_in (Some (scalar_data self.entry)) }
     {
         match self {

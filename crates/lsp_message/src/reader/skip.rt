@@ -5,8 +5,8 @@
 
 ghost use Rattle.std.specs.Prelude.{◌≡◌, ◌<◌, ◌∷◌, length, Some, None, OnOk, OnErr};
 ghost use Rattle.json.specs.Reads.{token_of};
-ghost use Rattle.serde_json.specs.Data.{no_members};
-ghost use Rattle.lsp_message.specs.inside.Reading.{value_at, items_at, members_at, rest_of};
+ghost use Rattle.serde_json.specs.Data.{Data, Items, Members};
+ghost use Rattle.lsp_message.specs.inside.Reading.{value_at, array_at, object_at};
 
 use crate::reader::number::Number;
 use json::{Invalid, Reader, Token};
@@ -14,8 +14,9 @@ use json::{Invalid, Reader, Token};
 /// Skips a value whose arrays and objects nest at most `depth` deep.
 #[cycle(skip)]
 #[inline(always)]
+#[tactic(auto, using(crate::proofs::Openings::first_tokens))]
 pub(crate) fn skip_value(reader: &mut Reader<'_>, depth: usize) -> Result<(), Invalid>
-    ensures ok { OnOk result (rest_of (value_at depth reader.old) ≡ Some reader.new) }
+    ensures ok { OnOk result ((d : Data) × (value_at depth reader.old ≡ Some (d, reader.new))) }
     ensures shorter { OnOk result (length reader.new < length reader.old) }
     ensures error { OnErr result (value_at depth reader.old ≡ None) }
 {
@@ -26,13 +27,14 @@ pub(crate) fn skip_value(reader: &mut Reader<'_>, depth: usize) -> Result<(), In
 /// Skips a value as [`skip_value`] does, after its first token.
 #[cycle(skip)]
 #[inline(always)]
+#[tactic(auto, using(crate::proofs::Openings::first_tokens))]
 pub(crate) fn skip_value_from<'a>(
     reader: &mut Reader<'a>,
     token: Token<'a>,
     depth: usize,
 ) -> Result<(), Invalid>
-    ensures ok { OnOk result
-        (rest_of (value_at depth (token_of token.entry ∷ reader.old)) ≡ Some reader.new) }
+    ensures ok { OnOk result ((d : Data)
+        × (value_at depth (token_of token.entry ∷ reader.old) ≡ Some (d, reader.new))) }
     ensures shorter { OnOk result
         (length reader.new < length (token_of token.entry ∷ reader.old)) }
     ensures error { OnErr result (value_at depth (token_of token.entry ∷ reader.old) ≡ None) }
@@ -65,10 +67,9 @@ pub(crate) fn skip_value_from<'a>(
 #[cycle(skip)]
 #[inline(never)]
 fn skip_items(reader: &mut Reader<'_>, depth: usize) -> Result<(), Invalid>
-    ensures ok { OnOk result
-        (rest_of (items_at depth (length reader.old) reader.old) ≡ Some reader.new) }
+    ensures ok { OnOk result ((ds : Items) × (array_at depth reader.old ≡ Some (ds, reader.new))) }
     ensures shorter { OnOk result (length reader.new < length reader.old) }
-    ensures error { OnErr result (items_at depth (length reader.old) reader.old ≡ None) }
+    ensures error { OnErr result (array_at depth reader.old ≡ None) }
 {
     'items: while !reader.take_end_array() {
         skip_value(reader, depth)?;
@@ -81,10 +82,9 @@ fn skip_items(reader: &mut Reader<'_>, depth: usize) -> Result<(), Invalid>
 #[inline(never)]
 fn skip_members(reader: &mut Reader<'_>, depth: usize) -> Result<(), Invalid>
     ensures ok { OnOk result
-        (rest_of (members_at depth (length reader.old) no_members reader.old) ≡ Some reader.new) }
+        ((ms : Members) × (object_at depth reader.old ≡ Some (ms, reader.new))) }
     ensures shorter { OnOk result (length reader.new < length reader.old) }
-    ensures error { OnErr result
-        (members_at depth (length reader.old) no_members reader.old ≡ None) }
+    ensures error { OnErr result (object_at depth reader.old ≡ None) }
 {
     'members: while let Some(_) = reader.next_key()? {
         skip_value(reader, depth)?;

@@ -32,9 +32,9 @@ impl<'a> WriteValue for TextDocumentItem<'a> {
         let texts = (
             Member("languageId", self.language),
             Member("text", self.text),
-            Member("uri", self.uri),
         );
-        Object((texts, Member("version", self.version))).write(writer)
+        let versioned = (Member("uri", self.uri), Member("version", self.version));
+        Object((texts, versioned)).write(writer)
     }
 }
 

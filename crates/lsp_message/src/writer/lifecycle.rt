@@ -31,7 +31,8 @@ pub(crate) fn write_notification<P: WriteValue + Drop>(
         (tokens_of (values.notification_value method.now (Some (P.value params))))) }
     ensures before { writer.new.before ≡ writer.old.before }
 {
-    Object((VERSION, Member("method", method), Member("params", params))).write(writer)
+    let call = (Member("method", method), Member("params", params));
+    Object((VERSION, call)).write(writer)
 }
 
 /// Writes a response, by the id of its request and its result.
@@ -45,7 +46,8 @@ pub(crate) fn write_response<R: WriteValue + Drop>(
         (tokens_of (values.result_value (id_view id.now) (R.value value)))) }
     ensures before { writer.new.before ≡ writer.old.before }
 {
-    Object((Member("id", Some(id)), VERSION, Member("result", value))).write(writer)
+    let result = (VERSION, Member("result", value));
+    Object((Member("id", Some(id)), result)).write(writer)
 }
 
 /// Writes `initialize`, with the encodings that the client offers.
@@ -55,16 +57,10 @@ pub(crate) fn write_initialize(writer: &mut Writer, offers: Offers) -> Result<()
     ensures before { writer.new.before ≡ writer.old.before }
 {
     let general = Object(Member("positionEncodings", offers));
-    let params = Object((
-        Member("capabilities", Object(Member("general", general))),
-        Member("processId", ()),
-        Member("rootUri", ()),
-    ));
-    let call = (
-        VERSION,
-        Member("method", "initialize"),
-        Member("params", params),
-    );
+    let capabilities = Member("capabilities", Object(Member("general", general)));
+    let none = (Member("processId", ()), Member("rootUri", ()));
+    let params = Member("params", Object((capabilities, none)));
+    let call = (VERSION, (Member("method", "initialize"), params));
     Object((Member("id", 1_u32), call)).write(writer)
 }
 
@@ -101,7 +97,7 @@ pub(crate) fn write_error_reply(
         Member("code", error.number()),
         Member("message", error.text()),
     ));
-    Object((Member("error", error), Member("id", id), VERSION)).write(writer)
+    Object((Member("error", error), (Member("id", id), VERSION))).write(writer)
 }
 
 impl WriteValue for Offers {

@@ -8,7 +8,7 @@ use crate::writer::value::WriteValue;
 use json::Writer;
 use std::alloc::AllocError;
 
-/// What is written as members of an object: a member, or a tuple of members.
+/// What is written as members of an object: none, a member, or some members and then others.
 pub(crate) trait WriteMembers {
     // The members.
     ghost members: { Self → Members };
@@ -65,16 +65,5 @@ impl<A: WriteMembers, B: WriteMembers> WriteMembers for (A, B) {
     fn write_members(&self, writer: &mut Writer) -> Result<(), AllocError> {
         self.0.write_members(writer)?;
         self.1.write_members(writer)
-    }
-}
-
-impl<A: WriteMembers, B: WriteMembers, C: WriteMembers> WriteMembers for (A, B, C) {
-    ghost members = { λ m. joined (A.members m.0) (joined (B.members m.1) (C.members m.2)) };
-
-    #[inline(always)]
-    fn write_members(&self, writer: &mut Writer) -> Result<(), AllocError> {
-        self.0.write_members(writer)?;
-        self.1.write_members(writer)?;
-        self.2.write_members(writer)
     }
 }

@@ -1,5 +1,5 @@
 -- A written frame has one body.
-use Rattle.lsp_store.proofs.Prelude.{ℕ, ◌≡◌, ◌+◌, ◌<◌, ◌^◌, List, [], ◌++◌, length, ap, sym, ◌∙◌, subst, arith, append-nil, frame}
+use Rattle.lsp_store.proofs.Prelude.{ℕ, ◌≡◌, ◌+◌, ◌<◌, ◌^◌, List, [], length, ap, sym, ◌∙◌, subst, arith, append-nil, frame}
 use Rattle.lsp_frame.specs.Frame.{IsFrameOf}
 use Rattle.lsp_frame.proofs.LawLemmas.{one_frame_law}
 use Rattle.lsp_frame.proofs.WrittenLemmas.{frame_len, written_is_frame}

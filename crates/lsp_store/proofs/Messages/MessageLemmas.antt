@@ -1,5 +1,5 @@
 -- The canonical message of a batch that is accepted on an open document.
-use Rattle.lsp_store.proofs.Prelude.{ℕ, ℤ, ◌≡◌, ◌<◌, ◌≤◌, ◌^◌, ◌↔◌, false, nat_lt, List, [], ◌∷◌, ◌++◌, length, map, sum_by, FitsSigned, IsUtf8, bytes_eq, string_bytes, encode_utf8_all, Option, Some, None, Result, Ok, Err, refl, sym, ap, ◌∙◌, subst, arith, inl, inr, cases_Bool, lt-ltb, le-ltb, ltb-false, or_parts, or_from, sum_by-le-sum_by, IsUtf8-string_bytes, encodes-chars, encodes_same, scalars-chars, len_utf8, chars, frame, LimitsData, utf8_bounds, utf16_bounds, utf32_bounds, units_in, Encoding, Utf8, Utf16, Utf32, Change, Item, text_of, ContentChange, Fault, meaning, canonical, content_change, IsCanonical, bytes_left, DocumentItem, IsProper, IsReadAsSent, IsReadBack, StoreFault, NoMemory, store_fault_of_encode, IsRefusal, IsLeftToMeaning, Refusal, edit, batch_bytes, greatest_batch, entry_at, entry_refusal, change_refusal, after_change, changed, is_stale, meaning_refusal, common_steps}
+use Rattle.lsp_store.proofs.Prelude.{ℕ, ℤ, ◌≡◌, ◌<◌, ◌≤◌, ◌^◌, ◌↔◌, false, nat_lt, List, [], ◌∷◌, ◌++◌, length, map, sum_by, FitsSigned, IsUtf8, bytes_eq, string_bytes, encode_utf8_all, Option, Some, None, Result, Ok, Err, refl, sym, ap, ◌∙◌, subst, arith, inl, inr, cases_Bool, lt-ltb, le-ltb, ltb-false, or_parts, or_from, sum_by-le-sum_by, IsUtf8-string_bytes, encodes-chars, encodes_same, scalars-chars, len_utf8, chars, frame, LimitsData, utf8_bounds, utf16_bounds, utf32_bounds, units_in, Encoding, Utf8, Utf16, Utf32, Change, Item, text_of, ContentChange, Fault, meaning, canonical, content_change, IsCanonical, bytes_left, DocumentItem, IsProper, IsReadAsSent, IsReadBack, StoreFault, store_fault_of_encode, IsRefusal, IsLeftToMeaning, Refusal, edit, batch_bytes, greatest_batch, entry_at, entry_refusal, change_refusal, after_change, changed, is_stale, meaning_refusal, common_steps}
 use Rattle.std.specs.Int.{w32}
 use Rattle.lsp_frame.specs.Encode.{IsEncodeFault}
 use Rattle.lsp_frame.specs.declared.written.EncodeFault.{EncodeFault}

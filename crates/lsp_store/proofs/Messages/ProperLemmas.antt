@@ -1,5 +1,5 @@
 -- A canonical batch is one that the types hold: its positions fit, and its texts are UTF-8.
-use Rattle.lsp_store.proofs.Prelude.{ℕ, zero, suc, ◌≡◌, ◌+◌, ◌-◌, ◌<◌, ◌≤◌, ◌^◌, true, false, List, [], ◌∷◌, ◌++◌, length, map, reverse, filter, drop, sum_by, All, IfSome, encode_utf8_all, refl, arith, ⊎_elim, ⊤, cases_Bool, reverse-append, length-append, sum_by-cons, sum_by-take-le, sum_by-take-drop, sum_by-le-sum_by, length-encode, len_utf8_bounds, len_utf8, line_at, line_start, units_between, Item, ContentChange, Gap, gaps, is_changed, change_of_gap, canonical, AllHaveExactEnds, HasExactEnds, IsProperPosition, IsProperRange, IsProperEdit, AreTexts, written_content_change, common_steps}
+use Rattle.lsp_store.proofs.Prelude.{ℕ, zero, suc, ◌≡◌, ◌-◌, ◌<◌, ◌≤◌, ◌^◌, true, false, List, [], ◌∷◌, ◌++◌, length, map, reverse, filter, drop, sum_by, All, IfSome, encode_utf8_all, refl, arith, ⊎_elim, ⊤, cases_Bool, reverse-append, length-append, sum_by-cons, sum_by-take-le, sum_by-take-drop, sum_by-le-sum_by, length-encode, len_utf8_bounds, len_utf8, line_at, line_start, units_between, Item, ContentChange, Gap, gaps, is_changed, change_of_gap, canonical, AllHaveExactEnds, HasExactEnds, IsProperPosition, IsProperRange, IsProperEdit, AreTexts, written_content_change, common_steps}
 use Rattle.std.proofs.lemmas.List.Elements.{All-nil, All-cons}
 use Rattle.lsp_text.specs.Positions.{exact_position}
 

@@ -76,17 +76,13 @@ none_is P none n = (λ (e : None ≡ Some n). absurd (cc), λ p. absurd (none n 
 pub before_has : (units : ℕ → ℕ) (text before : List ℕ) (offset : ℕ) → IsUtf8 text → IsCharBoundary text offset
     → before ≡ take offset text → HasUnitsBefore units (chars text) offset (sum_by units (chars before))
 before_has units text before offset utf8 boundary is =
-    let utf8_before : IsUtf8 before = subst IsUtf8 (sym is) (IsUtf8-take text offset utf8 boundary) in
     let at = index_at text offset utf8 boundary in
-    let front : encode_utf8_all (take at.index (chars text)) ≡ before =
-    sym (take_place (chars text) at.index) ∙ (ap (λ n. take n (encode_utf8_all (chars text))) at.place_is
-    ∙ (ap (take offset) (encodes-chars text utf8) ∙ sym is)) in
     record {
       index = at.index;
       within = at.within;
       offset_is = at.place_is;
-      count_is = units_from_start units (chars text) at.index
-          ∙ ap (sum_by units) (chars_from_encodes (take at.index (chars text)) before utf8_before front);
+      count_is =
+          grind (arith, common_steps, units_from_start, chars_from_encodes, IsUtf8-take, take_place, encodes-chars);
     }
 
 -- No other offset has a count.
@@ -104,8 +100,7 @@ passed_none units text count = record { passed = []; text_is = refl; offset_is =
 pub passed_next : (units : ℕ → ℕ) (text bytes rest : List ℕ) (c offset left count : ℕ) → IsUtf8 bytes
     → bytes ≡ encode_utf8 c ++ rest → HasPassed units text (chars bytes) offset left count
     → HasPassed units text (c ∷ chars rest) offset left count
-passed_next units text bytes rest c offset left count utf8 is =
-    subst (λ (cs : List ℕ). HasPassed units text cs offset left count) (chars_past_char bytes rest c utf8 is)
+passed_next units text bytes rest c offset left count utf8 is h = rw (chars_past_char bytes rest c utf8 is) at h
 
 -- One character more.
 pub passed_more : (units : ℕ → ℕ) (text rest : List ℕ) (c size here offset left count : ℕ) → size ≡ len_utf8 c
@@ -113,17 +108,8 @@ pub passed_more : (units : ℕ → ℕ) (text rest : List ℕ) (c size here offs
     → HasPassed units text rest (offset + size) (left - here) count
 passed_more units text rest c size here offset left count bytes is fits h = record {
   passed = h.passed ++ c ∷ [];
-  text_is = h.text_is ∙ sym (append_assoc h.passed (c ∷ []) rest);
-  offset_is =
-      ap length (encodes-append h.passed (c ∷ []))
-      ∙ omega (
-        arith,
-        length-append (encode_utf8_all h.passed) (encode_utf8 c ++ []),
-        ap length (append-nil (encode_utf8 c)),
-        length-encode c,
-        h.offset_is,
-        bytes,
-      );
+  text_is = simp append_assoc h.text_is;
+  offset_is = grind (arith, common_steps, encodes-append, encode_utf8_all, length-append, length-encode, append-nil);
   count_is = omega (arith, sum_by_push units h.passed c, h.count_is, is, fits);
 }
 
@@ -133,10 +119,10 @@ front_is : (units : ℕ → ℕ) (text rest : List ℕ) (offset left count : ℕ
 front_is units text rest offset left count h =
     ap (take (length h.passed)) h.text_is ∙ take_at h.passed rest (length h.passed) refl
 
--- The offset is within the text.
-pub passed_few : (units : ℕ → ℕ) (bytes rest : List ℕ) (offset left count : ℕ) → IsUtf8 bytes
-    → HasPassed units (chars bytes) rest offset left count → offset ≤ length bytes
-passed_few units bytes rest offset left count utf8 h =
+-- The bytes of a text are those that were passed and those of the rest.
+pub passed_length : (units : ℕ → ℕ) (bytes rest : List ℕ) (offset left count : ℕ) → IsUtf8 bytes
+    → HasPassed units (chars bytes) rest offset left count → length bytes ≡ offset + length (encode_utf8_all rest)
+passed_length units bytes rest offset left count utf8 h =
     omega (
       arith,
       h.offset_is,

@@ -1,7 +1,7 @@
 -- Units of a text in chunks, passed chunk by chunk.
-use Rattle.lsp_store.proofs.Prelude.{ℕ, ◌≡◌, ◌+◌, ◌-◌, ◌<◌, ◌≤◌, List, [], ◌∷◌, ◌++◌, length, take, drop, sum_by, IsUtf8, encode_utf8, encode_utf8_all, refl, sym, ap, ◌∙◌, subst, arith, length-append, append-nil, chars, IsCharBoundary, append_assoc, drop-drop, drop_all, take-append-drop, sum_by-append, IsUtf8-between, IsUtf8-take, chars-append, chars-nil, encodes-append, encodes-chars, length-encode, utf8_bounds, HasPassed, IsPassed, IsTooFew, common_steps}
+use Rattle.lsp_store.proofs.Prelude.{ℕ, ◌≡◌, ◌+◌, ◌-◌, ◌<◌, ◌≤◌, List, [], ◌∷◌, ◌++◌, length, take, drop, sum_by, IsUtf8, encode_utf8, encode_utf8_all, refl, sym, ap, ◌∙◌, subst, arith, length-append, chars, IsCharBoundary, append_assoc, drop-drop, drop_all, take-append-drop, sum_by-append, IsUtf8-between, IsUtf8-take, chars-append, chars-nil, encodes-append, length-encode, utf8_bounds, HasPassed, IsPassed, IsTooFew, common_steps}
 use Rattle.std.proofs.Math.Seq.{take-add}
-use Rattle.lsp_store.proofs.Queries.UnitsBeforeLemmas.{passed_few}
+use Rattle.lsp_store.proofs.Queries.UnitsBeforeLemmas.{passed_length}
 
 -- The units before the end of a chunk are those before it and its own.
 pub chunk_counted : (units : ℕ → ℕ) (text chunk : List ℕ) (offset : ℕ) → IsUtf8 text → IsCharBoundary text offset
@@ -31,19 +31,8 @@ passed_then : (units : ℕ → ℕ) (text part back rest : List ℕ) (offset lef
     → HasPassed units text (rest ++ back) (offset + x) y count
 passed_then units text part back rest offset left x y count h more = record {
   passed = h.passed ++ more.passed;
-  text_is =
-      h.text_is
-      ∙ (ap (λ (xs : List ℕ). h.passed ++ (xs ++ back)) more.text_is
-      ∙ (ap (λ (xs : List ℕ). h.passed ++ xs) (append_assoc more.passed rest back)
-      ∙ sym (append_assoc h.passed more.passed (rest ++ back))));
-  offset_is =
-      ap length (encodes-append h.passed more.passed)
-      ∙ omega (
-        arith,
-        length-append (encode_utf8_all h.passed) (encode_utf8_all more.passed),
-        h.offset_is,
-        more.offset_is,
-      );
+  text_is = rw h.text_is (rw more.text_is (simp append_assoc));
+  offset_is = grind (arith, common_steps, encodes-append, length-append);
   count_is = omega (arith, sum_by-append units h.passed more.passed, h.count_is, more.count_is);
 }
 
@@ -51,25 +40,22 @@ passed_then units text part back rest offset left x y count h more = record {
 rest_none : (units : ℕ → ℕ) (bytes rest : List ℕ) (x y left : ℕ) → IsUtf8 bytes → HasPassed units (chars bytes) rest x y
     left → length bytes ≤ x → rest ≡ []
 rest_none units bytes [] x y left utf8 h all = refl
-rest_none units bytes (c ∷ rest) x y left utf8 h all =
-    let whole : length bytes ≡ length (encode_utf8_all h.passed ++ (encode_utf8 c ++ encode_utf8_all rest)) =
-    ap length (sym (encodes-chars bytes utf8) ∙ (ap encode_utf8_all h.text_is ∙ encodes-append h.passed (c ∷ rest))) in
-    absurd
-    (omega (
-      arith,
-      whole,
-      length-append (encode_utf8_all h.passed) (encode_utf8 c ++ encode_utf8_all rest),
-      length-append (encode_utf8 c) (encode_utf8_all rest),
-      length-encode c,
-      (utf8_bounds c).0,
-      h.offset_is,
-      all,
-    ))
+rest_none units bytes (c ∷ rest) x y left utf8 h all = absurd (omega (
+  arith,
+  all,
+  passed_length units bytes (c ∷ rest) x y left utf8 h,
+  length-append (encode_utf8 c) (encode_utf8_all rest),
+  length-encode c,
+  (utf8_bounds c).0,
+))
 
 all_bytes : (units : ℕ → ℕ) (bytes rest : List ℕ) (x y left : ℕ) → IsUtf8 bytes → HasPassed units (chars bytes) rest x y
     left → rest ≡ [] → length bytes ≡ x
-all_bytes units bytes rest x y left utf8 h none =
-    grind (arith, common_steps, encodes-chars, encode_utf8_all, append-nil)
+all_bytes units bytes rest x y left utf8 h none = omega (
+  arith,
+  passed_length units bytes rest x y left utf8 h,
+  ap (λ (cs : List ℕ). length (encode_utf8_all cs)) none,
+)
 
 too_few_more : (units : ℕ → ℕ) (rest back : List ℕ) (left : ℕ) → (rest ≡ [] → ⊥) → IsTooFew units rest left
     → IsTooFew units (rest ++ back) left
@@ -105,7 +91,7 @@ module _ (units : ℕ → ℕ) (text chunk : List ℕ) (offset left x y count : 
       (subst (λ (rest : List ℕ). HasPassed units (chars text) rest offset left count) parts h) p.passed
 
   pub chunk_few : x ≤ length chunk
-  chunk_few = passed_few units chunk p.rest x y left chunk_utf8 p.passed
+  chunk_few = omega (arith, passed_length units chunk p.rest x y left chunk_utf8 p.passed)
 
   -- Where a character of the chunk has too many units, it has them in the text.
   pub chunk_stops : x < length chunk → IsPassed units (chars text) count (offset + x) y

@@ -1,10 +1,8 @@
 -- The first of two refusals.
-use Rattle.lsp_store.proofs.Prelude.{◌≡◌, Option, Some, None, refl, Refusal, else_refused}
+use Rattle.lsp_store.proofs.Prelude.{◌≡◌, Option, None, arith, common_steps, Refusal, else_refused}
 
 pub first_none : (first later : Option Refusal) → else_refused first later ≡ None → first ≡ None
-first_none None later e = refl
-first_none (Some refusal) later e = e
+first_none first later e = grind (arith, common_steps)
 
 pub later_none : (first later : Option Refusal) → else_refused first later ≡ None → later ≡ None
-later_none None later e = e
-later_none (Some refusal) later e = absurd (let bad : Some refusal ≡ None = e in cc)
+later_none first later e = grind (arith, common_steps)

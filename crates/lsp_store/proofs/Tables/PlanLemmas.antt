@@ -7,22 +7,14 @@ use Rattle.lsp_edit.specs.declared.delta.Delta.TheVariants.{Put, Left}
 use Rattle.lsp_edit.proofs.Deltas.DeltaLemmas.{IsWithin, within_told}
 use Rattle.lsp_store.proofs.Messages.MessageLemmas.{accepted_left}
 use Rattle.lsp_store.proofs.Tables.RefusalLemmas.{meaning_accepted, meaning_short}
-use Rattle.lsp_store.proofs.Tables.StoreLemmas.{get_found, may_take, seen}
-use Rattle.lsp_store.proofs.Tables.TableLemmas.{at_uri}
+use Rattle.lsp_store.proofs.Tables.StoreLemmas.{seen}
+use Rattle.lsp_store.proofs.Tables.TableLemmas.{at_uri, entry_found}
 
--- what follows where a call succeeds, or fails
-pub on_ok_on : {A E P O Q : Type 0} (r : Result A E) → (P → O → Q) → OnOk r P → OnOk r O → OnOk r Q
-on_ok_on (Ok a) then p o = then p o
-on_ok_on (Err e) then p o = tt
-
+-- what follows from two facts of a call that succeeds
 pub if_ok_on : {A E O : Type 0} {P Q : A → Type 0} (r : Result A E) → ((a : A) → P a → O → Q a) → IfOk r P → OnOk r O
     → IfOk r Q
 if_ok_on (Ok a) then p o = then a p o
 if_ok_on (Err e) then p o = tt
-
-pub ok_from : {A E Q : Type 0} {P : A → Type 0} (r : Result A E) → ((a : A) → P a → Q) → IfOk r P → OnOk r Q
-ok_from (Ok a) then p = then a p
-ok_from (Err e) then p = tt
 
 -- ---- the text that a delta is of
 
@@ -92,46 +84,40 @@ module _ (units : ℕ → ℕ) (uri : List ℕ) (version : ℤ) (batch : List Co
 
 -- ---- a plan
 
+module _ (limits : LimitsData) (es : List (String Global × Stored)) (uri : List ℕ) (version given : ℤ)
+    (given_is : given ≡ version) (encoding : Encoding) (batch : List ContentChange) (index : ℕ) (key : String Global)
+    (stored : Stored) (delta : Delta) where
+  pub plan_is : Some index ≡ position (at_uri uri) (map (λ e. e.0) es) → Some key ≡ lookup_key (at_uri uri) es
+      → Some stored ≡ lookup (at_uri uri) es → slice_get es index ≡ Some (key, stored)
+      → ((u : List ℕ) → entry_refusal limits (units_in encoding) (entry_under u stored) version batch ≡ None)
+      → IsDeltaOf (units_in encoding) limits.max_text stored.text batch delta → limits.max_text ≤ 1073741824
+      → IsPlanOf (seen limits es) uri version encoding batch (record { index = index; version = given; delta = delta })
+  plan_is at_index at_key found at accepted made short = record {
+    on = record {
+      entry = entry_under (string_bytes key) stored;
+      at = slice_get-map entry_of es index ∙ ap (option_map entry_of) at;
+      on = made.on;
+      short = omega (arith, short, meaning_short limits stored.text _ _ made.is);
+    };
+    is_open = there;
+    accepted = rw there (accepted (string_bytes key));
+    delta = made;
+    version_is = given_is;
+    after =
+        rw given_is
+        (after_planned (units_in encoding) uri version batch key stored delta
+        (λ u. ap (λ (text : List ℕ). record (entry_under u stored) { version = version; text = text })
+        (meaning_accepted limits stored.text _ _ made.is).1)
+        es index (index_found (at_uri uri) (map (λ e. e.0) es) index at_index) at);
+    left = rw there (accepted_left limits (units_in encoding) (entry_under (string_bytes key) stored) version batch
+        (accepted (string_bytes key)));
+  }
+    where
+      there : entry_at (map entry_of es) uri ≡ Some (entry_under (string_bytes key) stored)
+      there = sym (entry_found uri es key stored at_key found)
+
 module _ (limits : LimitsData) (es : List (String Global × Stored)) (kept : StoreData)
     (view : seen limits es ≡ kept) where
-  module _ (uri : List ℕ) (version given : ℤ) (given_is : given ≡ version) (encoding : Encoding)
-      (batch : List ContentChange)
-      (index : ℕ) (key : String Global) (stored : Stored) (delta : Delta) where
-    pub plan_is : Some index ≡ position (at_uri uri) (map (λ e. e.0) es) → Some key ≡ lookup_key (at_uri uri) es
-        → Some stored ≡ lookup (at_uri uri) es → slice_get es index ≡ Some (key, stored)
-        → ((u : List ℕ) → entry_refusal limits (units_in encoding) (entry_under u stored) version batch ≡ None)
-        → IsDeltaOf (units_in encoding) limits.max_text stored.text batch delta → limits.max_text ≤ 1073741824
-        → IsPlanOf kept uri version encoding batch (record { index = index; version = given; delta = delta })
-    plan_is at_index at_key found at accepted made short =
-        subst (λ (d : StoreData). IsPlanOf d uri version encoding batch (record {
-          index = index;
-          version = given;
-          delta = delta;
-        })) view (record {
-          on = record {
-            entry = entry_under (string_bytes key) stored;
-            at = slice_get-map entry_of es index ∙ ap (option_map entry_of) at;
-            on = made.on;
-            short = omega (arith, short, meaning_short limits stored.text _ _ made.is);
-          };
-          is_open = there;
-          accepted = rw there (accepted (string_bytes key));
-          delta = made;
-          version_is = given_is;
-          after =
-              rw given_is
-              (after_planned (units_in encoding) uri version batch key stored delta
-              (λ u. ap (λ (text : List ℕ). record (entry_under u stored) { version = version; text = text })
-              (meaning_accepted limits stored.text _ _ made.is).1)
-              es index (index_found (at_uri uri) (map (λ e. e.0) es) index at_index) at);
-          left = may_take (seen limits es) uri version batch (entry_under (string_bytes key) stored) there
-              (accepted_left limits (units_in encoding) (entry_under (string_bytes key) stored) version batch
-              (accepted (string_bytes key)));
-        })
-      where
-        there : entry_at (map entry_of es) uri ≡ Some (entry_under (string_bytes key) stored)
-        there = sym (get_found limits es (seen limits es) refl uri key stored at_key found)
-
   -- the document that a plan is of
   module _ (plan : Plan) (p : IsPlanOn kept plan) (stored : Stored) (h : HasEntry es plan.index stored) where
     entry_is : Some (entry_under (string_bytes h.key) stored) ≡ Some p.entry

@@ -1,5 +1,5 @@
 -- Which refusal of a batch stands first.
-use Rattle.lsp_store.proofs.Prelude.{◌≡◌, ◌≤◌, ◌+◌, ℕ, ℤ, Bool, true, false, ◌||◌, nat_lt, List, [], ◌∷◌, length, map, sum_by, string_bytes, string_len, encode_utf8_all, Some, None, option_map, Result, Ok, Err, refl, sym, ap, ◌∙◌, arith, ◌<◌, ◌↔◌, IsTrue, ◌⊎◌, inl, inr, lt-ltb, le-ltb, or_left, or_right, or_from, cases_lt, cases_Bool, ltb-false, length-map, sum_by-cons, IsUtf8-string_bytes, encodes-chars, IsOk, chars, LimitsData, Change, BatchFault, Item, text_within, ContentChange, Fault, meaning, content_change, NoMemory, TooManyChanges, refusal_fault, store_fault_of, IsRefusal, DocumentItem, too_many_changes, batch_bytes, greatest_batch, is_stale, entry_refusal, meaning_refusal, meant_text, common_steps}
+use Rattle.lsp_store.proofs.Prelude.{◌≡◌, ◌≤◌, ℕ, ℤ, Bool, true, false, ◌||◌, nat_lt, List, [], ◌∷◌, length, map, sum_by, string_len, Some, None, option_map, Result, Ok, Err, refl, arith, ◌<◌, ◌↔◌, IsTrue, ◌⊎◌, inl, inr, lt-ltb, le-ltb, or_left, or_right, or_from, cases_Bool, ltb-false, length-map, sum_by-cons, IsUtf8-string_bytes, encodes-chars, IsOk, chars, LimitsData, Change, BatchFault, Item, text_within, ContentChange, Fault, meaning, content_change, NoMemory, TooManyChanges, refusal_fault, store_fault_of, IsRefusal, DocumentItem, too_many_changes, batch_bytes, greatest_batch, is_stale, entry_refusal, meaning_refusal, meant_text, common_steps}
 use Rattle.lsp_edit.specs.declared.indexed.fault.BatchFault.TheVariants as text
 
 -- the changes of a batch have together so many bytes
@@ -51,10 +51,6 @@ module _ (limits : LimitsData) (changes : List Change) where
         → option_map refusal_fault (entry_refusal limits units entry version (map content_change changes))
         ≡ Some TooManyChanges
     many_refused many = grind (arith, common_steps, refused_many, many_told)
-
-    over : (fits : Bool) → (IsTrue fits ↔ (sum_by (λ change. string_len change.text) changes ≤ 1073741824))
-        → fits ≡ false → 1073741824 < sum_by (λ change. string_len change.text) changes
-    over fits is not = grind (arith, common_steps, sum_by, string_len, cases_lt)
 
     pub long_refused : (fits : Bool) → (IsTrue fits ↔ (sum_by (λ change. string_len change.text) changes ≤ 1073741824))
         → fits ≡ false → option_map refusal_fault (entry_refusal limits units entry version

@@ -1,4 +1,4 @@
-use Rattle.lsp_message.proofs.Prelude.{◌≡◌, sym, rules, w32, to_z, of_z, to_z-of_z}
+use Rattle.lsp_message.proofs.Prelude.{sym, rules, w32, to_z-of_z}
 use Rattle.lsp_message.proofs.BodyLemmas.{body_is}
 use Rattle.lsp_message.proofs.ReadBack.{body_of-unique}
 use Rattle.lsp_message.proofs.writer.push_change.Goals as goal
@@ -6,8 +6,7 @@ use Rattle.lsp_message.proofs.writer.push_change.Goals as goal
 pub returns-clause-ok : goal.returns-clause-ok
 returns-clause-ok c =
     let number = c.args.version in
-    let version : to_z w32 (of_z w32 number) ≡ number = to_z-of_z w32 number (search rules) in
-    rw (body_is, sym version) c.push.ensures.ok
+    rw (body_is, sym (to_z-of_z w32 number (search rules))) c.push.ensures.ok
 
 pub returns-clause-unique : goal.returns-clause-unique
 returns-clause-unique c = body_of-unique

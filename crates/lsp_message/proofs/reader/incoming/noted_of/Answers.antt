@@ -1,4 +1,4 @@
-use Rattle.lsp_message.proofs.Prelude.{◌≡◌, ℕ, Bool, true, false, List, Option, refl, if◌then◌else◌, Offers}
+use Rattle.lsp_message.proofs.Prelude.{◌≡◌, ℕ, Bool, true, false, List, Option, refl, ap, ◌∙◌, if◌then◌else◌, Offers}
 use Rattle.lsp_message.specs.Incoming.{initialize, shutdown, other_request}
 use Rattle.lsp_message.specs.Lengths.{is_noted}
 use Rattle.lsp_message.specs.Message.{IdData}
@@ -11,7 +11,11 @@ unnoted false true id offers method = refl
 unnoted _ _ id offers method = refl
 
 pub returns-in-Request : goal.returns-in-Request
-returns-in-Request c = rw c.in-Request.is (c.nothing.ensures _ _ c.request-incoming.ensures (unnoted _ _ _ _ _))
+returns-in-Request c = rw c.in-Request.is (c.nothing.ensures _ _ c.request-incoming.ensures
+    (ap is_noted c.request-incoming.ensures ∙ unnoted _ _ _ _ _))
+
+pub returns-in-Notification : goal.returns-in-Notification
+returns-in-Notification c = rw c.in-Notification.is c.notification.ensures
 
 pub returns : goal.returns
 returns c = rw c.in-Response.is (c.nothing-in-Response.ensures _ _ refl refl)

@@ -1,5 +1,5 @@
 use Rattle.lsp_message.proofs.Prelude.{◌≡◌, [], Some, sym, ap, ◌∙◌, arith, tokens, incoming_of, message_of, value_at, IfSome_then}
-use Rattle.lsp_message.proofs.Converted.{text_read}
+use Rattle.lsp_message.proofs.Grammar.{text_read}
 use Rattle.lsp_message.proofs.reader.incoming.read_tokens.Goals as goal
 
 pub returns-in_ok-incoming-in-Of-clause-ok : goal.returns-in_ok-incoming-in-Of-clause-ok

@@ -1,47 +1,30 @@
-use Rattle.lsp_message.proofs.Prelude.{◌≡◌, ◌-◌, Some, ◌∙◌, arith, read_key, read_key-shorter, put}
-use Rattle.lsp_message.proofs.Grammar.{members_at-more, members_at-refused, members_at-no_key, members_at-end}
+use Rattle.lsp_message.proofs.Prelude.{◌≡◌, Some, None, arith, read_key, no_members, put, members_at}
+use Rattle.lsp_message.proofs.Grammar.{left_first, members_next, members_refused, key_refused, members_last}
 use Rattle.lsp_message.proofs.reader.object.read_members.Goals as goal
 
+pub members-init : goal.members-init
+members-init g c = (no_members, left_first (members_at c.args.depth) no_members c.args.reader.now, c.requires)
+
 pub returns-in_err-name-clause-error : goal.returns-in_err-name-clause-error
-returns-in_err-name-clause-error g c =
-    let l = c.members in
-    λ e. (l.invariant.3 ∙ members_at-no_key c.args.depth l.invariant.0 l.invariant.1 l.reader
-    c.in_err-name.ensures.value)
+returns-in_err-name-clause-error g c = λ e. key_refused c.args.depth c.members.invariant.1 c.in_err-name.ensures.value
 
 pub members-preserved : goal.members-preserved
 members-preserved g c =
-    let l = c.members in
-    let n = l.invariant.0 in
-    let old = l.invariant.1 in
+    let found = c.members.invariant.0 in
     let k = c.in-Some.name.now in
-    let s = c.next_key.new.self in
-    let named : read_key l.reader ≡ Some (Some k, s) = grind arith in
-    let less = read_key-shorter l.reader (Some k) s named in
-    let lesser = c.in_ok-read_member.ensures.shorter in
-    let read = c.in_ok-read_member.ensures.ok in (
-      n - 1,
-      put k read.0 old,
-      omega (arith, l.invariant.2),
-      l.invariant.3 ∙ members_at-more c.args.depth n old k l.reader s c.read_member.new.reader read.0
-          (omega (arith, l.invariant.2)) named read.1,
-      omega (arith, l.invariant.4),
-      read.2 old l.invariant.5,
+    let named : read_key c.members.reader ≡ Some (Some k, c.next_key.new.self) = grind arith in
+    let done = c.in_ok-read_member.ensures in (
+      put k done.ok.0 found,
+      members_next c.args.depth c.members.invariant.1 named done.ok.1 done.shorter,
+      done.ok.2 found c.members.invariant.2,
     )
 
 pub returns-in_err-read_member-clause-error : goal.returns-in_err-read_member-clause-error
-returns-in_err-read_member-clause-error g c =
-    let l = c.members in
-    let k = c.in-Some.name.now in
-    let s = c.next_key.new.self in
-    let named : read_key l.reader ≡ Some (Some k, s) = grind arith in
-    λ e. (l.invariant.3 ∙ members_at-refused c.args.depth l.invariant.0 l.invariant.1 k l.reader s named
-    (c.in_err-read_member.ensures.error (grind arith)))
+returns-in_err-read_member-clause-error g c = λ e.
+    let named : read_key c.members.reader ≡ Some (Some c.in-Some.name.now, c.next_key.new.self) = grind arith in
+    members_refused c.args.depth c.members.invariant.1 named (c.in_err-read_member.ensures.error (grind arith))
 
 pub returns-clause-ok : goal.returns-clause-ok
 returns-clause-ok g c =
-    let l = c.members in (
-      l.invariant.1,
-      l.invariant.3 ∙ members_at-end c.args.depth l.invariant.0 l.invariant.1 l.reader c.next_key.new.self l.invariant.2
-          (grind arith),
-      l.invariant.5,
-    )
+    let ends : read_key c.members.reader ≡ Some (None, c.next_key.new.self) = grind arith in
+    (c.members.invariant.0, members_last c.args.depth c.members.invariant.1 ends, c.members.invariant.2)

@@ -1,22 +1,6 @@
-use Rattle.lsp_message.proofs.Prelude.{◌≡◌, ◌∷◌, refl, ap, ◌∙◌, arith, parse_map, token_of, object, value_at, common_steps}
-use Rattle.lsp_message.proofs.Grammar.{value_at-nil, value_at-null, value_at-shallow_object, value_at-object}
-use Rattle.lsp_message.proofs.Openings.{first_read}
+use Rattle.lsp_message.proofs.Prelude.{◌≡◌, ◌∷◌, refl, ap, ◌∙◌, arith, parse_map, token_of, object, value_at}
+use Rattle.lsp_message.proofs.Grammar.{value_at-object}
 use Rattle.lsp_message.proofs.reader.object.read_object.Goals as goal
-
-pub returns-in_err-token-clause-error : goal.returns-in_err-token-clause-error
-returns-in_err-token-clause-error g c = λ e. value_at-nil c.args.depth c.args.reader.now (grind arith)
-
-pub returns-then-depth-eq0-clause-error : goal.returns-then-depth-eq0-clause-error
-returns-then-depth-eq0-clause-error g c = grind (arith, common_steps, value_at-shallow_object, c.in-BeginObject.is)
-
-pub returns-in_err-kept-in-BeginObject-clause-error : goal.returns-in_err-kept-in-BeginObject-clause-error
-returns-in_err-kept-in-BeginObject-clause-error g c = grind (
-  arith,
-  common_steps,
-  value_at-object,
-  c.in-BeginObject.is,
-  c.in_err-kept-in-BeginObject.ensures.error,
-)
 
 pub returns-in_ok-kept-in-BeginObject-clause-ok : goal.returns-in_ok-kept-in-BeginObject-clause-ok
 returns-in_ok-kept-in-BeginObject-clause-ok g c =
@@ -27,10 +11,3 @@ returns-in_ok-kept-in-BeginObject-clause-ok g c =
           ∙ value_at-object c.args.depth c.next.new.self (omega arith) ∙ ap (parse_map object) read.1,
       (read.0, refl, read.2),
     )
-
-pub returns-in-Null-clause-ok : goal.returns-in-Null-clause-ok
-returns-in-Null-clause-ok g c = grind (arith, common_steps, value_at-null, c.in-Null.is)
-
-pub returns-in_ok-skip_value_from-in_default : goal.returns-in_ok-skip_value_from-in_default
-returns-in_ok-skip_value_from-in_default g c =
-    grind (arith, common_steps, first_read, c.in_ok-skip_value_from-in_default.ensures)

@@ -1,35 +1,15 @@
-use Rattle.lsp_message.proofs.Prelude.{◌≡◌, ◌∷◌, ap, ◌∙◌, arith, rules, Token, token_of, null, number, string, value_at, number_data, common_steps}
-use Rattle.lsp_message.proofs.Converted.{on_err}
-use Rattle.lsp_message.proofs.Grammar.{value_at-nil, value_at-string, value_at-null, value_at-number, value_at-no_number}
-use Rattle.lsp_message.proofs.Openings.{first_read}
+use Rattle.lsp_message.proofs.Prelude.{arith, rules, common_steps, value_is, null, number, string, number_of, number_data}
+use Rattle.lsp_message.proofs.Grammar.{parsed}
 use Rattle.lsp_message.proofs.reader.scalar.read_scalar.Goals as goal
-
-pub returns-in_err-token-clause-error : goal.returns-in_err-token-clause-error
-returns-in_err-token-clause-error c = on_err _ (value_at-nil c.args.depth c.args.reader.now (grind arith))
 
 pub returns-in-String-clause-ok : goal.returns-in-String-clause-ok
 returns-in-String-clause-ok c =
-    let first : c.args.reader.now ≡ token_of c.in_ok-token.token ∷ c.next.new.self = grind arith in
-    let is : c.args.reader.now ≡ Token.string c.in-String.text.now ∷ c.next.new.self = grind (arith, first) in
-    (string c.in-String.text.now, ap (value_at c.args.depth) is ∙ value_at-string c.args.depth _ _, search rules)
+    (string c.in-String.text.now, grind (arith, common_steps, value_is, c.in-String.is), search rules)
 
 pub returns-in-Null-clause-ok : goal.returns-in-Null-clause-ok
-returns-in-Null-clause-ok c =
-    let first : c.args.reader.now ≡ token_of c.in_ok-token.token ∷ c.next.new.self = grind arith in
-    let is : c.args.reader.now ≡ Token.null ∷ c.next.new.self = grind (arith, first) in
-    (null, ap (value_at c.args.depth) is ∙ value_at-null c.args.depth _, search rules)
+returns-in-Null-clause-ok c = (null, grind (arith, common_steps, value_is, c.in-Null.is), search rules)
 
 pub returns-in-Some-clause-ok : goal.returns-in-Some-clause-ok
 returns-in-Some-clause-ok c =
-    let first : c.args.reader.now ≡ token_of c.in_ok-token.token ∷ c.next.new.self = grind arith in
-    let is : c.args.reader.now ≡ Token.number c.in-Number.text.now ∷ c.next.new.self = grind (arith, first) in
-    let read = value_at-number c.args.depth c.in-Number.text.now c.next.new.self (number_data c.in-Some.number)
-    c.in-Some.ensures in
-    (number read.0, ap (value_at c.args.depth) is ∙ read.1, read.2)
-
-pub returns-in-None-clause-error : goal.returns-in-None-clause-error
-returns-in-None-clause-error c = grind (arith, common_steps, value_at-no_number, c.in-None.ensures)
-
-pub returns-in_ok-skip_value_from-in_default : goal.returns-in_ok-skip_value_from-in_default
-returns-in_ok-skip_value_from-in_default c =
-    grind (arith, common_steps, first_read, c.in_ok-skip_value_from-in_default.ensures)
+    let kept = parsed (number_data c.in-Some.number) (number_of c.in-Number.text.now) c.in-Some.ensures in
+    (number kept.0, grind (arith, common_steps, value_is, kept.1), kept.2)

@@ -1,145 +1,81 @@
-use Rattle.lsp_message.proofs.Prelude.{◌≡◌, ◌-◌, ◌<◌, ◌∷◌, length, Some, None, refl, ap, ◌∙◌, arith, after_end_array, read_key, token_of, read_key-shorter, value_is, left_some, left_none, left-parse_map, no_members, item, put, value_at, items_at, rest_of, on_err_weaker, on_ok_weaker, common_steps}
-use Rattle.lsp_message.proofs.Converted.{on_err}
-use Rattle.lsp_message.proofs.Grammar.{value_at-nil, value_at-string, value_at-boolean, value_at-null, value_at-number, value_at-no_number, value_at-shallow_array, value_at-shallow_object, value_at-array, value_at-object, items_at-more, items_at-refused, items_at-end, members_at-more, members_at-refused, members_at-no_key, members_at-end}
+use Rattle.lsp_message.proofs.Prelude.{◌≡◌, ◌∷◌, Some, None, ap, ◌∙◌, arith, after_end_array, read_key, token_of, parse_map, null, boolean, number, string, array, object, no_items, no_members, put, number_of, value_is, common_steps, value_at, items_at, members_at, on_ok_weaker}
+use Rattle.lsp_message.proofs.Grammar.{on_err, parsed, left_first, one_more, value_at-array, value_at-object, items_next, items_refused, items_last, members_next, members_refused, key_refused, members_last}
 use Rattle.lsp_message.proofs.reader.skip.+skip.Goals as goal
-
-pub skip_value-returns-in_err-token-clause-error : goal.skip_value-returns-in_err-token-clause-error
-skip_value-returns-in_err-token-clause-error t c = on_err _ (value_at-nil c.args.depth c.args.reader.now (grind arith))
-
-pub skip_value_from-returns-then-depth-eq0-clause-error : goal.skip_value_from-returns-then-depth-eq0-clause-error
-skip_value_from-returns-then-depth-eq0-clause-error t c =
-    grind (arith, common_steps, value_at-shallow_array, c.in-BeginArray.is)
-
-pub skip_value_from-returns-then-depth-eq0-2-clause-error : goal.skip_value_from-returns-then-depth-eq0-2-clause-error
-skip_value_from-returns-then-depth-eq0-2-clause-error t c =
-    grind (arith, common_steps, value_at-shallow_object, c.in-BeginObject.is)
-
-pub skip_value_from-returns-in-String-clause-ok : goal.skip_value_from-returns-in-String-clause-ok
-skip_value_from-returns-in-String-clause-ok t c = grind (arith, common_steps, value_at-string, c.in-String.is)
-
-pub skip_value_from-returns-in-Bool-clause-ok : goal.skip_value_from-returns-in-Bool-clause-ok
-skip_value_from-returns-in-Bool-clause-ok t c = grind (arith, common_steps, value_at-boolean, c.in-Bool.is)
-
-pub skip_value_from-returns-in-Null-clause-ok : goal.skip_value_from-returns-in-Null-clause-ok
-skip_value_from-returns-in-Null-clause-ok t c = grind (arith, common_steps, value_at-null, c.in-Null.is)
-
-pub skip_value_from-returns-in-Some-clause-ok : goal.skip_value_from-returns-in-Some-clause-ok
-skip_value_from-returns-in-Some-clause-ok t c =
-    ap (λ k. rest_of (value_at c.args.depth (token_of k ∷ c.args.reader.now))) c.in-Number.is
-    ∙ ap rest_of (value_at-number c.args.depth c.in-Number.text.now c.args.reader.now _ c.in-Some.ensures).1
-
-pub skip_value_from-returns-in-None-clause-error : goal.skip_value_from-returns-in-None-clause-error
-skip_value_from-returns-in-None-clause-error t c =
-    grind (arith, common_steps, value_at-no_number, c.in-Number.is, c.in-None.ensures)
-
-pub skip_value_from-returns-in-EndObject-clause-error : goal.skip_value_from-returns-in-EndObject-clause-error
-skip_value_from-returns-in-EndObject-clause-error t c = grind (arith, common_steps, value_is)
 
 pub skip_value_from-returns-else-depth-eq0-clause-ok : goal.skip_value_from-returns-else-depth-eq0-clause-ok
 skip_value_from-returns-else-depth-eq0-clause-ok t c =
-    grind (
-      arith,
-      common_steps,
-      value_at-array,
-      on_ok_weaker,
-      left-parse_map,
-      c.in-BeginArray.is,
-      c.skip_items.ensures.ok,
-    )
-
-pub skip_value_from-returns-else-depth-eq0-clause-error : goal.skip_value_from-returns-else-depth-eq0-clause-error
-skip_value_from-returns-else-depth-eq0-clause-error t c =
-    grind (arith, common_steps, value_at-array, on_err_weaker, c.in-BeginArray.is, c.skip_items.ensures.error)
+    let depth = c.args.depth in
+    let ts = c.args.reader.now in
+    let opened = ap (λ k. value_at depth (token_of k ∷ ts)) c.in-BeginArray.is ∙ value_at-array depth ts (omega
+    arith) in
+    on_ok_weaker c.skip_items.result (λ read. (array read.0, opened ∙ ap (parse_map array) read.1))
+    c.skip_items.ensures.ok
 
 pub skip_value_from-returns-else-depth-eq0-2-clause-ok : goal.skip_value_from-returns-else-depth-eq0-2-clause-ok
 skip_value_from-returns-else-depth-eq0-2-clause-ok t c =
-    grind (
-      arith,
-      common_steps,
-      value_at-object,
-      on_ok_weaker,
-      left-parse_map,
-      c.in-BeginObject.is,
-      c.skip_members.ensures.ok,
-    )
+    let depth = c.args.depth in
+    let ts = c.args.reader.now in
+    let opened = ap (λ k. value_at depth (token_of k ∷ ts)) c.in-BeginObject.is
+    ∙ value_at-object depth ts (omega arith) in
+    on_ok_weaker c.skip_members.result (λ read. (object read.0, opened ∙ ap (parse_map object) read.1))
+    c.skip_members.ensures.ok
 
-pub skip_value_from-returns-else-depth-eq0-2-clause-error : goal.skip_value_from-returns-else-depth-eq0-2-clause-error
-skip_value_from-returns-else-depth-eq0-2-clause-error t c =
-    grind (arith, common_steps, value_at-object, on_err_weaker, c.in-BeginObject.is, c.skip_members.ensures.error)
+pub skip_value_from-returns-in-String-clause-ok : goal.skip_value_from-returns-in-String-clause-ok
+skip_value_from-returns-in-String-clause-ok t c =
+    (string c.in-String.field-0.now, grind (arith, common_steps, value_is, c.in-String.is))
+
+pub skip_value_from-returns-in-Bool-clause-ok : goal.skip_value_from-returns-in-Bool-clause-ok
+skip_value_from-returns-in-Bool-clause-ok t c =
+    (boolean c.in-Bool.field-0, grind (arith, common_steps, value_is, c.in-Bool.is))
+
+pub skip_value_from-returns-in-Null-clause-ok : goal.skip_value_from-returns-in-Null-clause-ok
+skip_value_from-returns-in-Null-clause-ok t c = (null, grind (arith, common_steps, value_is, c.in-Null.is))
+
+pub skip_value_from-returns-in-Some-clause-ok : goal.skip_value_from-returns-in-Some-clause-ok
+skip_value_from-returns-in-Some-clause-ok t c =
+    let kept = parsed _ (number_of c.in-Number.text.now) c.in-Some.ensures in
+    (number kept.0, grind (arith, common_steps, value_is, kept.1, c.in-Number.is))
+
+pub skip_items-items-init : goal.skip_items-items-init
+skip_items-items-init t c = (no_items, left_first (items_at c.args.depth) no_items c.args.reader.now)
 
 pub skip_items-items-preserved : goal.skip_items-items-preserved
 skip_items-items-preserved t c =
-    let l = c.items in
-    let n = l.invariant.0 in
-    let depth = c.args.depth in
-    let going : (after_end_array l.reader ≡ None) × (c.take_end_array.new.self ≡ l.reader) = grind arith in
-    let r = c.skip_value.new.reader in
+    let going : (after_end_array c.items.reader ≡ None) × (c.take_end_array.new.self ≡ c.items.reader) = grind arith in
     let done = c.in_ok-skip_value.ensures in
-    let less : length r < length l.reader = rw (← going.1) done.shorter in
-    let read = left_some (value_at depth l.reader) r (rw (← going.1) done.ok) in
-    let turn = items_at-more depth n l.reader r read.0 (omega (arith, l.invariant.1)) going.0 read.1 in (
-      n - 1,
-      omega (arith, l.invariant.1),
-      l.invariant.2 ∙ ap rest_of turn ∙ left-parse_map (item read.0) (items_at depth (n - 1) r),
-      omega (arith, l.invariant.3),
-    )
+    (one_more c.items.invariant.0 done.ok.0, items_next c.args.depth c.items.invariant.1 going done.ok.1 done.shorter)
 
 pub skip_items-returns-in_err-skip_value-clause-error : goal.skip_items-returns-in_err-skip_value-clause-error
 skip_items-returns-in_err-skip_value-clause-error t c =
-    let l = c.items in
-    let n = l.invariant.0 in
-    let depth = c.args.depth in
-    let going : (after_end_array l.reader ≡ None) × (c.take_end_array.new.self ≡ l.reader) = grind arith in
-    let none = items_at-refused depth n l.reader going.0 (rw (← going.1) c.in_err-skip_value.ensures.error) in
-    on_err _ (left_none (items_at depth (length c.args.reader.now) c.args.reader.now) (l.invariant.2 ∙ ap rest_of none))
+    let going : (after_end_array c.items.reader ≡ None) × (c.take_end_array.new.self ≡ c.items.reader) = grind arith in
+    on_err _ (items_refused c.args.depth c.items.invariant.1 going c.in_err-skip_value.ensures.error)
 
 pub skip_items-returns-clause-ok : goal.skip_items-returns-clause-ok
 skip_items-returns-clause-ok t c =
-    let l = c.items in
-    let r = c.take_end_array.new.self in
-    l.invariant.2 ∙ ap rest_of (items_at-end c.args.depth l.invariant.0 l.reader r l.invariant.1 (grind arith))
+    let ends : after_end_array c.items.reader ≡ Some c.take_end_array.new.self = grind arith in
+    (c.items.invariant.0, items_last c.args.depth c.items.invariant.1 ends)
 
 pub skip_members-members-init : goal.skip_members-members-init
-skip_members-members-init t c = (length c.args.reader.now, no_members, omega arith, refl, omega arith)
+skip_members-members-init t c = (no_members, left_first (members_at c.args.depth) no_members c.args.reader.now)
 
 pub skip_members-returns-in_err-next_key-clause-error : goal.skip_members-returns-in_err-next_key-clause-error
 skip_members-returns-in_err-next_key-clause-error t c =
-    let l = c.members in
-    on_err _ (l.invariant.3 ∙ members_at-no_key c.args.depth l.invariant.0 l.invariant.1 l.reader
-    c.in_err-next_key.ensures.value)
+    on_err _ (key_refused c.args.depth c.members.invariant.1 c.in_err-next_key.ensures.value)
 
 pub skip_members-members-preserved : goal.skip_members-members-preserved
 skip_members-members-preserved t c =
-    let l = c.members in
-    let n = l.invariant.0 in
-    let old = l.invariant.1 in
-    let depth = c.args.depth in
-    let k = c.in-Some.field-0.now in
-    let s = c.next_key.new.self in
-    let named : read_key l.reader ≡ Some (Some k, s) = grind arith in
-    let r = c.skip_value.new.reader in
-    let done = c.in_ok-skip_value.ensures in
-    let less = read_key-shorter l.reader (Some k) s named in
-    let lesser = done.shorter in
-    let read = left_some (value_at depth s) r done.ok in (
-      n - 1,
-      put k read.0 old,
-      omega (arith, l.invariant.2),
-      l.invariant.3 ∙ members_at-more depth n old k l.reader s r read.0 (omega (arith, l.invariant.2)) named read.1,
-      omega (arith, l.invariant.4),
+    let named : read_key c.members.reader ≡ Some (Some c.in-Some.field-0.now, c.next_key.new.self) = grind arith in
+    let done = c.in_ok-skip_value.ensures in (
+      put c.in-Some.field-0.now done.ok.0 c.members.invariant.0,
+      members_next c.args.depth c.members.invariant.1 named done.ok.1 done.shorter,
     )
 
 pub skip_members-returns-in_err-skip_value-clause-error : goal.skip_members-returns-in_err-skip_value-clause-error
 skip_members-returns-in_err-skip_value-clause-error t c =
-    let l = c.members in
-    let k = c.in-Some.field-0.now in
-    let s = c.next_key.new.self in
-    let named : read_key l.reader ≡ Some (Some k, s) = grind arith in
-    on_err _ (l.invariant.3 ∙ members_at-refused c.args.depth l.invariant.0 l.invariant.1 k l.reader s named
-    c.in_err-skip_value.ensures.error)
+    let named : read_key c.members.reader ≡ Some (Some c.in-Some.field-0.now, c.next_key.new.self) = grind arith in
+    on_err _ (members_refused c.args.depth c.members.invariant.1 named c.in_err-skip_value.ensures.error)
 
 pub skip_members-returns-clause-ok : goal.skip_members-returns-clause-ok
 skip_members-returns-clause-ok t c =
-    let l = c.members in
-    ap rest_of (l.invariant.3 ∙ members_at-end c.args.depth l.invariant.0 l.invariant.1 l.reader c.next_key.new.self
-    l.invariant.2 (grind arith))
+    let ends : read_key c.members.reader ≡ Some (None, c.next_key.new.self) = grind arith in
+    (c.members.invariant.0, members_last c.args.depth c.members.invariant.1 ends)

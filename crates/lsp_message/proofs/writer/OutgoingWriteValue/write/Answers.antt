@@ -1,4 +1,4 @@
-use Rattle.lsp_message.proofs.Prelude.{◌≡◌, sym, rules, w32, to_z, of_z, to_z-of_z}
+use Rattle.lsp_message.proofs.Prelude.{sym, rules, w32, to_z-of_z}
 use Rattle.lsp_message.proofs.writer.OutgoingWriteValue.write.Goals as goal
 
 pub returns-in-Initialized-clause-tokens : goal.returns-in-Initialized-clause-tokens
@@ -7,10 +7,9 @@ returns-in-Initialized-clause-tokens c = rw c.in-Initialized.is c.write_notifica
 pub returns-in-DidOpen-clause-tokens : goal.returns-in-DidOpen-clause-tokens
 returns-in-DidOpen-clause-tokens c =
     let number = c.in-DidOpen.params.version in
-    let version : to_z w32 (of_z w32 number) ≡ number = to_z-of_z w32 number (search rules) in
     rw (
       c.in-DidOpen.is,
-      sym version,
+      sym (to_z-of_z w32 number (search rules)),
       sym c.as_str.ensures.value,
       sym c.as_str-in-DidOpen.ensures.value,
       sym c.as_str-in-DidOpen-2.ensures.value,

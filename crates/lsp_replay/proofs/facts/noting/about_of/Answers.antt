@@ -1,46 +1,45 @@
-use Rattle.lsp_replay.proofs.Prelude.{◌≡◌, ℕ, Bool, true, false, List, [], Option, Some, None, option_and_then, refl, sym, ap, ◌∙◌, if◌then◌else◌, ChangeData, IncomingData, did_change, did_open, other_notification, ServerData, Client, is_save, notes_on, saved_in}
+use Rattle.lsp_replay.proofs.Prelude.{◌≡◌, ℕ, Bool, true, false, List, [], Option, None, option_and_then, refl, ap, ap₂, ◌∙◌, if◌then◌else◌, Reading, reading, IncomingData, did_change, did_open, other_notification, ServerData, Client, is_save, lengths_of, notification_params, notes_on, saved_in}
 use Rattle.serde_json.specs.Data.{Data}
+use Rattle.lsp_message.specs.Lengths.{lengths_noted, params_noted}
 use Rattle.lsp_server.specs.Seen.{incoming_view}
 use Rattle.lsp_store.specs.Table.{entry_at}
-use Rattle.lsp_replay.specs.Notes.{changing_notes, saved_notes, saved_text, saved_uri, terms_in}
+use Rattle.lsp_replay.specs.Notes.{saved_notes, saved_text, saved_uri}
 use Rattle.lsp_replay.proofs.facts.noting.about_of.Goals as goal
 
--- what is decided by a condition needs what it is of only where that holds
-if_same : {A : Type 0} (b : Bool) {kept whole : A} (other : A) → (b ≡ true → kept ≡ whole)
-    → (if b then kept else other) ≡ (if b then whole else other)
-if_same true other same = same refl
-if_same false other same = refl
+-- what is there only under a condition is enough under this condition
+kept_same : {P A : Type 0} (b : Bool) (f : P → A) (kept none : P) (other : A)
+    → (if b then f (if b then kept else none) else other) ≡ (if b then f kept else other)
+kept_same true f kept none other = refl
+kept_same false f kept none other = refl
 
-module _ {kept params : Option Data} where
-  notes_same : (s : ServerData) (ranged : Bool) {sent lengths : List (Option ℕ)} (m : IncomingData)
-      → ((change : ChangeData) → m ≡ did_change (Some change) → sent ≡ lengths)
-      → ((method : List ℕ) → m ≡ other_notification method → is_save method ≡ true → kept ≡ params)
-      → notes_on s ranged sent kept m ≡ notes_on s ranged lengths params m
-  notes_same s ranged (did_open (Some p)) same is = refl
-  notes_same s ranged (did_open None) same is = refl
-  notes_same s ranged (did_change (Some p)) same is =
-      ap (λ (ls : List (Option ℕ)). changing_notes (terms_in s ranged ls) p (entry_at s.table p.uri)) (same p refl)
-  notes_same s ranged (did_change None) same is = refl
-  notes_same s ranged (other_notification method) same is =
-      if_same (is_save method) _ (λ saves. ap
-      (λ p. saved_notes (option_and_then (entry_at s.table) (saved_uri p)) (saved_text p)) (is method refl saves))
-  notes_same s ranged _ same is = refl
+notes_same : (s : ServerData) (ranged : Bool) (m : IncomingData) (body : Reading)
+    → notes_on s ranged (lengths_noted m body) (params_noted m body) m
+    ≡ notes_on s ranged (lengths_of body) (notification_params body) m
+notes_same s ranged (did_open (Some p)) body = refl
+notes_same s ranged (did_open None) body = refl
+notes_same s ranged (did_change (Some p)) body = refl
+notes_same s ranged (did_change None) body = refl
+notes_same s ranged (other_notification method) body =
+    kept_same (is_save method) (λ (p : Option Data). saved_notes (option_and_then (entry_at s.table) (saved_uri p))
+    (saved_text p)) (notification_params body) None []
+notes_same s ranged _ body = refl
 
-  saved_same : (m : IncomingData)
-      → ((method : List ℕ) → m ≡ other_notification method → is_save method ≡ true → kept ≡ params)
-      → saved_in Client m kept ≡ saved_in Client m params
-  saved_same (other_notification method) is = if_same (is_save method) _ (λ saves. ap saved_uri (is method refl saves))
-  saved_same _ is = refl
+saved_same : (m : IncomingData) (body : Reading)
+    → saved_in Client m (params_noted m body) ≡ saved_in Client m (notification_params body)
+saved_same (other_notification method) body =
+    kept_same (is_save method) saved_uri (notification_params body) None None
+saved_same _ body = refl
 
 pub returns : goal.returns
-returns c = λ body given. let read = rw c.in-Client.is at given in
+returns c = λ body given.
+    let read = rw c.in-Client.is at given in
+    let m = incoming_view c.in-Client.incoming in
     rw c.in-Client.is (record {
       uri = c.in_ok-copied_text.ensures ∙ c.uri_of.ensures;
-      saved = c.in_ok-copied_text-2.ensures ∙ (c.saved_in.ensures ∙ saved_same (incoming_view c.in-Client.incoming)
-          (λ method e. read.params method (sym read.asks ∙ e)));
+      saved = c.in_ok-copied_text-2.ensures ∙ c.saved_in.ensures ∙ ap (saved_in Client m) read.params
+          ∙ saved_same m (reading body);
       is_change = c.is_change.ensures;
       notes = c.in_ok-notes_on.ensures
-          ∙ notes_same c.args.server.now c.args.ranged (incoming_view c.in-Client.incoming)
-          (λ change e. read.lengths change (sym read.asks ∙ e))
-          (λ method e. read.params method (sym read.asks ∙ e));
+          ∙ ap₂ (λ (lengths : List (Option ℕ)) (params : Option Data). notes_on c.args.server.now c.args.ranged lengths params m) read.lengths read.params
+          ∙ notes_same c.args.server.now c.args.ranged m (reading body);
     })

@@ -1,31 +1,27 @@
-use Rattle.lsp_store.proofs.Prelude.{◌≡◌, ◌≤◌, length, map, subst, IfErr, None, OnOk, Option, string_bytes, arith, length-map, rules, w32, to_z, of_z, to_z-of_z, content_change, IsRefusal, Refusal}
+use Rattle.lsp_store.proofs.Prelude.{◌≡◌, ◌≤◌, length, map, subst, IfErr, None, OnOk, Option, string_bytes, arith, length-map, rules, w32, to_z-of_z, content_change, IsRefusal, Refusal}
 use Rattle.lsp_store.proofs.SquashLemmas.{few_refusal, many_refused}
 use Rattle.lsp_store.proofs.squash.Batches.message.Goals as goal
 
 pub returns-then-len-max_changes-clause-error : goal.returns-then-len-max_changes-clause-error
 returns-then-len-max_changes-clause-error c =
-    many_refused (string_bytes c.self.inside.uri) c.self.inside.limits c.self.inside.encoding c.self.inside.joined
-    c.self.inside.version c.args.self.now c.self.view_is (map content_change c.in_ok-batch.batch.items)
-    c.in_ok-batch.ensures (omega (arith, length-map c.in_ok-batch.batch.items content_change))
+    rw (← c.self.view_is) (many_refused (string_bytes c.self.inside.uri) c.self.inside.limits c.self.inside.encoding
+    c.self.inside.joined c.self.inside.version (map content_change c.in_ok-batch.batch.items) c.in_ok-batch.ensures
+    (omega (arith, length-map c.in_ok-batch.batch.items content_change)))
 
 pub returns-clause-accepted : goal.returns-clause-accepted
 returns-clause-accepted c =
-    let version : to_z w32 (of_z w32 c.self.inside.version) ≡ c.self.inside.version =
-    to_z-of_z w32 c.self.inside.version (search rules) in
     let few : length (map content_change c.in_ok-batch.batch.items) ≤ c.self.inside.limits.max_changes =
     omega (arith, length-map c.in_ok-batch.batch.items content_change) in
-    subst (λ (r : Option Refusal). OnOk c.change_frame.result (r ≡ None))
+    rw (← c.self.view_is) (subst (λ (r : Option Refusal). OnOk c.change_frame.result (r ≡ None))
     (few_refusal (string_bytes c.self.inside.uri) c.self.inside.limits c.self.inside.encoding c.self.inside.joined
-    c.self.inside.version c.args.self.now c.self.view_is _ c.in_ok-batch.ensures few)
-    (rw (c.deref.ensures, version) at c.change_frame.ensures.within)
+    c.self.inside.version _ c.in_ok-batch.ensures few)
+    (rw (c.deref.ensures, to_z-of_z w32 c.self.inside.version (search rules)) at c.change_frame.ensures.within))
 
 pub returns-clause-error : goal.returns-clause-error
 returns-clause-error c =
-    let version : to_z w32 (of_z w32 c.self.inside.version) ≡ c.self.inside.version =
-    to_z-of_z w32 c.self.inside.version (search rules) in
     let few : length (map content_change c.in_ok-batch.batch.items) ≤ c.self.inside.limits.max_changes =
     omega (arith, length-map c.in_ok-batch.batch.items content_change) in
-    subst (λ (r : Option Refusal). IfErr c.change_frame.result (IsRefusal r))
+    rw (← c.self.view_is) (subst (λ (r : Option Refusal). IfErr c.change_frame.result (IsRefusal r))
     (few_refusal (string_bytes c.self.inside.uri) c.self.inside.limits c.self.inside.encoding c.self.inside.joined
-    c.self.inside.version c.args.self.now c.self.view_is _ c.in_ok-batch.ensures few)
-    (rw (c.deref.ensures, version) at c.change_frame.ensures.error)
+    c.self.inside.version _ c.in_ok-batch.ensures few)
+    (rw (c.deref.ensures, to_z-of_z w32 c.self.inside.version (search rules)) at c.change_frame.ensures.error))

@@ -6,13 +6,13 @@ use Rattle.lsp_store.proofs.store.Store.close.Goals as goal
 pub returns-in_default-clause-error : goal.returns-in_default-clause-error
 returns-in_default-clause-error c = (
   refl,
-  close_absent c.self.inside.limits c.self.inside.documents.entries c.args.self.now c.self.view_is c.args.uri.now
-      c.in_default.ensures.value,
+  rw (← c.self.view_is) (close_absent c.self.inside.limits c.self.inside.documents.entries c.args.uri.now
+      c.in_default.ensures.value),
 )
 
 pub returns-clause-taken : goal.returns-clause-taken
-returns-clause-taken c = closed c.self.inside.limits c.self.inside.documents.entries c.args.self.now c.self.view_is
-    c.args.uri.now _ c.in-Some.ensures.value _ c.in-Some.ensures.entries
+returns-clause-taken c = rw (← c.self.view_is) (closed c.self.inside.limits c.self.inside.documents.entries
+    c.args.uri.now _ c.in-Some.ensures.value _ c.in-Some.ensures.entries)
 
 pub invariant_of-self-2 : goal.invariant_of-self-2
 invariant_of-self-2 c = omega (

@@ -1,19 +1,19 @@
-use Rattle.lsp_store.proofs.Prelude.{◌≡◌, ◌∙◌, List, ℕ, map, ap, subst, rules, w32, to_z, of_z, to_z-of_z, err_from_is_err_and, frame, content_change, store_fault_of_encode, IsRefusal, body_refusal, change_body}
+use Rattle.lsp_store.proofs.Prelude.{◌≡◌, ◌∙◌, List, ℕ, map, ap, subst, w32, to_z-of_z, err_from_is_err_and, frame, content_change, store_fault_of_encode, IsRefusal, body_refusal, change_body}
 use Rattle.lsp_store.proofs.Messages.MessageLemmas.{encode_refused}
 use Rattle.lsp_store.proofs.store.canonical.change_frame.Goals as goal
 
 pub returns-clause-framed : goal.returns-clause-framed
 returns-clause-framed c =
-    let version : to_z w32 (of_z w32 c.args.version) ≡ c.args.version = to_z-of_z w32 c.args.version (search rules) in
     c.in_ok-encode.ensures.framed
-    ∙ ap frame (c.deref.ensures.value ∙ (rw (version, c.in_ok-body.ensures.items) at c.in_ok-push_body.ensures.body))
+    ∙ ap frame (c.deref.ensures.value ∙ (rw (to_z-of_z w32 _ c.ranges.version, c.in_ok-body.ensures.items) at
+    c.in_ok-push_body.ensures.body))
 
 pub returns-in_err-encode-clause-error : goal.returns-in_err-encode-clause-error
 returns-in_err-encode-clause-error c =
-    let version : to_z w32 (of_z w32 c.args.version) ≡ c.args.version = to_z-of_z w32 c.args.version (search rules) in
     let body : c.deref.result.now
     ≡ change_body c.args.uri.now c.args.version (map content_change c.args.changes.items) =
-    c.deref.ensures.value ∙ (rw (version, c.in_ok-body.ensures.items) at c.in_ok-push_body.ensures.body) in
+    c.deref.ensures.value ∙ (rw (to_z-of_z w32 _ c.ranges.version, c.in_ok-body.ensures.items) at
+    c.in_ok-push_body.ensures.body) in
     let p = err_from_is_err_and c.from_residual-in_err-encode.result c.from_residual-in_err-encode.ensures.1 in
     rw (p.1, p.2)
     (subst (λ (b : List ℕ). IsRefusal (body_refusal c.args.limits.now b)

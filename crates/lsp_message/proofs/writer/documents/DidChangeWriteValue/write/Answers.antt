@@ -1,4 +1,4 @@
-use Rattle.lsp_message.proofs.Prelude.{◌≡◌, sym, rules, w32, to_z, of_z, to_z-of_z, content_change_view}
+use Rattle.lsp_message.proofs.Prelude.{sym, rules, w32, to_z-of_z, content_change_view}
 use Rattle.std.proofs.lemmas.Simd.{map-map}
 use Rattle.lsp_message.specs.Written as values
 use Rattle.lsp_message.proofs.writer.documents.DidChangeWriteValue.write.Goals as goal
@@ -6,6 +6,5 @@ use Rattle.lsp_message.proofs.writer.documents.DidChangeWriteValue.write.Goals a
 pub returns-clause-tokens : goal.returns-clause-tokens
 returns-clause-tokens c =
     let number = c.args.self.now.version in
-    let version : to_z w32 (of_z w32 number) ≡ number = to_z-of_z w32 number (search rules) in
     let batch = map-map values.content_change_value content_change_view c.args.self.now.changes.now in
-    rw (batch, sym version) c.write_notification.ensures.tokens
+    rw (batch, sym (to_z-of_z w32 number (search rules))) c.write_notification.ensures.tokens
