@@ -4,5 +4,4 @@ mod HunkLemmas
 mod LineLemmas
 mod MakerLemmas
 mod ReportLemmas
-mod ShownLemmas
 mod Prelude

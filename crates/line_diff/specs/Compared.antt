@@ -97,15 +97,12 @@ choice_words first second =
     codes "more than one document ends so; `--uri` names one:\n" ++ shown first ++ codes "\n"
     ++ shown second ++ codes "\n"
 
--- How many refused messages aren't named.
-unfoldable pub unnamed_words : ℕ → List ℕ
-unnamed_words refusals = if nat_lt 5 refusals then codes " and " ++ decimal (refusals - 5) ++ codes " more"
-    else []
-
--- Which messages were refused, of so many.
+-- Which messages were refused, and how many of so many aren't named.
 abbrev pub refusals_words : List ℕ → ℕ → List ℕ
 refusals_words refused refusals =
-    codes "Refused, so without effect:" ++ refused ++ unnamed_words refusals ++ codes "\n"
+    codes "Refused, so without effect:" ++ refused
+    ++ (if nat_lt 5 refusals then codes " and " ++ decimal (refusals - 5) ++ codes " more\n"
+    else codes "\n")
 
 -- Whether the document's text is the file's, and else how they differ, and what was refused.
 abbrev pub followed_words : Followed → List ℕ → List ℕ

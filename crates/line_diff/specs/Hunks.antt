@@ -1,81 +1,52 @@
 -- The places at which two texts have other lines.
-use Rattle.std.specs.Prelude.{ℕ, zero, suc, ◌+◌, ◌-◌, min, Bool, ◌&&◌, nat_lt, ◌==◌, if◌then◌else◌, length, drop, slice_get, List, [], ◌∷◌, ◌++◌, Option, Some, None}
+use Rattle.std.specs.Prelude.{ℕ, zero, suc, ◌+◌, ◌-◌, min, ◌&&◌, ◌==◌, if◌then◌else◌, length, drop, slice_get, List, [], ◌∷◌, ◌++◌, Option, Some, None}
+use Rattle.std.specs.Option.{option_map_or, option_or}
 use Rattle.line_diff.specs.declared.hunks.Gap.{Gap}
 use Rattle.line_diff.specs.declared.hunks.Hunk.{Hunk}
-use Rattle.line_diff.specs.Common.{are_equal, first_with}
+use Rattle.line_diff.specs.Common.{are_equal}
 
--- Is the line with this index one of the other text, where `count` lines less 1 come before both?
-abbrev pub is_pair : ℕ → List (List ℕ) → List (List ℕ) → ℕ → Bool
-is_pair count lines others k = are_equal (slice_get lines k) (slice_get others (count - 1 - k))
+-- What is found first at one of `count` numbers from `from` on.
+abbrev pub first_found : (ℕ → Option Gap) → ℕ → ℕ → Option Gap
+first_found found zero from = None
+first_found found (suc count) from = option_or (found from) (first_found found count (suc from))
 
--- The first index of such a line; `count` if there is none.
-unfoldable pub pair_in : ℕ → List (List ℕ) → List (List ℕ) → ℕ
-pair_in count lines others = first_with (is_pair count lines others) count 0
+-- So many lines of both texts together, `first` of them of the first text, if a common one is next.
+abbrev pub gap_at : List (List ℕ) → List (List ℕ) → ℕ → ℕ → Option Gap
+gap_at lines others sum first =
+    if are_equal (slice_get lines first) (slice_get others (sum - first))
+    then Some (record { lines = first; others = sum - first }) else None
 
--- Is there a line that is common to both, before which are so many lines of both together?
-abbrev pub has_pair : List (List ℕ) → List (List ℕ) → ℕ → Bool
-has_pair lines others sum = nat_lt (pair_in (sum + 1) lines others) (sum + 1)
+-- The same with the fewest lines of the first text.
+unfoldable pub gap_of : List (List ℕ) → List (List ℕ) → ℕ → Option Gap
+gap_of lines others sum = first_found (gap_at lines others sum) (suc sum) 0
 
--- How many lines of both come before the nearest one; `farthest` if it isn't nearer.
-unfoldable pub nearest : ℕ → List (List ℕ) → List (List ℕ) → ℕ
-nearest farthest lines others = first_with (has_pair lines others) farthest 0
-
--- A gap with so many lines of both texts together, and so many of the first.
-abbrev pub gap_of : ℕ → ℕ → Gap
-gap_of sum first = record { lines = first; others = sum - first }
-
--- The lines before the nearest common line, if it is near.
-abbrev pub gap_if : ℕ → List (List ℕ) → List (List ℕ) → ℕ → Option Gap
-gap_if farthest lines others sum = if nat_lt sum farthest
-    then Some (gap_of sum (pair_in (sum + 1) lines others)) else None
-
-unfoldable pub gap_within : ℕ → List (List ℕ) → List (List ℕ) → Option Gap
-gap_within farthest lines others = gap_if farthest lines others (nearest farthest lines others)
-
--- The same: no common line comes after all others.
+-- The lines before the nearest common line, if they are fewer than `farthest`. No common line comes
+-- after all others.
 unfoldable pub next_gap : ℕ → List (List ℕ) → List (List ℕ) → Option Gap
 next_gap farthest lines others =
-    gap_within (min farthest (length lines + length others)) lines others
+    first_found (gap_of lines others) (min farthest (length lines + length others)) 0
 
--- A hunk, unless no line is in it.
-abbrev pub unless_empty : Hunk → List Hunk
-unless_empty hunk = if hunk.start == hunk.end && hunk.other_start == hunk.other_end
-    then [] else hunk ∷ []
-
--- All that is left of two texts, where these are the indexes of the first lines.
-abbrev pub last_hunk : ℕ → ℕ → List (List ℕ) → List (List ℕ) → List Hunk
-last_hunk start other_start lines others = unless_empty (record {
-  start = start;
-  end = start + length lines;
-  other_start = other_start;
-  other_end = other_start + length others;
-})
-
--- The lines before the nearest common one.
-abbrev pub hunk_before : ℕ → ℕ → Gap → List Hunk
-hunk_before start other_start gap = unless_empty (record {
-  start = start;
-  end = start + gap.lines;
-  other_start = other_start;
-  other_end = other_start + gap.others;
-})
-
--- What comes of a gap, or where there is none.
-abbrev pub gap_or : List Hunk → (Gap → List Hunk) → Option Gap → List Hunk
-gap_or none some None = none
-gap_or none some (Some gap) = some gap
+-- The hunk of a gap that begins at these lines, unless no line is in it.
+abbrev pub hunk_of : ℕ → ℕ → Gap → List Hunk
+hunk_of start other_start gap = if gap.lines == 0 && gap.others == 0 then []
+    else record {
+      start = start;
+      end = start + gap.lines;
+      other_start = other_start;
+      other_end = other_start + gap.others;
+    } ∷ []
 
 -- The hunks of two texts of which the first lines have these indexes. In each of `steps` steps comes
--- a gap, and then a line that is common to both.
+-- a gap, and then a line that is common to both. What is left then is one more.
 abbrev pub hunks_from : ℕ → ℕ → ℕ → ℕ → List (List ℕ) → List (List ℕ) → List Hunk
 hunks_from zero farthest start other_start lines others =
-    last_hunk start other_start lines others
+    hunk_of start other_start (record { lines = length lines; others = length others })
 hunks_from (suc steps) farthest start other_start lines others =
-    gap_or (last_hunk start other_start lines others)
-    (λ gap. hunk_before start other_start gap
+    option_map_or (λ gap. hunk_of start other_start gap
     ++ hunks_from steps farthest (suc (start + gap.lines)) (suc (other_start + gap.others))
     (drop (suc gap.lines) lines) (drop (suc gap.others) others))
     (next_gap farthest lines others)
+    (hunk_of start other_start (record { lines = length lines; others = length others }))
 
 -- The hunks of two texts. Each step takes a line of the first.
 unfoldable pub hunks_of : ℕ → List (List ℕ) → List (List ℕ) → List Hunk

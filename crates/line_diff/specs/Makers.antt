@@ -2,6 +2,7 @@
 use Rattle.std.specs.Prelude.{ℕ, ◌+◌, ◌-◌, ◌==◌, ◌||◌, nat_lt, max, min, if◌then◌else◌, length, drop, take, slice_get, List, [], ◌∷◌, ◌++◌}
 use Rattle.std.specs.List.{list_any}
 use Rattle.std.specs.Option.{unwrap_or}
+use Rattle.line_diff.specs.declared.makers.Numbers.{Numbers}
 use Rattle.line_diff.specs.Common.{common_back, common_front}
 
 -- A number, or 0.
@@ -37,39 +38,45 @@ makers_in owners places start = record {
   last = greatest (greatest 0 places) start;
 }
 
+-- The numbers of the bytes of a text or a line, and of its places: before each byte and at its end.
+pub record ChangeNumbers : Type 0 where
+  pub owners : List ℕ
+  pub places : List ℕ
+
+abbrev pub numbers_in : Numbers → ChangeNumbers
+numbers_in numbers = record { owners = numbers.owners.now; places = numbers.places.now }
+
 -- The last change at a line's start, if it is later than the first byte: lines may have gone there.
-abbrev pub gone_before : List ℕ → List ℕ → List ℕ
-gone_before owners places =
-    if nat_lt (number_at owners 0) (number_at places 0) then take 1 places else []
+abbrev pub gone_before : ChangeNumbers → List ℕ
+gone_before row =
+    if nat_lt (number_at row.owners 0) (number_at row.places 0) then take 1 row.places else []
 
 -- The changes by which a line differs from another one, without what is equal at the front and at
 -- the back. What differs may begin earlier: of letters that are alike, any may be the one too many.
-abbrev pub makers_of : List ℕ → List ℕ → List ℕ → List ℕ → MakerNumbers
-makers_of owners places line other =
+abbrev pub makers_of : ChangeNumbers → List ℕ → List ℕ → MakerNumbers
+makers_of row line other =
     makers_in
     (between (common_front line other)
-    (length line - common_back (common_front line other) line other) owners)
+    (length line - common_back (common_front line other) line other) row.owners)
     (between (min (common_front line other) (length line - common_back 0 line other))
-    (length line - common_back (common_front line other) line other + 1) places) (gone_before owners places)
+    (length line - common_back (common_front line other) line other + 1) row.places)
+    (gone_before row)
 
 -- ---- in a text with several lines
 
--- Numbers in a row for each line, of as many as it has bytes and `more`, and a last row of those that
--- are after its bytes.
-abbrev pub rows_of : ℕ → List ℕ → List (List ℕ) → List (List ℕ)
-rows_of more numbers [] = numbers ∷ []
-rows_of more numbers (line ∷ lines) =
-    take (length line + more) numbers ∷ rows_of more (drop (length line) numbers) lines
+-- The numbers in a row for each line, and a last row of those that are after the lines.
+abbrev pub rows_of : ChangeNumbers → List (List ℕ) → List ChangeNumbers
+rows_of numbers [] = numbers ∷ []
+rows_of numbers (line ∷ lines) =
+    record {
+      owners = take (length line) numbers.owners;
+      places = take (length line + 1) numbers.places;
+    }
+    ∷ rows_of (record {
+      owners = drop (length line) numbers.owners;
+      places = drop (length line) numbers.places;
+    }) lines
 
 -- A row, or an empty one.
-abbrev pub row_at : List (List ℕ) → ℕ → List ℕ
-row_at rows index = unwrap_or (slice_get rows index) []
-
--- The numbers of the bytes of each line, and of its places: before each byte, and at its end.
-pub record NumberRows : Type 0 where
-  pub owners : List (List ℕ)
-  pub places : List (List ℕ)
-
-unfoldable pub number_rows : List ℕ → List ℕ → List (List ℕ) → NumberRows
-number_rows owners places lines =
-    record { owners = rows_of 0 owners lines; places = rows_of 1 places lines }
+abbrev pub row_at : List ChangeNumbers → ℕ → ChangeNumbers
+row_at rows index = unwrap_or (slice_get rows index) (record { owners = []; places = [] })

@@ -6,7 +6,7 @@ use Rattle.line_diff.specs.declared.hunks.Hunk.{Hunk}
 use Rattle.line_diff.specs.Alike.{are_alike, first_end, has_last_end, has_mark, have_same_ends, have_same_marks}
 use Rattle.line_diff.specs.Hunks.{hunks_of}
 use Rattle.line_diff.specs.Lines.{lines_of}
-use Rattle.line_diff.specs.Makers.{MakerNumbers, NumberRows, makers_of, number_at, number_rows, row_at}
+use Rattle.line_diff.specs.Makers.{ChangeNumbers, MakerNumbers, makers_of, number_at, row_at, rows_of}
 use Rattle.line_diff.specs.Shown.{shown}
 use Rattle.line_diff.specs.Tracked.{Tracked}
 
@@ -54,26 +54,20 @@ other_for others hunk index = if nat_lt (index - hunk.start) (hunk.other_end - h
 
 -- The lines of a document's text, with the changes that made them, and those of a file.
 pub record SideLines : Type 0 where
-  pub rows : NumberRows
+  pub rows : List ChangeNumbers
   pub lines : List (List ℕ)
   pub others : List (List ℕ)
 
--- The changes by which a line of a hunk differs from the file's in its place.
-abbrev pub line_makers : SideLines → Hunk → ℕ → MakerNumbers
-line_makers sides hunk index =
-    makers_of (row_at sides.rows.owners index) (row_at sides.rows.places index)
-    (text_at sides.lines index) (other_for sides.others hunk index)
-
+-- A line of a hunk, with the changes by which it differs from the file's in its place.
 abbrev pub own_line_at : SideLines → Hunk → ℕ → List ℕ
 own_line_at sides hunk index =
-    own_line (index + 1) (line_makers sides hunk index) (text_at sides.lines index)
+    let line = text_at sides.lines index in
+    own_line (index + 1)
+    (makers_of (row_at sides.rows index) line (other_for sides.others hunk index)) line
 
 -- A line that the file alone has.
-abbrev pub file_line : List ℕ → List ℕ
-file_line line = codes "  the file has: " ++ shown line ++ codes "\n"
-
 abbrev pub file_line_at : List (List ℕ) → ℕ → List ℕ
-file_line_at others index = file_line (text_at others index)
+file_line_at others index = codes "  the file has: " ++ shown (text_at others index) ++ codes "\n"
 
 -- Where lines of the file are missing: after so many lines, with the last change at that place.
 abbrev pub missing_words : ℕ → ℕ → List ℕ
@@ -84,7 +78,7 @@ missing_words count last =
 -- The lines of a hunk, or where they are missing.
 abbrev pub hunk_head : SideLines → Hunk → List ℕ
 hunk_head sides hunk = if hunk.start == hunk.end
-    then missing_words hunk.start (number_at (row_at sides.rows.places hunk.start) 0)
+    then missing_words hunk.start (number_at (row_at sides.rows hunk.start).places 0)
     else words_from (own_line_at sides hunk) (hunk.end - hunk.start) hunk.start
 
 -- A place at which the texts differ.
@@ -98,9 +92,9 @@ abbrev pub last_words : List ℕ
 last_words = codes "For each line, a message named is wrong, a later one is missing or wrong, or an earlier mistake led it to the wrong line. Look at the lowest numbers after the opening first.\n"
 
 -- How they differ, line by line. The next common line is sought in 2,000 lines of both.
-unfoldable pub difference_words : List ℕ → List ℕ → List (List ℕ) → List (List ℕ) → List ℕ
-difference_words owners places lines others =
-    let rows = number_rows owners places lines in
+unfoldable pub difference_words : ChangeNumbers → List (List ℕ) → List (List ℕ) → List ℕ
+difference_words numbers lines others =
+    let rows = rows_of numbers lines in
     let sides : SideLines = record { rows = rows; lines = lines; others = others } in
     codes "not the file's:\n" ++ flat_map (hunk_words sides) (hunks_of 2000 lines others)
     ++ last_words
@@ -113,16 +107,13 @@ alone_words what true false = what ++ codes ", which the document alone has\n"
 alone_words what false true = what ++ codes ", which the file alone has\n"
 alone_words what text file = []
 
--- By which change the first line end differs, where that is known.
-unfoldable pub first_end_words : Bool → ℕ → List ℕ
-first_end_words known last = if known
-    then codes ", the first of them made by message " ++ decimal last ++ codes "\n"
-    else codes "\n"
-
--- Line ends, unless they are the same; and the first one, if nothing else differs before it.
-abbrev pub ends_words : Bool → Bool → ℕ → List ℕ
-ends_words same known last =
-    if same then [] else codes "  line ends" ++ first_end_words known last
+-- Line ends, unless they are the same; and by which change the first one differs, if nothing else
+-- does before it.
+unfoldable pub ends_words : Bool → Bool → ℕ → List ℕ
+ends_words same known last = if same then []
+    else codes "  line ends"
+    ++ (if known then codes ", the first of them made by message " ++ decimal last else [])
+    ++ codes "\n"
 
 -- In what a document's text and a file differ that are alike, a line for each.
 unfoldable pub alike_words : List ℕ → List ℕ → List ℕ → List ℕ
@@ -136,16 +127,13 @@ alike_words text owners file =
 -- ---- all of it
 
 -- Whether the document's text is the file's, and else how they differ.
-unfoldable pub judgement : List ℕ → List ℕ → List ℕ → List ℕ → List ℕ
-judgement text owners places file =
+unfoldable pub judgement : List ℕ → ChangeNumbers → List ℕ → List ℕ
+judgement text numbers file =
     if bytes_eq text file then codes "the file's\n"
-    else if are_alike text file then alike_words text owners file
-    else difference_words owners places (lines_of text) (lines_of file)
-
-abbrev pub report_of : List ℕ → ℕ → List ℕ → List ℕ → List ℕ → List ℕ
-report_of text made owners places file =
-    codes "after message " ++ decimal made ++ codes ": the text is "
-    ++ judgement text owners places file
+    else if are_alike text file then alike_words text numbers.owners file
+    else difference_words numbers (lines_of text) (lines_of file)
 
 unfoldable pub report_words : Tracked → List ℕ → List ℕ
-report_words t file = report_of t.text t.made t.owners t.places file
+report_words t file =
+    codes "after message " ++ decimal t.made ++ codes ": the text is "
+    ++ judgement t.text (record { owners = t.owners; places = t.places }) file

@@ -1,9 +1,8 @@
 //! A file, and the document of a session that is compared with it.
 
-ghost use Rattle.std.specs.Prelude.{◌≡◌, ◌++◌, IfOk, OnErr, OnOk, Some, option_map, string_bytes};
-ghost use Rattle.std.specs.Option.{unwrap_or};
+ghost use Rattle.std.specs.Prelude.{◌≡◌, ◌++◌, IfOk, OnErr, OnOk, option_map, string_bytes};
 ghost use Rattle.line_diff.specs.Compared.{choice_words, followed_words, ends_so, equality, new_comparison};
-ghost use Rattle.line_diff.specs.Compared.{comparison_words, given, unnamed_words, opened_as, refused_by, refused_message, refused_of, refusals_words, taken};
+ghost use Rattle.line_diff.specs.Compared.{comparison_words, given, opened_as, refused_by, refused_message, refused_of, refusals_words, taken};
 
 use crate::owners::Splice;
 use crate::report::{push_number, push_words};
@@ -156,7 +155,10 @@ impl Comparison {
         if document.uri.as_str() == uri {
             return document.take(alloc, number, text, splices);
         }
-        self.keep_second(alloc, uri)
+        if self.second.is_none() {
+            self.second = Some(String::from_str(alloc, uri)?);
+        }
+        Ok(())
     }
 
     /// Takes that the message of this number about a document was refused with this code. Fails only
@@ -175,19 +177,6 @@ impl Comparison {
             Some(document) if document.uri.as_str() == uri => document.refuse(alloc, number, code),
             _ => Ok(()),
         }
-    }
-
-    /// Keeps the URI of another document than the first one.
-    fn keep_second(&mut self, alloc: Global, uri: &str) -> Result<(), AllocError>
-        ensures kept { OnOk result (self.new ≡ record self.old {
-          second = Some (unwrap_or self.old.second uri.now);
-        }) }
-        ensures unchanged { OnErr result (self.new ≡ self.old) }
-    {
-        if self.second.is_none() {
-            self.second = Some(String::from_str(alloc, uri)?);
-        }
-        Ok(())
     }
 
     /// Appends whether the document's text is the file's, and else how they differ; nothing where no
@@ -274,21 +263,12 @@ fn push_refused(buffer: &mut Vec<u8>, refused: &[u8], refusals: u64) -> Result<(
 {
     push_words(buffer, "Refused, so without effect:")?;
     buffer.extend_from_slice(refused)?;
-    push_more(buffer, refusals)?;
-    push_words(buffer, "\n")?;
-    Ok(())
-}
-
-/// Writes how many of so many aren't named.
-#[tactic(auto, unfolding(crate::specs::Compared::unnamed_words))]
-fn push_more(buffer: &mut Vec<u8>, refusals: u64) -> Result<(), AllocError>
-    ensures { OnOk result (buffer.new.items ≡ buffer.old.items ++ unnamed_words refusals) }
-{
     if refusals <= NAMED {
+        push_words(buffer, "\n")?;
         return Ok(());
     }
     push_words(buffer, " and ")?;
     push_number(buffer, refusals - NAMED)?;
-    push_words(buffer, " more")?;
+    push_words(buffer, " more\n")?;
     Ok(())
 }

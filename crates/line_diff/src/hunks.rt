@@ -1,9 +1,8 @@
 //! Where two texts have other lines.
 
-ghost use Rattle.std.specs.Prelude.{◌≡◌, ◌<◌, ◌-◌, ◌++◌, IfOk, IfSome, OnOk, length, map, option_map, suc};
-ghost use Rattle.std.specs.Option.{unwrap_or};
+ghost use Rattle.std.specs.Prelude.{◌≡◌, ◌<◌, ◌+◌, ◌^◌, ◌++◌, IfOk, IfSome, OnOk, length, map, option_map};
 ghost use Rattle.line_diff.specs.Common.{are_equal};
-ghost use Rattle.line_diff.specs.Hunks.{hunks_of, next_gap, pair_in, unless_empty};
+ghost use Rattle.line_diff.specs.Hunks.{hunk_of, hunks_of, next_gap};
 
 use crate::lines::line_at;
 use std::alloc::{AllocError, Global};
@@ -36,22 +35,6 @@ fn are_equal(line: Option<&str>, other: Option<&str>) -> bool
     }
 }
 
-/// Of the pairs of lines before which are so many lines of both texts together, less 1, returns the
-/// index of the first line of one that is equal.
-fn pair_in(count: usize, lines: &[&str], others: &[&str]) -> Option<usize>
-    ensures value { unwrap_or result count ≡ pair_in count
-        (map (λ line. line.now) lines.entry.now) (map (λ line. line.now) others.entry.now) }
-    ensures within { IfSome result (λ first. (first < count) × (first < length lines.now)
-        × (count - suc first < length others.now)) }
-{
-    for first in 0..count {
-        if are_equal(line_at(lines, first), line_at(others, count - 1 - first)) {
-            return Some(first);
-        }
-    }
-    None
-}
-
 /// Returns what comes before the nearest line that is common to both texts, if this is fewer lines
 /// than a limit. Looks no farther than both texts go.
 fn next_gap(farthest: usize, lines: &[&str], others: &[&str]) -> Option<Gap>
@@ -62,24 +45,38 @@ fn next_gap(farthest: usize, lines: &[&str], others: &[&str]) -> Option<Gap>
 {
     let most = farthest.min(lines.len() + others.len());
     for sum in 0..most {
-        if let Some(first) = pair_in(sum + 1, lines, others) {
-            return Some(Gap {
-                lines: first,
-                others: sum - first,
-            });
+        for first in 0..sum + 1 {
+            if are_equal(line_at(lines, first), line_at(others, sum - first)) {
+                return Some(Gap {
+                    lines: first,
+                    others: sum - first,
+                });
+            }
         }
     }
     None
 }
 
-/// Appends a hunk, unless no line is in it.
-fn push_hunk(found: &mut Vec<Hunk>, hunk: Hunk) -> Result<(), AllocError>
-    ensures { OnOk result (found.new.items ≡ found.old.items ++ unless_empty hunk) }
+/// Appends the hunk of a gap that begins at these lines, unless no line is in it.
+fn push_hunk(
+    found: &mut Vec<Hunk>,
+    start: usize,
+    other_start: usize,
+    gap: Gap,
+) -> Result<(), AllocError>
+    requires end { start + gap.lines < 2 ^ 64 }
+    requires other_end { other_start + gap.others < 2 ^ 64 }
+    ensures { OnOk result (found.new.items ≡ found.old.items ++ hunk_of start other_start gap) }
 {
-    if hunk.start == hunk.end && hunk.other_start == hunk.other_end {
+    if gap.lines == 0 && gap.others == 0 {
         return Ok(());
     }
-    found.push(hunk)?;
+    found.push(Hunk {
+        start,
+        end: start + gap.lines,
+        other_start,
+        other_end: other_start + gap.others,
+    })?;
     Ok(())
 }
 
@@ -106,22 +103,14 @@ pub fn hunks_of(
         let Some(gap) = next_gap(farthest, &lines[start..], &others[other_start..]) else {
             break;
         };
-        let hunk = Hunk {
-            start,
-            end: start + gap.lines,
-            other_start,
-            other_end: other_start + gap.others,
-        };
-        push_hunk(&mut found, hunk)?;
+        push_hunk(&mut found, start, other_start, gap)?;
         start += gap.lines + 1;
         other_start += gap.others + 1;
     }
-    let rest = Hunk {
-        start,
-        end: lines.len(),
-        other_start,
-        other_end: others.len(),
+    let rest = Gap {
+        lines: lines.len() - start,
+        others: others.len() - other_start,
     };
-    push_hunk(&mut found, rest)?;
+    push_hunk(&mut found, start, other_start, rest)?;
     Ok(found)
 }

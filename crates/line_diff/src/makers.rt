@@ -1,8 +1,8 @@
 //! By which changes a line differs from another one.
 
 ghost use Rattle.std.specs.Prelude.{◌≡◌, ◌≤◌, IfOk, OnOk, drop, map, take};
-ghost use Rattle.line_diff.specs.Makers.{between, gone_before, greatest, makers_of, number_at, number_rows, row_at};
-ghost use Rattle.line_diff.specs.Makers.{rows_of, with_number, with_numbers};
+ghost use Rattle.line_diff.specs.Makers.{between, gone_before, greatest, makers_of, number_at};
+ghost use Rattle.line_diff.specs.Makers.{numbers_in, row_at, rows_of, with_number, with_numbers};
 
 use crate::owners::{common_back, common_front};
 use std::alloc::{AllocError, Global};
@@ -11,30 +11,12 @@ use std::marker::Model;
 /// So many changes of a line are named.
 pub(crate) const NAMED: usize = 8;
 
-/// The changes that made the bytes of a text, and the last ones at its places.
+/// The changes that made the bytes of a text or a line, and the last ones at its places: before
+/// each byte, and at its end.
 #[derive(Clone, Copy)]
 pub struct Numbers<'a> {
     pub owners: &'a [u64],
     pub places: &'a [u64],
-}
-
-/// The same, in a row for each line. A line's places are those before its bytes and at its end.
-#[derive(Drop)]
-pub struct Rows<'a> {
-    pub owners: Vec<&'a [u64]>,
-    pub places: Vec<&'a [u64]>,
-}
-
-impl<'a> Model for Rows<'a> {
-    ghost use Rattle.std.specs.Prelude.{map};
-    ghost use Rattle.line_diff.specs.Makers.{NumberRows};
-
-    ghost Value = { NumberRows };
-
-    ghost view = { λ r. record {
-      owners = map (λ row. row.now) r.owners.items;
-      places = map (λ row. row.now) r.places.items;
-    } };
 }
 
 /// The changes by which a line differs: the first 9, and the last.
@@ -74,47 +56,42 @@ pub(crate) fn after(numbers: &[u64], count: usize) -> &[u64]
     }
 }
 
-/// Returns numbers in a row for each line, of as many as it has bytes and `more`, and a last row of
-/// those that are after its bytes. Fails only where memory runs out.
-fn rows_of<'a>(
+/// Returns the numbers in a row for each line, and a last row of those that are after the lines.
+/// Fails only where memory runs out.
+pub fn rows_of<'a>(
     alloc: Global,
-    more: usize,
-    numbers: &'a [u64],
+    numbers: Numbers<'a>,
     lines: &[&str],
-) -> Result<Vec<&'a [u64]>, AllocError>
-    requires { more ≤ 1 }
-    ensures { IfOk result (λ rows. map (λ row. row.now) rows.items
-        ≡ rows_of more numbers.now (map (λ line. line.now) lines.entry.now)) }
+) -> Result<Vec<Numbers<'a>>, AllocError>
+    ensures { IfOk result (λ rows.
+        map numbers_in rows.items ≡ rows_of (numbers_in numbers.entry)
+        (map (λ line. line.now) lines.entry.now)) }
 {
+    let Numbers {
+        mut owners,
+        mut places,
+    } = numbers;
     let mut rows = Vec::new(alloc);
-    let mut rest = numbers;
     for line in lines {
-        rows.push(first_of(rest, line.len() + more))?;
-        rest = after(rest, line.len());
+        rows.push(Numbers {
+            owners: first_of(owners, line.len()),
+            places: first_of(places, line.len() + 1),
+        })?;
+        owners = after(owners, line.len());
+        places = after(places, line.len());
     }
-    rows.push(rest)?;
+    rows.push(Numbers { owners, places })?;
     Ok(rows)
 }
 
-impl<'a> Numbers<'a> {
-    /// Returns the numbers in a row for each line. Fails only where memory runs out.
-    #[tactic(auto, unfolding(crate::specs::Makers::number_rows))]
-    pub fn rows(self, alloc: Global, lines: &[&str]) -> Result<Rows<'a>, AllocError>
-        ensures { IfOk result (λ rows. rows ≡ number_rows self.entry.owners.now
-            self.entry.places.now (map (λ line. line.now) lines.entry.now)) }
-    {
-        Ok(Rows {
-            owners: rows_of(alloc, 0, self.owners, lines)?,
-            places: rows_of(alloc, 1, self.places, lines)?,
-        })
-    }
-}
-
 /// Returns a row, or an empty one where there is no such row.
-pub fn row_at<'a>(rows: &[&'a [u64]], index: usize) -> &'a [u64]
-    ensures { result.now ≡ row_at (map (λ row. row.now) rows.entry.now) index }
+pub fn row_at<'a>(rows: &[Numbers<'a>], index: usize) -> Numbers<'a>
+    ensures { numbers_in result ≡ row_at (map numbers_in rows.entry.now) index }
 {
-    rows.get(index).copied().unwrap_or(&[])
+    rows.get(index).copied().unwrap_or(Numbers {
+        owners: &[],
+        places: &[],
+    })
 }
 
 /// Returns a number, or 0 where there is none.
@@ -166,11 +143,11 @@ fn note_all(found: &mut Vec<u64>, numbers: &[u64]) -> Result<(), AllocError>
 
 /// Returns the last change at a line's start, if it is later than the first byte: lines may have
 /// gone there.
-fn gone_before<'a>(owners: &[u64], places: &'a [u64]) -> &'a [u64]
-    ensures { result.now ≡ gone_before owners.entry.now places.now }
+fn gone_before(row: Numbers<'_>) -> &[u64]
+    ensures { result.now ≡ gone_before (numbers_in row.entry) }
 {
-    if number_at(places, 0) > number_at(owners, 0) {
-        first_of(places, 1)
+    if number_at(row.places, 0) > number_at(row.owners, 0) {
+        first_of(row.places, 1)
     } else {
         &[]
     }
@@ -180,22 +157,21 @@ fn gone_before<'a>(owners: &[u64], places: &'a [u64]) -> &'a [u64]
 /// another one. Fails only where memory runs out.
 pub fn makers_of(
     alloc: Global,
-    owners: &[u64],
-    places: &[u64],
+    row: Numbers<'_>,
     line: &[u8],
     other: &[u8],
 ) -> Result<Makers, AllocError>
     ensures { IfOk result
-        (λ makers. makers ≡ makers_of owners.now places.now line.now other.now) }
+        (λ makers. makers ≡ makers_of (numbers_in row.entry) line.now other.now) }
 {
     let front = common_front(line, other);
     let end = line.len() - common_back(front, line, other);
     // What differs may begin earlier: of letters that are alike, any may be the one too many.
     let low = front.min(line.len() - common_back(0, line, other));
-    let differing = between(places, low, end + 1);
-    let start = gone_before(owners, places);
+    let differing = between(row.places, low, end + 1);
+    let start = gone_before(row);
     let mut named = Vec::new(alloc);
-    note_all(&mut named, between(owners, front, end))?;
+    note_all(&mut named, between(row.owners, front, end))?;
     note_all(&mut named, differing)?;
     note_all(&mut named, start)?;
     Ok(Makers {

@@ -1,16 +1,15 @@
 //! How a document's text and a file differ, in words.
 
-ghost use Rattle.std.specs.Prelude.{◌≡◌, ◌++◌, ◌-◌, IfOk, OnOk, decimal, flat_map, map};
-ghost use Rattle.line_diff.specs.Lines.{lines_of};
-ghost use Rattle.line_diff.specs.Report.{alike_words, alone_words, ends_words, file_line, file_line_at, first_end_words};
-ghost use Rattle.line_diff.specs.Report.{hunk_head, hunk_words, judgement, last_maker_words, line_makers, maker_words, missing_words};
-ghost use Rattle.line_diff.specs.Report.{later_number, number_words, other_for, own_line, own_line_at};
-ghost use Rattle.line_diff.specs.Report.{report_of, text_at, words_from};
+ghost use Rattle.std.specs.Prelude.{◌≡◌, ◌++◌, ◌-◌, OnOk, decimal, flat_map, map};
+ghost use Rattle.line_diff.specs.Makers.{numbers_in};
+ghost use Rattle.line_diff.specs.Report.{alike_words, alone_words, ends_words, file_line_at, hunk_head};
+ghost use Rattle.line_diff.specs.Report.{hunk_words, judgement, last_maker_words, maker_words};
+ghost use Rattle.line_diff.specs.Report.{number_words, other_for, own_line, own_line_at, text_at, words_from};
 
 use crate::alike::{are_alike, first_end, has_last_end, has_mark, have_same_ends, have_same_marks};
 use crate::hunks::{Hunk, hunks_of};
 use crate::lines::{line_at, lines_of};
-use crate::makers::{Makers, NAMED, Numbers, Rows, first_of, makers_of, number_at, row_at};
+use crate::makers::{Makers, NAMED, Numbers, first_of, makers_of, number_at, row_at, rows_of};
 use crate::shown::push_shown;
 use itoa::Buffer;
 use std::alloc::{AllocError, Global};
@@ -46,29 +45,19 @@ fn text_at<'a>(lines: &[&'a str], index: usize) -> &'a str
     line_at(lines, index).unwrap_or("")
 }
 
-/// Writes the later ones of several numbers.
-fn push_later(buffer: &mut Vec<u8>, numbers: &[u64]) -> Result<(), AllocError>
-    ensures { OnOk result
-        (buffer.new.items ≡ buffer.old.items ++ flat_map later_number numbers.now) }
-{
-    for number in numbers {
-        push_words(buffer, ", ")?;
-        push_number(buffer, *number)?;
-    }
-    Ok(())
-}
-
 /// Writes several numbers.
 fn push_numbers(buffer: &mut Vec<u8>, numbers: &[u64]) -> Result<(), AllocError>
     ensures { OnOk result (buffer.new.items ≡ buffer.old.items ++ number_words numbers.now) }
 {
-    match numbers.split_first() {
-        Some((first, later)) => {
-            push_number(buffer, *first)?;
-            push_later(buffer, later)
-        }
-        None => Ok(()),
+    let Some((first, later)) = numbers.split_first() else {
+        return Ok(());
+    };
+    push_number(buffer, *first)?;
+    for number in later {
+        push_words(buffer, ", ")?;
+        push_number(buffer, *number)?;
     }
+    Ok(())
 }
 
 /// Writes which change is the last, where not all are named.
@@ -132,15 +121,6 @@ fn other_for<'a>(others: &[&'a str], hunk: &Hunk, index: usize) -> &'a str
     }
 }
 
-/// Writes a line that the file alone has.
-fn push_file_line(buffer: &mut Vec<u8>, line: &str) -> Result<(), AllocError>
-    ensures { OnOk result (buffer.new.items ≡ buffer.old.items ++ file_line line.now) }
-{
-    push_words(buffer, "  the file has: ")?;
-    push_shown(buffer, line)?;
-    push_words(buffer, "\n")
-}
-
 /// Writes lines that the file alone has.
 fn push_file_lines(
     buffer: &mut Vec<u8>,
@@ -153,59 +133,36 @@ fn push_file_lines(
         (end - start) start) }
 {
     for index in start..end {
-        push_file_line(buffer, text_at(others, index))?;
+        push_words(buffer, "  the file has: ")?;
+        push_shown(buffer, text_at(others, index))?;
+        push_words(buffer, "\n")?;
     }
-    Ok(())
-}
-
-/// Writes where lines of the file are missing: after so many lines, and by this change.
-fn push_missing(buffer: &mut Vec<u8>, count: usize, last: u64) -> Result<(), AllocError>
-    ensures { OnOk result (buffer.new.items ≡ buffer.old.items ++ missing_words count last) }
-{
-    push_words(buffer, "after line ")?;
-    push_number(buffer, count as u64)?;
-    push_words(buffer, " (made by message ")?;
-    push_number(buffer, last)?;
-    push_words(buffer, "):\n")?;
     Ok(())
 }
 
 /// The lines of a document's text, with the changes that made them, and those of a file.
 #[derive(Drop)]
 struct Sides<'a> {
-    rows: Rows<'a>,
+    rows: Vec<Numbers<'a>>,
     lines: Vec<&'a str>,
     others: Vec<&'a str>,
 }
 
 impl<'a> Model for Sides<'a> {
     ghost use Rattle.std.specs.Prelude.{map};
+    ghost use Rattle.line_diff.specs.Makers.{numbers_in};
     ghost use Rattle.line_diff.specs.Report.{SideLines};
 
     ghost Value = { SideLines };
 
     ghost view = { λ s. record {
-      rows = s.rows;
+      rows = map numbers_in s.rows.items;
       lines = map (λ line. line.now) s.lines.items;
       others = map (λ line. line.now) s.others.items;
     } };
 }
 
 impl<'a> Sides<'a> {
-    /// Returns the changes by which a line of a hunk differs from the file's in its place. Fails
-    /// only where memory runs out.
-    fn makers(&self, alloc: Global, hunk: &Hunk, index: usize) -> Result<Makers, AllocError>
-        ensures { IfOk result (λ makers. makers ≡ line_makers self.now hunk.now index) }
-    {
-        makers_of(
-            alloc,
-            row_at(&self.rows.owners, index),
-            row_at(&self.rows.places, index),
-            text_at(&self.lines, index).as_bytes(),
-            other_for(&self.others, hunk, index).as_bytes(),
-        )
-    }
-
     /// Writes the lines of a hunk that the document has alone.
     fn push_own_lines(&self, buffer: &mut Vec<u8>, hunk: &Hunk) -> Result<(), AllocError>
         ensures { OnOk result (buffer.new.items ≡ buffer.old.items
@@ -214,23 +171,29 @@ impl<'a> Sides<'a> {
     {
         let alloc = *buffer.allocator();
         for index in hunk.start..hunk.end {
-            let makers = self.makers(alloc, hunk, index)?;
-            push_own_line(buffer, index + 1, &makers, text_at(&self.lines, index))?;
+            let line = text_at(&self.lines, index);
+            let other = other_for(&self.others, hunk, index);
+            let row = row_at(&self.rows, index);
+            let makers = makers_of(alloc, row, line.as_bytes(), other.as_bytes())?;
+            push_own_line(buffer, index + 1, &makers, line)?;
         }
         Ok(())
     }
 
-    /// Writes the lines of a hunk that the document has alone, or where lines are missing.
+    /// Writes the lines of a hunk that the document has alone, or after how many lines some of the
+    /// file's are missing, and by which change.
     fn push_head(&self, buffer: &mut Vec<u8>, hunk: &Hunk) -> Result<(), AllocError>
         ensures { OnOk result
             (buffer.new.items ≡ buffer.old.items ++ hunk_head self.now hunk.now) }
     {
-        if hunk.start == hunk.end {
-            let last = number_at(row_at(&self.rows.places, hunk.start), 0);
-            push_missing(buffer, hunk.start, last)
-        } else {
-            self.push_own_lines(buffer, hunk)
+        if hunk.start != hunk.end {
+            return self.push_own_lines(buffer, hunk);
         }
+        push_words(buffer, "after line ")?;
+        push_number(buffer, hunk.start as u64)?;
+        push_words(buffer, " (made by message ")?;
+        push_number(buffer, number_at(row_at(&self.rows, hunk.start).places, 0))?;
+        push_words(buffer, "):\n")
     }
 
     /// Writes a place at which the texts differ.
@@ -275,22 +238,9 @@ fn push_alone(
     }
 }
 
-/// Writes by which change the first line end differs, where that is known.
-#[tactic(auto, unfolding(crate::specs::Report::first_end_words))]
-fn push_first_end(buffer: &mut Vec<u8>, known: bool, last: u64) -> Result<(), AllocError>
-    ensures { OnOk result (buffer.new.items ≡ buffer.old.items ++ first_end_words known last) }
-{
-    if !known {
-        return push_words(buffer, "\n");
-    }
-    push_words(buffer, ", the first of them made by message ")?;
-    push_number(buffer, last)?;
-    push_words(buffer, "\n")?;
-    Ok(())
-}
-
-/// Writes that line ends differ, unless they are the same; and by which change the first one does, if
-/// nothing else differs before it.
+/// Writes that line ends differ, unless they are the same; and by which change the first one does,
+/// if nothing else differs before it.
+#[tactic(auto, unfolding(crate::specs::Report::ends_words))]
 fn push_ends(buffer: &mut Vec<u8>, same: bool, known: bool, last: u64) -> Result<(), AllocError>
     ensures { OnOk result (buffer.new.items ≡ buffer.old.items ++ ends_words same known last) }
 {
@@ -298,7 +248,12 @@ fn push_ends(buffer: &mut Vec<u8>, same: bool, known: bool, last: u64) -> Result
         return Ok(());
     }
     push_words(buffer, "  line ends")?;
-    push_first_end(buffer, known, last)?;
+    if !known {
+        return push_words(buffer, "\n");
+    }
+    push_words(buffer, ", the first of them made by message ")?;
+    push_number(buffer, last)?;
+    push_words(buffer, "\n")?;
     Ok(())
 }
 
@@ -336,7 +291,7 @@ fn push_alike(
 
 /// Writes whether a text is a file's, and else how they differ: if they aren't alike, line by line.
 #[tactic(auto, unfolding(crate::specs::Report::judgement))]
-fn push_judgement(
+pub(crate) fn push_judgement(
     alloc: Global,
     buffer: &mut Vec<u8>,
     text: &str,
@@ -344,7 +299,7 @@ fn push_judgement(
     file: &str,
 ) -> Result<(), AllocError>
     ensures { OnOk result (buffer.new.items ≡ buffer.old.items
-        ++ judgement text.now numbers.entry.owners.now numbers.entry.places.now file.now) }
+        ++ judgement text.now (numbers_in numbers.entry) file.now) }
 {
     if text == file {
         return push_words(buffer, "the file's\n");
@@ -354,7 +309,7 @@ fn push_judgement(
     }
     let lines = lines_of(alloc, text)?;
     let others = lines_of(alloc, file)?;
-    let rows = numbers.rows(alloc, &lines)?;
+    let rows = rows_of(alloc, numbers, &lines)?;
     let found = hunks_of(alloc, FARTHEST, &lines, &others)?;
     push_words(buffer, "not the file's:\n")?;
     let sides = Sides {
@@ -365,23 +320,4 @@ fn push_judgement(
     sides.push_hunks(buffer, &found)?;
     push_words(buffer, LAST_WORDS)?;
     Ok(())
-}
-
-/// Writes whether a text, whose bytes and places have these numbers, is a file's after the change of
-/// this number, and else how they differ.
-pub fn push_report(
-    alloc: Global,
-    buffer: &mut Vec<u8>,
-    text: &str,
-    made: u64,
-    numbers: Numbers<'_>,
-    file: &str,
-) -> Result<(), AllocError>
-    ensures { OnOk result (buffer.new.items ≡ buffer.old.items
-        ++ report_of text.now made numbers.entry.owners.now numbers.entry.places.now file.now) }
-{
-    push_words(buffer, "after message ")?;
-    push_number(buffer, made)?;
-    push_words(buffer, ": the text is ")?;
-    push_judgement(alloc, buffer, text, numbers, file)
 }

@@ -1,31 +1,31 @@
 //! A line, with what can't be seen in it.
 
-ghost use Rattle.std.specs.Prelude.{◌≡◌, ◌++◌, OnOk};
+ghost use Rattle.std.specs.Prelude.{◌≡◌, ◌++◌, OnOk, option_map};
 ghost use Rattle.line_diff.specs.Shown.{shown, shown_char, sign_of};
 
 use std::alloc::AllocError;
 
-/// Returns what stands for a character that can't be seen or that a string escapes, else nothing.
+/// Returns what stands for a character that can't be seen or that a string escapes.
 #[tactic(auto, unfolding(crate::specs::Shown::sign_of))]
-fn sign_of(character: char) -> &'static str
-    ensures { result.now ≡ sign_of character }
+fn sign_of(character: char) -> Option<&'static str>
+    ensures { option_map (λ sign. sign.now) result ≡ sign_of character }
 {
     match character {
-        '\n' => "\\n",
-        '\r' => "\\r",
-        '\t' => "\\t",
-        '"' => "\\\"",
-        '\\' => "\\\\",
-        '\0' => "\\0",
-        '\u{c}' => "\\u{c}",
-        '\u{1b}' => "\\u{1b}",
-        '\u{a0}' => "\\u{a0}",
-        '\u{ad}' => "\\u{ad}",
-        '\u{200b}' => "\\u{200b}",
-        '\u{2028}' => "\\u{2028}",
-        '\u{3000}' => "\\u{3000}",
-        '\u{feff}' => "\\u{feff}",
-        _ => "",
+        '\n' => Some("\\n"),
+        '\r' => Some("\\r"),
+        '\t' => Some("\\t"),
+        '"' => Some("\\\""),
+        '\\' => Some("\\\\"),
+        '\0' => Some("\\0"),
+        '\u{c}' => Some("\\u{c}"),
+        '\u{1b}' => Some("\\u{1b}"),
+        '\u{a0}' => Some("\\u{a0}"),
+        '\u{ad}' => Some("\\u{ad}"),
+        '\u{200b}' => Some("\\u{200b}"),
+        '\u{2028}' => Some("\\u{2028}"),
+        '\u{3000}' => Some("\\u{3000}"),
+        '\u{feff}' => Some("\\u{feff}"),
+        _ => None,
     }
 }
 
@@ -33,12 +33,12 @@ fn sign_of(character: char) -> &'static str
 fn push_character(buffer: &mut Vec<u8>, character: char) -> Result<(), AllocError>
     ensures { OnOk result (buffer.new.items ≡ buffer.old.items ++ shown_char character) }
 {
-    let sign = sign_of(character);
-    if sign.is_empty() {
-        let mut units = [0; 4];
-        buffer.extend_from_slice(character.encode_utf8(&mut units).as_bytes())
-    } else {
-        buffer.extend_from_slice(sign.as_bytes())
+    match sign_of(character) {
+        Some(sign) => buffer.extend_from_slice(sign.as_bytes()),
+        None => {
+            let mut units = [0; 4];
+            buffer.extend_from_slice(character.encode_utf8(&mut units).as_bytes())
+        }
     }
 }
 

@@ -6,7 +6,7 @@ ghost use Rattle.line_diff.specs.Tracked.{changed_by, opened_by};
 
 use crate::makers::Numbers;
 use crate::owners::{Splice, numbers_after};
-use crate::report::push_report;
+use crate::report::{push_judgement, push_number, push_words};
 use std::alloc::{AllocError, Global};
 use std::marker::Model;
 
@@ -107,7 +107,10 @@ impl TrackedText {
             places: &self.places,
         };
         let mut report = Vec::new(alloc);
-        push_report(alloc, &mut report, &self.text, self.made, numbers, file)?;
+        push_words(&mut report, "after message ")?;
+        push_number(&mut report, self.made)?;
+        push_words(&mut report, ": the text is ")?;
+        push_judgement(alloc, &mut report, &self.text, numbers, file)?;
         buffer.extend_from_slice(&report)
     }
 }

@@ -79,18 +79,10 @@ pub ranges-long : (units : ℕ → ℕ) (bytes shown : List ℕ) (line : ℕ) (r
     range ≡ over_limit units (chars shown) line → ranges ≡ ranges_before units (chars bytes) line
     → ranges ++ range ∷ [] ≡ ranges_before units (chars bytes) (line + 1)
 ranges-long units bytes shown line ranges range same long over before =
-    let text = chars bytes in
-    let here : true ≡ is_long units text line = subst (λ (b : List ℕ). true ≡ is_long units (chars b) line) same long in
-    let at : range ≡ over_limit units text line = subst (λ (b : List ℕ). range ≡ over_limit units (chars b) line)
-    same over in
-    ap (λ (rs : List Range). rs ++ range ∷ []) before
-    ∙ ap (λ (r : Range). ranges_before units text line ++ r ∷ []) at ∙ sym (ranges_before-more units text line true here)
+    grind (arith, common_steps, (ranges_before-more units (chars bytes) line true))
 
 pub ranges-short : (units : ℕ → ℕ) (bytes shown : List ℕ) (line : ℕ) (ranges : List Range) → shown ≡ bytes
     → false ≡ is_long units (chars shown) line →
     ranges ≡ ranges_before units (chars bytes) line → ranges ≡ ranges_before units (chars bytes) (line + 1)
 ranges-short units bytes shown line ranges same short before =
-    let text = chars bytes in
-    let here : false ≡ is_long units text line = subst (λ (b : List ℕ). false ≡ is_long units (chars b) line) same
-    short in
-    before ∙ sym (append-nil (ranges_before units text line)) ∙ sym (ranges_before-more units text line false here)
+    grind (arith, common_steps, append-nil, (ranges_before-more units (chars bytes) line false))

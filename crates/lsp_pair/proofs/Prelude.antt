@@ -37,8 +37,7 @@ pub use Rattle.lsp_pair.specs.declared.event.Happened.{Happened}
 pub use Rattle.lsp_pair.specs.declared.event.Happened.TheVariants.{Client, Nothing, Refused, Sent, Server}
 pub use Rattle.lsp_pair.specs.declared.event.Heard.{Heard}
 pub use Rattle.lsp_pair.specs.inside.Ends.{HoldsOfFirst, HoldsOnCall, IsCall, both_ends, did_of_sent, frames_in_answer, frames_in_delivery}
-pub use Rattle.lsp_pair.specs.inside.History.{IsHistory, history_of, tables_from}
-pub use Rattle.lsp_pair.specs.inside.Reached.{IsReached}
+pub use Rattle.lsp_pair.specs.inside.History.{HasHistory, IsHistory, history_of, tables_from}
 pub use Rattle.lsp_pair.specs.laws.At.{IsAt, frame_of, frames_from, pair_of, table_with, waiting_back, waiting_out}
 pub use Rattle.lsp_pair.specs.laws.Steps.{IsStepAt}
 pub use Rattle.lsp_pair.specs.laws.Usual.{HaveOneEncoding, IsUsual, IsUsualBack, IsUsualTurn, agreed_of}

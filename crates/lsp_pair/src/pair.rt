@@ -1,9 +1,9 @@
 //! Both ends of a session, and the frames on the way to each.
 //!
-//! A pair's invariant is that it is at the world of some events, so `Happened` has no variants
-//! for a faulty frame. The world has no tables and no bytes; a queue's frames are described
-//! from the server's table on. That a history is a pair's is a token, and so is that it is at a
-//! world.
+//! A pair's invariant is that it has a history: it is at the world of some events, so `Happened`
+//! has no variants for a faulty frame. The world has no tables and no bytes; a queue's frames are
+//! described from the server's table on. That a history is a pair's is a token, and so is that it is
+//! at a world.
 
 ghost use Rattle.std.specs.Prelude.{◌≡◌, ◌≢◌, ◌⊎◌, ◌↔◌, ◌<◌, ◌++◌, ◌∷◌, [], List, true, false, Ok, Err, IfOk, IfErr, OnOk, OnErr, length};
 ghost use Rattle.std.specs.VecDeque.{deque_len, deque_capacity};
@@ -45,7 +45,7 @@ pub struct Pair {
 
 impl Model for Pair {
     ghost use Rattle.lsp_pair.specs.Pair.{PairData};
-    ghost use Rattle.lsp_pair.specs.inside.Reached.{IsReached};
+    ghost use Rattle.lsp_pair.specs.inside.History.{HasHistory};
     ghost use Rattle.lsp_pair.specs.Seen.{frames};
 
     ghost Value = { PairData };
@@ -57,7 +57,7 @@ impl Model for Pair {
       to_client = frames p.to_client.items;
     } };
 
-    ghost invariant = { λ p. IsReached (record {
+    ghost invariant = { λ p. HasHistory (record {
       client = p.client;
       server = p.server;
       to_server = frames p.to_server.items;

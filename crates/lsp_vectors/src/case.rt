@@ -12,7 +12,7 @@ use crate::written::left_value;
 use anyhow::{Context, Result, bail};
 use lsp_edit::{Change, EditFault, MAX_NEW_TEXT, MAX_OLD_TEXT, TextEdit, fits};
 use lsp_message::{ParamsFault, params_change};
-use lsp_text::{Encoding, Range};
+use lsp_text::Encoding;
 use serde_json::{Map, Value, json};
 use std::alloc::Global;
 
@@ -41,17 +41,20 @@ fn message_expected(
     changes: Value,
     alike: &mut Alike,
 ) -> Result<Value> {
+    let Some(changes) = changes_in(alloc, changes)? else {
+        return invalid(alloc);
+    };
+    let (text, encoding) = (text_in(members, "text")?, encoding_in(members)?);
+    changes_expected(alloc, text, encoding, &changes, alike)
+}
+
+/// Reads the changes of a message. There are none if a number or the shape is wrong.
+fn changes_in(alloc: Global, changes: Value) -> Result<Option<Vec<Change>>> {
     let params =
         json!(in alloc; {"textDocument": {"uri": "", "version": 1}, "contentChanges": changes})?;
     match params_change(alloc, Some(params)) {
-        Ok(params) => changes_expected(
-            alloc,
-            text_in(members, "text")?,
-            encoding_in(members)?,
-            &params.changes,
-            alike,
-        ),
-        Err(ParamsFault::InvalidParams) => invalid(alloc),
+        Ok(params) => Ok(Some(params.changes)),
+        Err(ParamsFault::InvalidParams) => Ok(None),
         Err(ParamsFault::NoMemory) => bail!("out of memory"),
     }
 }
@@ -143,40 +146,27 @@ fn edits_in(alloc: Global, edits: Value) -> Result<Option<Vec<TextEdit>>> {
     let Value::Array(edits) = edits else {
         bail!("edits are a list");
     };
-    let mut read = Vec::new(alloc);
+    let mut changes = Vec::new(alloc);
     for edit in edits {
-        match content_change_in(alloc, edit)? {
-            Some(edit) => read.push(edit)?,
-            None => return Ok(None),
-        }
+        let Value::Object(mut edit) = edit else {
+            return Ok(None);
+        };
+        let range = edit.remove("range").context("an edit has a range")?;
+        let text = edit.remove("newText").context("an edit has a text")?;
+        changes.push(json!(in alloc; {"range": range, "text": text})?)?;
     }
-    Ok(Some(read))
-}
-
-fn content_change_in(alloc: Global, edit: Value) -> Result<Option<TextEdit>> {
-    let Value::Object(mut edit) = edit else {
+    let Some(changes) = changes_in(alloc, Value::Array(changes))? else {
         return Ok(None);
     };
-    let range = edit.remove("range").context("an edit has a range")?;
-    let text = edit.remove("newText").context("an edit has a text")?;
-    let params = json!(in alloc; {
-        "textDocument": {"uri": "", "version": 1},
-        "contentChanges": [{"range": range, "text": text}]
-    })?;
-    match params_change(alloc, Some(params)) {
-        Ok(params) => Ok(params.changes.into_iter().next().and_then(content_change)),
-        Err(ParamsFault::InvalidParams) => Ok(None),
-        Err(ParamsFault::NoMemory) => bail!("out of memory"),
+    let mut edits = Vec::new(alloc);
+    for change in changes {
+        let Some(range) = change.range else {
+            return Ok(None);
+        };
+        let new_text = change.text;
+        edits.push(TextEdit { range, new_text })?;
     }
-}
-
-fn content_change(change: Change) -> Option<TextEdit> {
-    let Change { range, text } = change;
-    let range: Range = range?;
-    Some(TextEdit {
-        range,
-        new_text: text,
-    })
+    Ok(Some(edits))
 }
 
 /// Returns the encoding of a case.

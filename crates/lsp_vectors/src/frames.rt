@@ -16,13 +16,11 @@ pub fn frames_expected(alloc: Global, text: &str) -> Result<Value> {
         bodies.push(Value::String(text_of(alloc, body)?))?;
     }
     let bodies = Value::Array(bodies);
-    match frames.fault {
-        None => Ok(json!(in alloc; {"bodies": bodies, "fault": null})?),
-        Some(fault) => {
-            let fault = fault_value(alloc, fault)?;
-            Ok(json!(in alloc; {"bodies": bodies, "fault": fault})?)
-        }
-    }
+    let fault = match frames.fault {
+        None => Value::Null,
+        Some(fault) => fault_value(alloc, fault)?,
+    };
+    Ok(json!(in alloc; {"bodies": bodies, "fault": fault})?)
 }
 
 /// Returns the bytes of a text, if each of its characters is one.

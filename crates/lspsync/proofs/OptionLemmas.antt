@@ -7,8 +7,7 @@ use Rattle.lspsync.specs.declared.command_line.Call.TheVariants as call
 none_of : (at : Option ℕ) (uri : Option (String Global)) → (not (is_some at) && not (is_some uri)) ≡ true → (at ≡ None)
     × (uri ≡ None)
 none_of None None e = (refl, refl)
-none_of None (Some uri) e = absurd (let wrong : false ≡ true = e in cc)
-none_of (Some at) uri e = absurd (let wrong : false ≡ true = e in cc)
+none_of _ _ e = absurd (let wrong : false ≡ true = e in cc)
 
 whole_part : (options : ArgMatches) (part : Part) → is_whole part ≡ true → IsLogPart options part
     → IsLogPart options whole

@@ -28,12 +28,8 @@ pub fn encoding_for<F: Folder>(
     ensures { IfSome result (IsEncodingNamed wanted.now (F.bytes folder.now name.now)
         outcome) }
 {
-    let Some(wanted) = wanted else {
-        return None;
-    };
-    let Some(saved) = &wanted.saved else {
-        return None;
-    };
+    let wanted = wanted.as_ref()?;
+    let saved = wanted.saved.as_deref()?;
     if outcome.status != DIFFERS || outcome.missing.is_some() || !folder.is_lasting(name) {
         return None;
     }
@@ -80,14 +76,13 @@ fn is_equal<T: Read + Drop>(
 ) -> bool
     ensures { result ≡ true → IsEqualRun settings ending.now saved.now (T.remaining log) }
 {
-    let Ok(ending) = String::from_str(alloc, ending) else {
+    let (Ok(ending), Ok(saved)) = (
+        String::from_str(alloc, ending),
+        String::from_str(alloc, saved),
+    ) else {
         return false;
     };
-    let Ok(saved) = String::from_str(alloc, saved) else {
-        return false;
-    };
-    let mut input = Told::new(log);
-    let mut output = Told::new(Vec::new(alloc));
+    let (mut input, mut output) = (Told::new(log), Told::new(Vec::new(alloc)));
     let comparison = Comparison::new(ending, saved);
     match compare(
         alloc,

@@ -22,29 +22,19 @@ pub fn openings<F: Folder>(
     ensures { IfSome result (λ words.
         AreListed wanted (F.bytes folder.now name.now) outcome.missing (string_bytes words)) }
 {
-    let Some(Missing::Document) = outcome.missing else {
+    let (Some(Missing::Document), Some(wanted)) = (outcome.missing, wanted) else {
         return None;
     };
-    let Some(wanted) = wanted else {
-        return None;
-    };
-    listed(alloc, name, wanted, folder)
-}
-
-fn listed<F: Folder>(alloc: Global, name: &str, wanted: Wanted, folder: &F) -> Option<String>
-    ensures { IfSome result (λ words.
-        IsList wanted (F.bytes folder.now name.now) (string_bytes words)) }
-{
     if !folder.is_lasting(name) {
         return None;
     }
     let Ok(file) = folder.open(name) else {
         return None;
     };
-    match list_of(alloc, file, wanted) {
-        Ok(words) => as_text(words),
-        Err(_) => None,
-    }
+    let Ok(words) = list_of(alloc, file, wanted) else {
+        return None;
+    };
+    String::from_utf8(words).ok()
 }
 
 /// Returns which messages opened the documents of a log.
@@ -60,10 +50,4 @@ fn list_of<T: Read + Drop>(alloc: Global, log: T, wanted: Wanted) -> Result<Vec<
     } = wanted;
     list_openings(alloc, &mut input, &mut words, settings, ending, MAX_TURNS)?;
     Ok(words.into_inner())
-}
-
-fn as_text(bytes: Vec<u8>) -> Option<String>
-    ensures { IfSome result (λ text. string_bytes text ≡ bytes.items) }
-{
-    String::from_utf8(bytes).ok()
 }

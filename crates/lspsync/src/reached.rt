@@ -16,13 +16,13 @@ pub fn settings_of(call: &Call) -> Option<Settings> {
         Call::Serve(_) => None,
         Call::Check { settings, .. }
         | Call::Explain { settings, .. }
-        | Call::Trace { settings, .. } => Some(*settings),
-        Call::Replay(settings)
+        | Call::Trace { settings, .. }
+        | Call::Replay(settings)
+        | Call::ReplayPart(settings, _)
+        | Call::Compare(settings, _)
         | Call::Normalise(settings)
         | Call::NormaliseDocuments(settings)
         | Call::Convert(settings) => Some(*settings),
-        Call::ReplayPart(settings, _) => Some(*settings),
-        Call::Compare(settings, _) => Some(*settings),
     }
 }
 
@@ -40,42 +40,14 @@ pub fn last_before<F: Folder>(
     if !folder.is_lasting(name) {
         return None;
     }
-    let number = records_of(alloc, name, settings, fault, folder)?;
-    if replays(alloc, name, settings, number, folder) {
-        Some(number)
-    } else {
-        None
-    }
-}
-
-/// Returns how many records a file has before its fault, if it has this one.
-fn records_of<F: Folder>(
-    alloc: Global,
-    name: &str,
-    settings: &Settings,
-    fault: EngineFault,
-    folder: &F,
-) -> Option<u64> {
+    let number = records_before(alloc, folder.open(name).ok()?, settings, fault)?;
     let Ok(file) = folder.open(name) else {
         return None;
     };
-    records_before(alloc, file, settings, fault)
-}
-
-/// Returns whether the texts after this record of a file can be shown.
-fn replays<F: Folder>(
-    alloc: Global,
-    name: &str,
-    settings: &Settings,
-    number: u64,
-    folder: &F,
-) -> bool
-    ensures { result ≡ true → IsReplayed settings.now (F.bytes folder.now name.now) number }
-{
-    let Ok(file) = folder.open(name) else {
-        return false;
-    };
-    is_replayed(alloc, file, settings, number)
+    if !is_replayed(alloc, file, settings, number) {
+        return None;
+    }
+    Some(number)
 }
 
 /// Returns how many records of a log `check` has a line of before this fault.

@@ -32,20 +32,21 @@ impl Answer {
     }
 }
 
-/// Returns whether a run with these words has this status and output, and nothing on standard
+/// Returns whether a run with these words has this status and output, and these lines on standard
 /// error.
 fn answers(
     alloc: Global,
-    words: &[&str],
+    words: &str,
     input: &[u8],
     status: u8,
     output: &[u8],
+    errors: &str,
 ) -> Result<bool, AllocError> {
-    Ok(ran(alloc, words, input)?.is(status, output, ""))
+    Ok(ran(alloc, words, input)?.is(status, output, errors))
 }
 
-/// Runs the program over streams that never fail.
-fn ran(alloc: Global, words: &[&str], input: &[u8]) -> Result<Answer, AllocError> {
+/// Runs the program over streams that never fail. Blanks part the words.
+fn ran(alloc: Global, words: &str, input: &[u8]) -> Result<Answer, AllocError> {
     stopped(alloc, words, input, &[], &[])
 }
 
@@ -82,7 +83,7 @@ const ALL: CallEnd = CallEnd::Take(usize::MAX);
 /// Runs the program over streams whose first calls end as these scripts say.
 fn stopped(
     alloc: Global,
-    words: &[&str],
+    words: &str,
     input: &[u8],
     reads: &[CallEnd],
     writes: &[CallEnd],
@@ -93,7 +94,7 @@ fn stopped(
 /// Runs the program over such streams, with these files.
 fn shelved(
     alloc: Global,
-    words: &[&str],
+    words: &str,
     files: &[Held<'_>],
     input: &[u8],
     reads: &[CallEnd],
@@ -103,7 +104,16 @@ fn shelved(
     let mut writer = Told::new(StopWriter::new(alloc, writes, ALL));
     let mut errors = Told::new(Vec::new(alloc));
     let folder = Shelf(files);
-    let status = run(alloc, words, &folder, &mut reader, &mut writer, &mut errors).status;
+    let words: Vec<&str> = words.split(' ').collect(alloc)?;
+    let status = run(
+        alloc,
+        &words,
+        &folder,
+        &mut reader,
+        &mut writer,
+        &mut errors,
+    )
+    .status;
     let output = Vec::from_slice(alloc, writer.into_inner().bytes())?;
     Ok(Answer {
         status,

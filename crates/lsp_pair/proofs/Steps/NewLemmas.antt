@@ -1,7 +1,6 @@
 -- A new pair.
-use Rattle.lsp_pair.proofs.Prelude.{◌≡◌, Bool, true, false, true≢false, not, IsTrue, [], nat_le, sym, ◌||◌, and_parts, leb-true, LimitsData, AreInRange, Offers, AreWithin, Setting, IsFitting, can_choose_utf16, are_within, new_pair, IsReached, arith, common_steps}
+use Rattle.lsp_pair.proofs.Prelude.{◌≡◌, Bool, true, false, true≢false, not, IsTrue, nat_le, sym, ◌||◌, and_parts, leb-true, LimitsData, AreInRange, Offers, AreWithin, Setting, IsFitting, can_choose_utf16, are_within, arith, common_steps}
 use Rattle.lsp_server.specs.declared.config.Config.{Config}
-use Rattle.lsp_pair.proofs.Steps.StepLemmas.{new_at}
 
 lenient_from : (small great : Bool) → (not small || great) ≡ true → IsTrue small → IsTrue great
 lenient_from true great e is = e
@@ -19,6 +18,3 @@ sound_from limits offers config ranges great within choice = record {
   within = within_from limits config.limits within;
   choice = choice;
 }
-
-pub new_reached : (setting : Setting) → IsFitting setting → IsReached (new_pair setting)
-new_reached setting sound = record { setting = setting; sound = sound; events = []; at = new_at setting }

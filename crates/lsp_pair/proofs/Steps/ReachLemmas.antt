@@ -1,10 +1,10 @@
 -- What a reached pair has in its queues.
-use Rattle.lsp_pair.proofs.Prelude.{ℕ, ◌≡◌, ◌≢◌, true, List, [], ◌∷◌, ◌++◌, map, Result, Ok, Err, IfOk, OnOk, OnErr, sym, ◌∙◌, subst, arith, IsFrame, written_is_frame, OutgoingData, Ended, is_listening, Happened, Server, Setting, EventData, PairData, message_frame, IsFitting, IsStep, ClientMessage, commands, lifecycle, World, server_of, IsProperEvent, frames_from, IsAt, IsUsual, IsStepAt, IsReached, both_ends, HoldsOfFirst, common_steps}
+use Rattle.lsp_pair.proofs.Prelude.{ℕ, ◌≡◌, ◌≢◌, true, List, [], ◌∷◌, ◌++◌, map, Result, Ok, Err, IfOk, OnOk, OnErr, refl, sym, ◌∙◌, subst, arith, IsFrame, written_is_frame, OutgoingData, Ended, is_listening, Happened, Server, Setting, EventData, PairData, message_frame, IsFitting, IsStep, ClientMessage, commands, lifecycle, World, server_of, IsProperEvent, frames_from, IsAt, IsUsual, IsStepAt, HasHistory, History, IsHistory, history_of, world_of, both_ends, HoldsOfFirst, common_steps}
 use Rattle.lsp_pair.proofs.Worlds.Shapes.{the_kind, WorldSound}
 use Rattle.lsp_pair.proofs.Worlds.ArriveLemmas.{Arrives, Arrivals, body_on}
 use Rattle.lsp_pair.proofs.Worlds.ReturnLemmas.{Returning}
 use Rattle.lsp_pair.proofs.Worlds.WorldLemmas.{there_arrives, here_returns, world_sound}
-use Rattle.lsp_pair.proofs.Steps.StepLemmas.{frame_on, steps_at, steps_reach}
+use Rattle.lsp_pair.proofs.Steps.StepLemmas.{frame_on, steps_at}
 use Rattle.lsp_message.specs.Outgoing as outgoing
 use Rattle.lsp_server.specs.Step as server
 use Rattle.lsp_client.specs.Step as client
@@ -35,23 +35,33 @@ module _ (setting : Setting) (sound : IsFitting setting) (w : World) (ok : World
   first_heard [] r = tt
   first_heard (m ∷ rest) r = grind (arith, common_steps, written_is_frame)
 
-pub reached_serves : (pair : PairData) → IsReached pair
+pub reached_serves : (h : History) (pair : PairData) → IsHistory h pair
     → HoldsOfFirst pair.to_server (λ first. IsFrame pair.server.config.limits.max_body first
     × (pair.server.phase ≢ Ended))
-reached_serves pair r = grind (arith, common_steps, world_sound, first_served, there_arrives)
+reached_serves h pair r = grind (arith, common_steps, world_sound, first_served, there_arrives)
 
-pub reached_hears : (pair : PairData) → IsReached pair
+pub reached_hears : (h : History) (pair : PairData) → IsHistory h pair
     → HoldsOfFirst pair.to_client (λ first. IsFrame pair.client.limits.max_body first
     × (is_listening pair.client.phase ≡ true))
-reached_hears pair r = grind (arith, common_steps, world_sound, first_heard, here_returns)
+reached_hears h pair r = grind (arith, common_steps, world_sound, first_heard, here_returns)
 
 -- ---- a step that may run out of memory
 
 pub reach_or_same : {E : Type 0} (old new : PairData) (event : EventData) (result : Result Happened E)
-    → IsProperEvent event → IsReached old
-    → IfOk result (λ a. IsStep old event a new) → OnErr result (new ≡ old) → IsReached new
-reach_or_same old new event (Ok a) proper reached steps same = steps_reach old new event a proper reached steps
-reach_or_same old new event (Err e) proper reached steps same = subst IsReached (sym same) reached
+    → IsProperEvent event → HasHistory old
+    → IfOk result (λ a. IsStep old event a new) → OnErr result (new ≡ old) → HasHistory new
+reach_or_same old new event (Ok a) proper has steps same =
+    let was = has.1 in (
+      history_of (world_of was.setting (was.events ++ event ∷ [])),
+      record {
+        setting = was.setting;
+        sound = was.sound;
+        events = was.events ++ event ∷ [];
+        at = (steps_at was.setting was.sound old new was.events event a proper was.at steps).at;
+        told = refl;
+      },
+    )
+reach_or_same old new event (Err e) proper has steps same = subst HasHistory (sym same) has
 
 pub step_from : {E : Type 0} (old now new : PairData) (event given : EventData) (result : Result Happened E) → old ≡ now
     → given ≡ event → IfOk result (λ a. IsStep old event a new) → IfOk result (λ a. IsStep now given a new)

@@ -1,5 +1,5 @@
 -- A step of a pair at a world leaves it at the world after the event.
-use Rattle.lsp_pair.proofs.Prelude.{ℕ, ◌≡◌, List, [], ◌∷◌, ◌++◌, map, take, drop, Result, Ok, Err, refl, sym, ap, ◌∙◌, subst, arith, drop-append-le, take-append-le, map-append, frame, SyncKind, reading, OutgoingData, body_of, DocumentItem, table_of, ClientFault, Happened, Server, Client, Setting, EventData, calls, to_server, to_client, did_of, replies_in, heard_of, messages_in, PairData, new_pair, message_frame, IsFitting, IsCallStep, IsServerStep, IsClientStep, IsDeliveryStep, IsStep, ClientMessage, commands, lifecycle, World, commands_in, Turn, turn_of_call, message_of_call, message_in, turn_of_step, turn_of_delivery, turn, world_of, beginning, client_of, server_of, IsProperEvent, frame_of, table_with, frames_from, waiting_out, waiting_back, pair_of, IsAt, IsUsualTurn, HaveOneEncoding, IsStepAt, IsReached, common_steps}
+use Rattle.lsp_pair.proofs.Prelude.{ℕ, ◌≡◌, List, [], ◌∷◌, ◌++◌, map, take, drop, Result, Ok, Err, refl, sym, ap, ◌∙◌, subst, arith, drop-append-le, take-append-le, map-append, frame, SyncKind, reading, OutgoingData, body_of, DocumentItem, table_of, ClientFault, Happened, Server, Client, Setting, EventData, calls, to_server, to_client, did_of, replies_in, heard_of, messages_in, PairData, new_pair, message_frame, IsFitting, IsCallStep, IsServerStep, IsClientStep, IsDeliveryStep, IsStep, ClientMessage, commands, lifecycle, World, commands_in, Turn, turn_of_call, message_of_call, message_in, turn_of_step, turn_of_delivery, turn, world_of, beginning, client_of, server_of, IsProperEvent, frame_of, table_with, frames_from, waiting_out, waiting_back, pair_of, IsAt, IsUsualTurn, HaveOneEncoding, IsStepAt, common_steps}
 use Rattle.lsp_client.specs.Step.{Call, Sending, Delivery, delivery_of, sent_body}
 use Rattle.lsp_pair.proofs.Worlds.LifeLemmas.{one_body}
 use Rattle.lsp_pair.proofs.Worlds.ListLemmas.{table_after_all, after-last, quiet, whole_after, frames-append, frames_said, next_is}
@@ -168,14 +168,3 @@ agrees setting pair events sound at =
     let w : World = world_of setting events in
     let ok : WorldSound setting w = world_sound setting sound events at.proper in
     subst (HaveOneEncoding setting) (sym at.is) (agree_at setting w ok.shape ok.at)
-
--- A step from a reached pair reaches the next.
-pub steps_reach : (old new : PairData) (event : EventData) (happened : Happened) → IsProperEvent event → IsReached old
-    → IsStep old event happened new → IsReached new
-steps_reach old new event happened proper reached steps =
-    record {
-      setting = reached.setting;
-      sound = reached.sound;
-      events = reached.events ++ event ∷ [];
-      at = (steps_at reached.setting reached.sound old new reached.events event happened proper reached.at steps).at;
-    }

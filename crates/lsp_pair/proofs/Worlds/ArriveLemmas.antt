@@ -1,11 +1,12 @@
 -- What the server does at each message that waits for it.
-use Rattle.lsp_pair.proofs.Prelude.{ℕ, ◌≡◌, ◌≤◌, List, [], ◌∷◌, ◌++◌, length, take, Some, refl, ap, ◌∙◌, subst, pos, ⊤, append-nil, drop-append-le, Offers, SyncKind, whole, reading, OutgoingData, body_of, IsProper, reading-body_of, is_read_back, DocumentItem, table_after, Phase, New, Running, Down, Ended, ServerData, Step, step_on, step_in, step, begin_step, sent_body, Server, Setting, did_of, replies_in, IsFitting, ClientMessage, commands, lifecycle, World, incoming_of_message, server_of, turn_of_step, waiting_out, table_with, IsUsual}
+use Rattle.lsp_pair.proofs.Prelude.{ℕ, ◌≡◌, ◌≤◌, List, [], ◌∷◌, ◌++◌, length, take, Option, Some, refl, ap, ◌∙◌, subst, pos, ⊤, append-nil, drop-append-le, Encoding, Offers, SyncKind, whole, reading, OutgoingData, body_of, IsProper, reading-body_of, is_read_back, DocumentItem, table_after, Phase, New, Running, Down, Ended, ServerData, Step, step_on, step_in, step, begin_step, sent_body, Server, Setting, did_of, replies_in, IsFitting, ClientMessage, commands, lifecycle, World, incoming_of_message, server_of, turn_of_step, waiting_out, table_with, IsUsual}
 use Rattle.lsp_pair.proofs.Worlds.SaidLemmas.{sent_short, done_by, IsServedAs}
-use Rattle.lsp_pair.proofs.Worlds.LifeLemmas.{last_result, short_initialize, short_initialized, short_shutdown, short_exit, least}
+use Rattle.lsp_pair.proofs.Worlds.LifeLemmas.{first_result, last_result, short_usual, least}
 use Rattle.lsp_pair.proofs.Worlds.ListLemmas.{next_is, length_more}
-use Rattle.lsp_pair.proofs.Worlds.Shapes.{the_encoding, the_kind, AreSaid, said_within, Shape, asking, answered, down, leaving, left, working, closing, client_at, server_at, agreed_at, encoding_at, there_at, here_at, IsBusy, IsBusyShape, AtShape, WorldSound, said_parts}
+use Rattle.lsp_pair.proofs.Worlds.Shapes.{the_encoding, the_kind, AreSaid, said_within, Shape, asking, answered, down, leaving, left, working, closing, Row, row_of, row_at, IsBusy, IsBusyShape, AtShape, WorldSound, said_parts}
 use Rattle.lsp_message.specs.Outgoing as outgoing
 use Rattle.lsp_server.specs.Answer as answer
+use Rattle.lsp_server.specs.Answer.{AnswerData}
 use Rattle.lsp_server.specs.Incoming as incoming
 use Rattle.lsp_server.specs.Step as server
 use Rattle.lsp_pair.proofs.Worlds.SaidLemmas as lemmas
@@ -35,80 +36,94 @@ Arrivals setting w [] = ⊤
 Arrivals setting w (said ∷ rest) = Arrives setting w said rest
 
 -- the world when the server did a step
+abbrev served : Row → Step → List ClientMessage → Row
+served r done rest = record r {
+  server = done.state.phase;
+  encoding = done.state.encoding;
+  there = rest;
+  here = r.here ++ replies_in done.answer;
+}
+
 advance : (setting : Setting) (w : World) (shape next : Shape) (said : ClientMessage) (rest : List ClientMessage)
-    (done : Step) → AtShape setting w shape → waiting_out w ≡ said ∷ rest
-    → IsBusyShape next → client_at shape ≡ client_at next → agreed_at setting shape ≡ agreed_at setting next
-    → done.state.phase ≡ server_at next → done.state.encoding ≡ encoding_at setting next
-    → rest ≡ there_at setting next → here_at setting shape ++ replies_in done.answer ≡ here_at setting next
-    → WorldSound setting (turn_of_step w done).world
-advance setting w shape next said rest done at e busy client agreed phase encoding there here =
+    (done : Step) → AtShape setting w shape → waiting_out w ≡ said ∷ rest → IsBusyShape next
+    → served (row_at setting shape) done rest ≡ row_at setting next → WorldSound setting (turn_of_step w done).world
+advance setting w shape next said rest done at e busy moves =
     let i = next_is w.out w.out_delivered said rest e in
+    let replied = drop-append-le w.back_delivered w.back (replies_in done.answer) at.returned in
+    let now : row_of (turn_of_step w done).world ≡ served (row_of w) done rest =
+    λ j. record (served (row_of w) done (i.after j)) { here = replied j } in
     record {
       shape = next;
       at = record {
         busy = busy;
-        client_is = at.client_is ∙ client;
-        agreed_is = at.agreed_is ∙ agreed;
-        server_is = phase;
-        encoding_is = encoding;
-        there = i.after ∙ there;
-        here = drop-append-le w.back_delivered w.back (replies_in done.answer) at.returned
-            ∙ (ap (λ (ms : List OutgoingData). ms ++ replies_in done.answer) at.here ∙ here);
+        is = now ∙ (ap (λ (r : Row). served r done rest) at.is ∙ moves);
         arrived = i.within;
         returned = length_more w.back_delivered w.back (replies_in done.answer) at.returned;
         said = at.said;
       };
     }
 
--- ---- messages beside commands
+-- ---- what the server does in each shape
 
 begins_given : (s : ServerData) (offers : Offers)
     → step_in New s (incoming_of_message (lifecycle (outgoing.initialize offers))) ≡ begin_step s (whole (pos 1)) offers
 begins_given s offers =
     ap (λ o. step_in New s (incoming.initialize (whole (pos 1)) o)) (is_read_back (outgoing.initialize offers) tt)
 
--- ---- commands
-
 module _ (setting : Setting) (sound : IsFitting setting) (w : World) where
-  -- a message beside commands
-  life_arrives : (m : OutgoingData) (rest : List ClientMessage) (step_is : Step) → IsProper m
-      → length (body_of m) ≤ 4096 → step_on (server_of setting w) (incoming_of_message (lifecycle m)) ≡ step_is
-      → step_is.state ≡ record (server_of setting w) {
-        phase = step_is.state.phase;
-        encoding = step_is.state.encoding;
-      } → IsUsual (lifecycle m) (Server (did_of step_is.answer)) → WorldSound setting (turn_of_step w step_is).world
-      → Arrives setting w (lifecycle m) rest
-  life_arrives m rest step_is proper few given state usual next = record {
-    step_is = step_is;
-    given = given;
-    written = ap (step (server_of setting w)) (reading-body_of m proper) ∙ given;
-    short = least setting _ sound few;
-    state = state;
-    usual = usual;
-    next = next;
-  }
+  abbrev did : Phase → Option Encoding → AnswerData OutgoingData → Step
+  did phase encoding said =
+      record { answer = said; state = record (server_of setting w) { phase = phase; encoding = encoding } }
 
-  step_at : (shape : Shape) (m : ClientMessage) → AtShape setting w shape
-      → step_on (server_of setting w) (incoming_of_message m)
-      ≡ step_in (server_at shape) (server_of setting w) (incoming_of_message m)
-  step_at shape m at = ap (λ (p : Phase). step_in p (server_of setting w) (incoming_of_message m)) at.server_is
+  -- a message beside commands
+  life_arrives : (shape next : Shape) (m : OutgoingData) (rest : List ClientMessage) (phase : Phase)
+      (encoding : Option Encoding) (said : AnswerData OutgoingData) → AtShape setting w shape → IsBusyShape next
+      → (row_at setting shape).there ≡ lifecycle m ∷ rest
+      → step_in (row_at setting shape).server (server_of setting w) (incoming_of_message (lifecycle m))
+      ≡ did phase encoding said → IsUsual (lifecycle m) (Server (did_of said))
+      → served (row_at setting shape) (did phase encoding said) rest ≡ row_at setting next
+      → Arrives setting w (lifecycle m) rest
+  life_arrives shape next m rest phase encoding said at busy first does usual moves =
+      let ok = short_usual m (Server (did_of said)) usual in
+      let given : step_on (server_of setting w) (incoming_of_message (lifecycle m)) ≡ did phase encoding said =
+      ap (λ (r : Row). step_in r.server (server_of setting w) (incoming_of_message (lifecycle m))) at.is ∙ does in
+      record {
+        step_is = did phase encoding said;
+        given = given;
+        written = ap (step (server_of setting w)) (reading-body_of m ok.0) ∙ given;
+        short = least setting _ sound ok.1;
+        state = refl;
+        usual = usual;
+        next =
+            advance setting w shape next (lifecycle m) rest (did phase encoding said) at
+            (ap (λ (r : Row). r.there) at.is ∙ first) busy moves;
+      }
+
+  -- a step without a reply, which leaves the phase and the encoding
+  stays : (shape : Shape) (rest : List ClientMessage) → AtShape setting w shape
+      → served (row_at setting shape) (did w.server_phase w.encoding answer.ignored) rest
+      ≡ record (row_at setting shape) { there = rest }
+  stays shape rest at = λ j. record (row_at setting shape) {
+    server = (at.is j).server;
+    encoding = (at.is j).encoding;
+    there = rest;
+    here = append-nil (row_at setting shape).here j;
+  }
 
   -- what waits while documents are sent
   busy_arrives : (shape next : Shape) (said : ClientMessage) (rest : List ClientMessage) → AtShape setting w shape
-      → IsBusy said → there_at setting shape ≡ said ∷ rest
-      → server_at shape ≡ Running → encoding_at setting shape ≡ Some (the_encoding setting)
-      → IsBusyShape next → client_at shape ≡ client_at next → agreed_at setting shape ≡ agreed_at setting next
-      → server_at shape ≡ server_at next → encoding_at setting shape ≡ encoding_at setting next
-      → rest ≡ there_at setting next → here_at setting shape ≡ here_at setting next → Arrives setting w said rest
-  busy_arrives shape next (commands command) rest at is first running counts busy client agreed phase encoding there
-      here =
+      → IsBusy said → IsBusyShape next → (row_at setting shape).server ≡ Running
+      → (row_at setting shape).encoding ≡ Some (the_encoding setting) → (row_at setting shape).there ≡ said ∷ rest
+      → record (row_at setting shape) { there = rest } ≡ row_at setting next → Arrives setting w said rest
+  busy_arrives shape next (commands command) rest at is busy running counts first moves =
       let s : ServerData = server_of setting w in
-      let e : waiting_out w ≡ commands command ∷ rest = at.there ∙ first in
+      let e : waiting_out w ≡ commands command ∷ rest = ap (λ (r : Row). r.there) at.is ∙ first in
       let parts = said_parts setting [] w.out_delivered w.out at.said in
       let all : AreSaid setting s.table (commands command ∷ rest) = subst (AreSaid setting s.table) e parts.1 in
       let done : IsServedAs s (the_kind setting) command =
       lemmas.command_served setting.limits setting.config.limits (the_encoding setting) (the_kind setting) s
-      sound.ranges sound.within refl (at.server_is ∙ running) (at.encoding_is ∙ counts)
+      sound.ranges sound.within refl (ap (λ (r : Row). r.server) at.is ∙ running)
+      (ap (λ (r : Row). r.encoding) at.is ∙ counts)
       (said_within setting (take w.out_delivered w.out) parts.0) command all.0 in
       record {
         step_is = done_by s (table_after s.table command);
@@ -119,51 +134,28 @@ module _ (setting : Setting) (sound : IsFitting setting) (w : World) where
         usual = refl;
         next =
             advance setting w shape next (commands command) rest (done_by s (table_after s.table command)) at e busy
-            client agreed (at.server_is ∙ phase) (at.encoding_is ∙ encoding) there
-            (append-nil (here_at setting shape) ∙ here);
+            (stays shape rest at ∙ moves);
       }
-  busy_arrives shape next (lifecycle outgoing.initialized) rest at is first running counts busy client agreed phase
-      encoding there here =
-      let does : Step = server.unchanged_step (server_of setting w) answer.ignored in
-      life_arrives outgoing.initialized rest does tt short_initialized
-      (step_at shape (lifecycle outgoing.initialized) at ∙ ap (λ (p : Phase). step_in p (server_of setting w)
-      (incoming_of_message (lifecycle outgoing.initialized))) running) refl refl
-      (advance setting w shape next (lifecycle outgoing.initialized) rest does at (at.there ∙ first) busy client agreed
-      (at.server_is ∙ phase) (at.encoding_is ∙ encoding) there (append-nil (here_at setting shape) ∙ here))
-  busy_arrives shape next (lifecycle m) rest at is first running counts busy client agreed phase encoding there here =
-      absurd is
+  busy_arrives shape next (lifecycle outgoing.initialized) rest at is busy running counts first moves =
+      life_arrives shape next outgoing.initialized rest w.server_phase w.encoding answer.ignored at busy first
+      (ap (λ (p : Phase). step_in p (server_of setting w)
+      (incoming_of_message (lifecycle outgoing.initialized))) running) refl (stays shape rest at ∙ moves)
+  busy_arrives shape next (lifecycle m) rest at is busy running counts first moves = absurd is
 
-  asking_arrives : AtShape setting w asking → Arrives setting w (lifecycle (outgoing.initialize setting.offers)) []
-  asking_arrives at =
-      let m : OutgoingData = outgoing.initialize setting.offers in
-      let does : Step = begin_step (server_of setting w) (whole (pos 1)) setting.offers in
-      life_arrives m [] does tt (short_initialize setting.offers)
-      (step_at asking (lifecycle m) at ∙ begins_given (server_of setting w) setting.offers) refl refl
-      (advance setting w asking answered (lifecycle m) [] does at at.there tt refl refl refl refl refl refl)
-
-  shutdown_arrives : AtShape setting w (closing []) → Arrives setting w (lifecycle outgoing.shutdown) []
-  shutdown_arrives at =
-      let does : Step = server.phase_step (server_of setting w) Down (answer.reply last_result) in
-      life_arrives outgoing.shutdown [] does tt short_shutdown
-      (step_at (closing []) (lifecycle outgoing.shutdown) at) refl refl
-      (advance setting w (closing []) down (lifecycle outgoing.shutdown) [] does at at.there tt refl refl refl
-      at.encoding_is refl refl)
-
-  exit_arrives : AtShape setting w leaving → Arrives setting w (lifecycle outgoing.exit) []
-  exit_arrives at =
-      let does : Step = server.phase_step (server_of setting w) Ended (answer.exits 0) in
-      life_arrives outgoing.exit [] does tt short_exit
-      (step_at leaving (lifecycle outgoing.exit) at) refl refl
-      (advance setting w leaving left (lifecycle outgoing.exit) [] does at at.there tt refl refl refl at.encoding_is
-      refl refl)
-
-  pub arrivals : (shape : Shape) → AtShape setting w shape → Arrivals setting w (there_at setting shape)
-  arrivals asking at = asking_arrives at
-  arrivals (working (said ∷ rest)) at = busy_arrives (working (said ∷ rest)) (working rest) said rest at at.busy.0 refl
-      refl refl at.busy.1 refl refl refl refl refl refl
-  arrivals (closing []) at = shutdown_arrives at
+  pub arrivals : (shape : Shape) → AtShape setting w shape → Arrivals setting w (row_at setting shape).there
+  arrivals asking at =
+      life_arrives asking answered (outgoing.initialize setting.offers) [] Running (Some (the_encoding setting))
+      (answer.reply (first_result (the_encoding setting) (the_kind setting))) at tt refl
+      (begins_given (server_of setting w) setting.offers) refl refl
+  arrivals (working (said ∷ rest)) at =
+      busy_arrives (working (said ∷ rest)) (working rest) said rest at at.busy.0 at.busy.1 refl refl refl refl
+  arrivals (closing []) at =
+      life_arrives (closing []) down outgoing.shutdown [] Down w.encoding (answer.reply last_result) at tt refl
+      refl refl (λ j. record (row_at setting down) { encoding = (at.is j).encoding })
   arrivals (closing (said ∷ rest)) at =
       busy_arrives (closing (said ∷ rest)) (closing rest) said (rest ++ lifecycle outgoing.shutdown ∷ []) at at.busy.0
-      refl refl refl at.busy.1 refl refl refl refl refl refl
-  arrivals leaving at = exit_arrives at
+      at.busy.1 refl refl refl refl
+  arrivals leaving at =
+      life_arrives leaving left outgoing.exit [] Ended w.encoding (answer.exits 0) at tt refl refl refl
+      (λ j. record (row_at setting left) { encoding = (at.is j).encoding })
   arrivals _ at = tt

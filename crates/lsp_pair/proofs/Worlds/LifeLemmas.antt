@@ -1,5 +1,5 @@
 -- What both ends make of the messages of the lifecycle, and how long these are.
-use Rattle.lsp_pair.proofs.Prelude.{ℕ, ◌≡◌, ◌≤◌, Bool, true, List, [], ◌++◌, length, refl, sym, ◌∙◌, subst, arith, pos, append-nil, frame, IsFrameOf, one_frame_law, written_is_frame, Encoding, Utf8, Offers, SyncKind, Off, whole, OutgoingData, initialize, initialized, shutdown, exit, initialize_result, shutdown_result, body_of, leb-true, Setting, IsFitting}
+use Rattle.lsp_pair.proofs.Prelude.{ℕ, ◌≡◌, ◌≤◌, Bool, true, List, [], ◌++◌, length, refl, sym, ◌∙◌, subst, arith, pos, append-nil, frame, IsFrameOf, one_frame_law, written_is_frame, Encoding, Utf8, SyncKind, Off, whole, OutgoingData, IsProper, IsUsual, Happened, lifecycle, initialize, initialized, shutdown, exit, initialize_result, shutdown_result, body_of, leb-true, Setting, IsFitting}
 use Rattle.json.specs.Print.{escape_byte}
 use Rattle.std.specs.Fmt.{digits}
 
@@ -9,20 +9,15 @@ initialize_len true true = leb-true (length (body_of (initialize (record { utf8 
 initialize_len utf8 true = leb-true (length (body_of (initialize (record { utf8 = utf8; utf32 = true })))) 4096 refl
 initialize_len utf8 utf32 = leb-true (length (body_of (initialize (record { utf8 = utf8; utf32 = utf32 })))) 4096 refl
 
-pub short_initialize : (offers : Offers) → length (body_of (initialize offers)) ≤ 4096
-short_initialize offers = initialize_len offers.utf8 offers.utf32
-
-pub short_initialized : length (body_of initialized) ≤ 4096
+-- a message beside commands that a client sends
+pub short_usual : (m : OutgoingData) (happened : Happened) → IsUsual (lifecycle m) happened
+    → IsProper m × (length (body_of m) ≤ 4096)
 unfolding escape_byte digits
-short_initialized = leb-true (length (body_of initialized)) 4096 refl
-
-pub short_shutdown : length (body_of shutdown) ≤ 4096
-unfolding escape_byte digits
-short_shutdown = leb-true (length (body_of shutdown)) 4096 refl
-
-pub short_exit : length (body_of exit) ≤ 4096
-unfolding escape_byte digits
-short_exit = leb-true (length (body_of exit)) 4096 refl
+short_usual (initialize offers) happened is = (tt, initialize_len offers.utf8 offers.utf32)
+short_usual initialized happened is = (tt, leb-true (length (body_of initialized)) 4096 refl)
+short_usual shutdown happened is = (tt, leb-true (length (body_of shutdown)) 4096 refl)
+short_usual exit happened is = (tt, leb-true (length (body_of exit)) 4096 refl)
+short_usual _ happened is = absurd is
 
 -- the id that `initialize` has, and the one that `shutdown` has
 abbrev pub first_result : Encoding → SyncKind → OutgoingData

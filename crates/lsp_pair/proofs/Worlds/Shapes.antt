@@ -81,54 +81,49 @@ pub data Shape : Type 0 where
   fresh asking answered down closed leaving left : Shape
   working closing : List ClientMessage → Shape
 
-abbrev pub client_at : Shape → client_phase.Phase
-client_at fresh = client_phases.New
-client_at asking = client_phases.Asked
-client_at answered = client_phases.Asked
-client_at (working busy) = client_phases.Ready
-client_at (closing busy) = client_phases.Closing
-client_at down = client_phases.Closing
-client_at closed = client_phases.Closed
-client_at leaving = client_phases.Done
-client_at left = client_phases.Done
+-- The phases of both ends, what each agreed on, and what waits for each.
+pub record Row : Type 0 where
+  pub client : client_phase.Phase
+  pub agreed : Option Agreed
+  pub server : server_phase.Phase
+  pub encoding : Option Encoding
+  pub there : List ClientMessage
+  pub here : List OutgoingData
 
-abbrev pub server_at : Shape → server_phase.Phase
-server_at fresh = server_phases.New
-server_at asking = server_phases.New
-server_at answered = server_phases.Running
-server_at (working busy) = server_phases.Running
-server_at (closing busy) = server_phases.Running
-server_at down = server_phases.Down
-server_at closed = server_phases.Down
-server_at leaving = server_phases.Down
-server_at left = server_phases.Ended
+abbrev pub row_of : World → Row
+row_of w = record {
+  client = w.client_phase;
+  agreed = w.agreed;
+  server = w.server_phase;
+  encoding = w.encoding;
+  there = waiting_out w;
+  here = waiting_back w;
+}
 
-abbrev pub agreed_at : Setting → Shape → Option Agreed
-agreed_at setting fresh = None
-agreed_at setting asking = None
-agreed_at setting answered = None
-agreed_at setting shape = Some (agreed_of setting)
+-- before both ends agreed, and after
+abbrev row : client_phase.Phase → server_phase.Phase → Option Encoding → List ClientMessage → List OutgoingData → Row
+row client server encoding there here =
+    record { client = client; agreed = None; server = server; encoding = encoding; there = there; here = here }
 
-abbrev pub encoding_at : Setting → Shape → Option Encoding
-encoding_at setting fresh = None
-encoding_at setting asking = None
-encoding_at setting shape = Some (the_encoding setting)
+abbrev agreed_row : Setting → client_phase.Phase → server_phase.Phase → List ClientMessage → List OutgoingData → Row
+agreed_row setting client server there here =
+    record (row client server (Some (the_encoding setting)) there here) { agreed = Some (agreed_of setting) }
 
-abbrev pub there_at : Setting → Shape → List ClientMessage
-there_at setting fresh = []
-there_at setting asking = lifecycle (outgoing.initialize setting.offers) ∷ []
-there_at setting answered = []
-there_at setting (working busy) = busy
-there_at setting (closing busy) = busy ++ lifecycle outgoing.shutdown ∷ []
-there_at setting down = []
-there_at setting closed = []
-there_at setting leaving = lifecycle outgoing.exit ∷ []
-there_at setting left = []
-
-abbrev pub here_at : Setting → Shape → List OutgoingData
-here_at setting answered = first_result (the_encoding setting) (the_kind setting) ∷ []
-here_at setting down = last_result ∷ []
-here_at setting shape = []
+abbrev pub row_at : Setting → Shape → Row
+row_at setting fresh = row client_phases.New server_phases.New None [] []
+row_at setting asking =
+    row client_phases.Asked server_phases.New None (lifecycle (outgoing.initialize setting.offers) ∷ []) []
+row_at setting answered =
+    row client_phases.Asked server_phases.Running (Some (the_encoding setting)) []
+    (first_result (the_encoding setting) (the_kind setting) ∷ [])
+row_at setting (working busy) = agreed_row setting client_phases.Ready server_phases.Running busy []
+row_at setting (closing busy) =
+    agreed_row setting client_phases.Closing server_phases.Running (busy ++ lifecycle outgoing.shutdown ∷ []) []
+row_at setting down = agreed_row setting client_phases.Closing server_phases.Down [] (last_result ∷ [])
+row_at setting closed = agreed_row setting client_phases.Closed server_phases.Down [] []
+row_at setting leaving =
+    agreed_row setting client_phases.Done server_phases.Down (lifecycle outgoing.exit ∷ []) []
+row_at setting left = agreed_row setting client_phases.Done server_phases.Ended [] []
 
 -- `initialized` and commands
 abbrev pub IsBusy : ClientMessage → Type 0
@@ -151,12 +146,7 @@ IsBusyShape shape = ⊤
 
 pub record AtShape (setting : Setting) (w : World) (shape : Shape) : Type 0 where
   pub busy : IsBusyShape shape
-  pub client_is : w.client_phase ≡ client_at shape
-  pub agreed_is : w.agreed ≡ agreed_at setting shape
-  pub server_is : w.server_phase ≡ server_at shape
-  pub encoding_is : w.encoding ≡ encoding_at setting shape
-  pub there : waiting_out w ≡ there_at setting shape
-  pub here : waiting_back w ≡ here_at setting shape
+  pub is : row_of w ≡ row_at setting shape
   pub arrived : w.out_delivered ≤ length w.out
   pub returned : w.back_delivered ≤ length w.back
   pub said : AreSaid setting [] w.out

@@ -1,7 +1,7 @@
 -- What holds of the world of every list of events.
 use Rattle.lsp_pair.proofs.Prelude.{◌≡◌, Bool, List, [], ◌∷◌, ◌++◌, Option, Result, Ok, Err, refl, sym, ap, ◌∙◌, subst, arith, if◌then◌else◌, MatchOption, message, OutgoingData, sent, ClientFault, WrongPhase, Call, Server, Client, Nothing, Setting, EventData, calls, to_server, to_client, did_of, heard_of, IsFitting, ClientMessage, World, beginning, Turn, turn_of_call, message_of_call, message_in, turn_of_step, to_server_event, turn_of_delivery, turn_of_result, to_client_event, turn, world_from, world_of, client_of, IsProperEvent, AreProperEvents, waiting_out, waiting_back, pair_of, IsUsual, IsUsualBack, IsUsualTurn, HaveOneEncoding, common_steps}
 use Rattle.lsp_pair.proofs.Worlds.ListLemmas.{next_is, none_next}
-use Rattle.lsp_pair.proofs.Worlds.Shapes.{Shape, fresh, asking, client_at, agreed_at, encoding_at, AtShape, WorldSound}
+use Rattle.lsp_pair.proofs.Worlds.Shapes.{Shape, fresh, asking, Row, row_at, AtShape, WorldSound}
 use Rattle.lsp_pair.proofs.Worlds.ArriveLemmas.{Arrives, Arrivals, arrivals}
 use Rattle.lsp_pair.proofs.Worlds.ReturnLemmas.{Returns, Returning, returning}
 use Rattle.lsp_pair.proofs.Worlds.CallLemmas.{CallResult, called_sound}
@@ -13,12 +13,7 @@ beginning_sound setting =
       shape = fresh;
       at = record {
         busy = tt;
-        client_is = refl;
-        agreed_is = refl;
-        server_is = refl;
-        encoding_is = refl;
-        there = refl;
-        here = refl;
+        is = refl;
         arrived = omega arith;
         returned = omega arith;
         said = tt;
@@ -35,10 +30,12 @@ pub record IsGoodTurn (setting : Setting) (w : World) (event : EventData) (t : T
 module _ (setting : Setting) (sound : IsFitting setting) (w : World) (ok : WorldSound setting w) where
   -- the messages that wait, and what becomes of them
   pub there_arrives : Arrivals setting w (waiting_out w)
-  there_arrives = subst (Arrivals setting w) (sym ok.at.there) (arrivals setting sound w ok.shape ok.at)
+  there_arrives =
+      subst (λ (r : Row). Arrivals setting w r.there) (sym ok.at.is) (arrivals setting sound w ok.shape ok.at)
 
   pub here_returns : Returning setting w (waiting_back w)
-  here_returns = subst (Returning setting w) (sym ok.at.here) (returning setting sound w ok.shape ok.at)
+  here_returns =
+      subst (λ (r : Row). Returning setting w r.here) (sym ok.at.is) (returning setting sound w ok.shape ok.at)
 
   -- the turn where a message waits
   pub served_turn : (said : ClientMessage) (rest : List ClientMessage) (e : waiting_out w ≡ said ∷ rest)
@@ -124,4 +121,4 @@ proper_last (first ∷ events) event p q = (p.0, proper_last events event p.1 q)
 
 pub agree_at : (setting : Setting) (w : World) (shape : Shape) → AtShape setting w shape
     → HaveOneEncoding setting (pair_of setting w)
-agree_at setting w shape at = grind (arith, common_steps, client_at, agreed_at, asking, encoding_at)
+agree_at setting w shape at = grind (arith, common_steps, row_at, asking)

@@ -25,3 +25,7 @@ pub record IsHistory (h : History) (pair : PairData) : Type 0 where
   pub events : List EventData
   pub at : IsAt setting pair events
   pub told : h ≡ history_of (world_of setting events)
+
+-- A pair that comes from a new one by steps has one.
+abbrev pub HasHistory : PairData → Type 0
+HasHistory pair = (h : History) × IsHistory h pair

@@ -66,8 +66,7 @@ static MISPLACED: [(&str, &str); 7] = [
 /// Returns whether a call with these words is refused, by a text on standard error that has this in
 /// it.
 fn is_wrong(alloc: Global, words: &str, said: &str) -> Result<bool, Fail> {
-    let words: Vec<&str> = words.split(' ').collect(alloc)?;
-    let answer = ran(alloc, &words, b"")?;
+    let answer = ran(alloc, words, b"")?;
     let text = str::from_utf8(&answer.errors)?;
     Ok(answer.status == 2 && answer.output.is_empty() && text.contains(said))
 }
@@ -134,11 +133,7 @@ fn a_call_without_options_has_the_defaults(rt: HostRuntime) -> Result<(), Fail> 
     Ok(())
 }
 
-static HELP: [&[&str]; 3] = [
-    &["lspsync", "--help"],
-    &["lspsync", "-h"],
-    &["lspsync", "help"],
-];
+static HELP: [&str; 3] = ["lspsync --help", "lspsync -h", "lspsync help"];
 
 /// Returns whether all of these are in a text.
 fn has_all(text: &str, words: &[&str]) -> bool {
@@ -151,7 +146,7 @@ fn has_all(text: &str, words: &[&str]) -> bool {
 }
 
 /// Returns the text that a call for help prints.
-fn help(alloc: Global, words: &[&str]) -> Result<Vec<u8>, Fail> {
+fn help(alloc: Global, words: &str) -> Result<Vec<u8>, Fail> {
     let answer = ran(alloc, words, b"")?;
     if answer.status != 0 || !answer.errors.is_empty() {
         return Err(Fail::from("help"));
@@ -169,7 +164,7 @@ static STATUSES: [&str; 6] = [
     "5 the log is faulty",
 ];
 
-fn names_each(alloc: Global, words: &[&str]) -> Result<bool, Fail> {
+fn names_each(alloc: Global, words: &str) -> Result<bool, Fail> {
     let output = help(alloc, words)?;
     let text = str::from_utf8(&output)?;
     Ok(has_all(text, &COMMANDS) && has_all(text, &STATUSES) && is_narrow(text))
@@ -191,11 +186,10 @@ fn help_names_each_command_and_status(rt: HostRuntime) -> Result<(), Fail> {
 #[test]
 fn the_version_is_printed(rt: HostRuntime) -> Result<(), Fail> {
     let version = format!(in rt.alloc(); "lspsync {VERSION}\n")?;
-    for option in ["--version", "-V"] {
-        let words = ["lspsync", option];
+    for words in ["lspsync --version", "lspsync -V"] {
         assert!(rt;
-            answers(rt.alloc(), &words, b"", 0, version.as_bytes())?,
-            "at {option}"
+            answers(rt.alloc(), words, b"", 0, version.as_bytes(), "")?,
+            "at {words:?}"
         );
     }
     Ok(())
@@ -215,7 +209,7 @@ static DEFAULTS: [&str; 3] = ["[default: 16777216]", "[default: 1024]", "[defaul
 
 /// Returns whether the help of a command has its options with their defaults, and an example of its
 /// call.
-fn has_options(alloc: Global, command: &str, words: &[&str]) -> Result<bool, Fail> {
+fn has_options(alloc: Global, command: &str, words: &str) -> Result<bool, Fail> {
     let before = match command {
         "serve" => "< ",
         "compare" => "hello.py ",
@@ -233,13 +227,9 @@ fn has_options(alloc: Global, command: &str, words: &[&str]) -> Result<bool, Fai
 #[test]
 fn help_of_each_command_has_its_options_and_an_example(rt: HostRuntime) -> Result<(), Fail> {
     for command in &COMMANDS {
-        let ways: [[&str; 3]; 3] = [
-            ["lspsync", command, "--help"],
-            ["lspsync", command, "-h"],
-            ["lspsync", "help", command],
-        ];
-        for words in &ways {
-            assert!(rt; has_options(rt.alloc(), command, words)?, "at {words:?}");
+        for (before, after) in [("", " --help"), ("", " -h"), ("help ", "")] {
+            let words = format!(in rt.alloc(); "lspsync {before}{command}{after}")?;
+            assert!(rt; has_options(rt.alloc(), command, &words)?, "at {words:?}");
         }
     }
     Ok(())

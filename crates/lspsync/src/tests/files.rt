@@ -107,7 +107,6 @@ static DIFFERING: [(&str, &str); 4] = [
 
 /// Runs the program with these words, over these files.
 fn answered(alloc: Global, words: &str) -> Result<Answer, AllocError> {
-    let words: Vec<&str> = words.split(' ').collect(alloc)?;
     let good = log(alloc, &[INITIALIZE, OPEN, WHOLE])?;
     let cut = Vec::from_slice(alloc, good.get(..400).unwrap_or(&[]))?;
     let begun = log(alloc, &[INITIALIZE])?;
@@ -128,7 +127,7 @@ fn answered(alloc: Global, words: &str) -> Result<Answer, AllocError> {
         ("broken.log", &good, &[Take(350), Fails]),
         ("nvim.log", b"[START][ LSP logging", &[Take(1), Take(2)]),
     ];
-    shelved(alloc, &words, &files, &good, &[], &[])
+    shelved(alloc, words, &files, &good, &[], &[])
 }
 
 #[test]
@@ -160,8 +159,8 @@ fn another_encoding_is_named(rt: HostRuntime) -> Result<(), Fail> {
 fn a_failed_output_ends_the_run(rt: HostRuntime) -> Result<(), Fail> {
     let good = log(rt.alloc(), &[INITIALIZE, OPEN, WHOLE])?;
     let files: [Held<'_>; 1] = [("a.log", &good, &[])];
-    let words = ["lspsync", "check", "a.log", "a.log"];
-    let answer = shelved(rt.alloc(), &words, &files, b"", &[], &[Take(5), Fails])?;
+    let words = "lspsync check a.log a.log";
+    let answer = shelved(rt.alloc(), words, &files, b"", &[], &[Take(5), Fails])?;
     assert!(rt; answer.is(3, b"1 rep", "==> a.log <==\nlspsync: write fault\n"));
     Ok(())
 }

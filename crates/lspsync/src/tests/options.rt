@@ -44,7 +44,8 @@ fn has_word(alloc: Global, row: &(&str, &[&str], &str)) -> Result<bool, Fail> {
     let (option, bodies, word) = *row;
     let mut input = log(alloc, &[INITIALIZE])?;
     input.extend_from_slice(&log(alloc, bodies)?)?;
-    let answer = ran(alloc, &["lspsync", "check", option], &input)?;
+    let words = format!(in alloc; "lspsync check {option}")?;
+    let answer = ran(alloc, &words, &input)?;
     let lines = format!(in alloc; "1 reply\n2 changed\n3 {word}\n")?;
     Ok(answer.output.starts_with(lines.as_bytes()))
 }
@@ -65,21 +66,21 @@ const BOTH: &str =
     r#"{"jsonrpc":"2.0","method":"textDocument/didChange","params":{"contentChanges":[{"range":{"end":{"character":3,"line":0},"start":{"character":0,"line":0}},"text":"aXcd"}],"textDocument":{"uri":"file:///a","version":3}}}"#;
 
 /// Words of `normalise`, and what it writes of [`NORMALISED`].
-static WRITTEN: [(&[&str], &[&str]); 4] = [
+static WRITTEN: [(&str, &[&str]); 4] = [
     (
-        &["lspsync", "normalise"],
+        "lspsync normalise",
         &[INITIALIZE, OPEN, CANONICAL, TYPED, HOVER],
     ),
     (
-        &["lspsync", "normalise", "--squash"],
+        "lspsync normalise --squash",
         &[INITIALIZE, OPEN, BOTH, HOVER],
     ),
     (
-        &["lspsync", "normalise", "--documents"],
+        "lspsync normalise --documents",
         &[INITIALIZE, OPEN, CANONICAL, TYPED],
     ),
     (
-        &["lspsync", "normalise", "--squash", "--documents"],
+        "lspsync normalise --squash --documents",
         &[INITIALIZE, OPEN, BOTH],
     ),
 ];
@@ -92,7 +93,7 @@ fn normalise_squashes_and_leaves_out(rt: HostRuntime) -> Result<(), Fail> {
     for (words, written) in &WRITTEN {
         let output = log(rt.alloc(), written)?;
         assert!(rt;
-            answers(rt.alloc(), words, &input, 0, &output)?,
+            answers(rt.alloc(), words, &input, 0, &output, "")?,
             "at {words:?}"
         );
     }
@@ -100,19 +101,19 @@ fn normalise_squashes_and_leaves_out(rt: HostRuntime) -> Result<(), Fail> {
 }
 
 /// Words of `trace`, and the end of a line that it writes of [`NORMALISED`].
-static TRACED: [(&[&str], &str); 2] = [
+static TRACED: [(&str, &str); 2] = [
     (
-        &["lspsync", "trace", "--texts"],
+        "lspsync trace --texts",
         "\"textDocument\":{\"uri\":\"file:///a\",\"version\":3}}},\"text\":\"aXcd\"}\n",
     ),
     (
-        &["lspsync", "trace", "--bodies"],
+        "lspsync trace --bodies",
         "\"body\":{\"id\":\"q\",\"jsonrpc\":\"2.0\",\"method\":\"textDocument/hover\"}}\n",
     ),
 ];
 
 /// Returns whether `trace` writes a line that ends so.
-fn has_line(alloc: Global, words: &[&str], end: &str) -> Result<bool, Fail> {
+fn has_line(alloc: Global, words: &str, end: &str) -> Result<bool, Fail> {
     let input = log(alloc, &NORMALISED)?;
     let answer = ran(alloc, words, &input)?;
     Ok(str::from_utf8(&answer.output)?.contains(end))

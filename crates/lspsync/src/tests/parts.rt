@@ -15,43 +15,27 @@ const OPENED: &str =
     "{\"languageId\":\"plaintext\",\"text\":\"abc\",\"uri\":\"file:///a\",\"version\":1}\n";
 
 /// The words of a call, and the status, the output and the line on standard error.
-static ROWS: [(&[&str], u8, &str, &str); 5] = [
-    (&["lspsync", "replay", "--uri", "file:///a"], 0, "aXc", ""),
-    (
-        &["lspsync", "replay", "--uri", "file:///b"],
-        1,
-        "",
-        NEVER_OPEN,
-    ),
-    (&["lspsync", "replay", "--at", "3"], 0, OPENED, ""),
-    (&["lspsync", "replay", "--at", "8"], 1, "", NO_RECORD),
-    (
-        &["lspsync", "replay", "--at=5", "--uri=file:///a"],
-        0,
-        "aXc",
-        "",
-    ),
+static ROWS: [(&str, u8, &str, &str); 5] = [
+    ("lspsync replay --uri file:///a", 0, "aXc", ""),
+    ("lspsync replay --uri file:///b", 1, "", NEVER_OPEN),
+    ("lspsync replay --at 3", 0, OPENED, ""),
+    ("lspsync replay --at 8", 1, "", NO_RECORD),
+    ("lspsync replay --at=5 --uri=file:///a", 0, "aXc", ""),
 ];
-
-/// Returns whether a run with these words has this status, this output and this line on standard
-/// error.
-fn ends_with(
-    alloc: Global,
-    words: &[&str],
-    input: &[u8],
-    status: u8,
-    output: &str,
-    errors: &str,
-) -> Result<bool, AllocError> {
-    Ok(ran(alloc, words, input)?.is(status, output.as_bytes(), errors))
-}
 
 #[test]
 fn a_part_of_a_log_is_replayed(rt: HostRuntime) -> Result<(), Fail> {
     let input = log(rt.alloc(), &SESSION)?;
     for (words, status, output, errors) in &ROWS {
         assert!(rt;
-            ends_with(rt.alloc(), words, &input, *status, output, errors)?,
+            answers(
+                rt.alloc(),
+                words,
+                &input,
+                *status,
+                output.as_bytes(),
+                errors
+            )?,
             "at {words:?}"
         );
     }

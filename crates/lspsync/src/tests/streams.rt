@@ -49,7 +49,7 @@ static FAILING: [Failing; 9] = [
 /// are written.
 fn has_failed(alloc: Global, input: &[u8], row: &Failing) -> Result<bool, AllocError> {
     let (command, reads, writes, len, line) = *row;
-    let words = ["lspsync", command];
+    let words = format!(in alloc; "lspsync {command}")?;
     let whole = ran(alloc, &words, input)?;
     let Some(start) = whole.output.get(..len) else {
         return Ok(false);

@@ -21,7 +21,7 @@ fn both_sides_have_their_lines(rt: HostRuntime) -> Result<(), Fail> {
         input.extend_from_slice(mark.as_bytes())?;
         input.extend_from_slice(&frame(alloc, body.as_bytes())?)?;
     }
-    assert!(rt; answers(alloc, &["lspsync", "trace"], &input, 0, BOTH.as_bytes())?);
+    assert!(rt; answers(alloc, "lspsync trace", &input, 0, BOTH.as_bytes(), "")?);
     Ok(())
 }
 
@@ -35,7 +35,7 @@ const BODY_LINES: &[u8] =
 /// A body is written on one line, and one that is no JSON not at all.
 #[test]
 fn bodies_are_written_on_one_line(rt: HostRuntime) -> Result<(), Fail> {
-    let words = ["lspsync", "trace", "--bodies"];
-    assert!(rt; answers(rt.alloc(), &words, BODIES, 1, BODY_LINES)?);
+    let words = "lspsync trace --bodies";
+    assert!(rt; answers(rt.alloc(), words, BODIES, 1, BODY_LINES, "")?);
     Ok(())
 }

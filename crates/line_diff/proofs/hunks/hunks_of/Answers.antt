@@ -1,7 +1,7 @@
-use Rattle.line_diff.proofs.Prelude.{◌-◌, ◌++◌, List, ℕ, Bor, length, map, ap, ◌∙◌, append_assoc, arith, drop-map, length-drop, length-map, take_rest, common_steps}
+use Rattle.line_diff.proofs.Prelude.{◌-◌, ◌++◌, List, ℕ, Bor, inl, inr, length, map, ap, ◌∙◌, append_assoc, arith, drop-map, length-drop, length-map, take_rest, common_steps}
 use Rattle.line_diff.specs.declared.hunks.Hunk.{Hunk}
 use Rattle.line_diff.specs.Hunks.{hunks_of}
-use Rattle.line_diff.proofs.HunkLemmas.{hunk_step, none_near, rest_is}
+use Rattle.line_diff.proofs.HunkLemmas.{hunk_step, last_left}
 use Rattle.line_diff.proofs.hunks.hunks_of.Goals.{else-gaps-test, then-gaps-test+in_default}
 use Rattle.line_diff.proofs.hunks.hunks_of.Goals as goal
 
@@ -16,14 +16,14 @@ pub returns : goal.returns
 returns c =
     let lines = map (λ (line : Bor (List ℕ)). line.now) c.args.lines.now in
     let others = map (λ (line : Bor (List ℕ)). line.now) c.args.others.now in
-    let rest = rest_is c.gaps.start c.gaps.other_start lines others (length c.args.lines.now)
-    (length c.args.others.now) (length-map c.args.lines.now (λ line. line.now))
-    (length-map c.args.others.now (λ line. line.now)) c.gaps.invariant.within c.gaps.invariant.within_others in
     c.in_ok-push_hunk-2.ensures
-    ∙ ap (λ (hunks : List Hunk). c.gaps.found.items ++ hunks) (rest ∙ elim c.gaps-test.branch [
+    ∙ (ap (λ (hunks : List Hunk). c.gaps.found.items ++ hunks) (last_left c.args.farthest c.gaps.start
+    c.gaps.other_start lines others (length c.args.lines.now) (length c.args.others.now)
+    (length c.args.lines.now - c.gaps._step) (length-map c.args.lines.now (λ line. line.now))
+    (length-map c.args.others.now (λ line. line.now)) (elim c.gaps-test.branch [
       | else-gaps-test w ↦
-          grind (arith, common_steps)
+          inl (omega arith)
       | then-gaps-test+in_default w ↦
-          grind (arith, common_steps, none_near, drop-map, take_rest, w.in_default.ensures.value)
-    ])
-    ∙ c.gaps.invariant.rest
+          inr (grind (arith, common_steps, drop-map, take_rest, w.in_default.ensures.value))
+    ]))
+    ∙ c.gaps.invariant.rest)

@@ -1,30 +1,22 @@
-use Rattle.line_diff.proofs.Prelude.{◌-◌, arith, length-map, common_steps}
-use Rattle.line_diff.specs.Hunks.{nearest, next_gap}
-use Rattle.line_diff.proofs.FirstLemmas.{first_passed}
-use Rattle.line_diff.proofs.GapLemmas.{gap_found, gap_missing, no_pair}
+use Rattle.line_diff.proofs.Prelude.{◌≡◌, ◌+◌, ◌-◌, ℕ, suc, ap, map, arith, length-map, first_found, gap_at, common_steps}
+use Rattle.line_diff.specs.Hunks.{gap_of, next_gap}
+use Rattle.line_diff.proofs.FirstLemmas.{equal_within}
+use Rattle.line_diff.proofs.GapLemmas.{found_here, found_later}
 use Rattle.line_diff.proofs.hunks.next_gap.Goals as goal
 
 pub loop-sum-init : goal.loop-sum-init
-unfolding nearest
-loop-sum-init c = grind (arith, common_steps)
-
-pub returns-in-Some-clause-value : goal.returns-in-Some-clause-value
 unfolding next_gap
-returns-in-Some-clause-value c =
-    grind (
-      arith,
-      common_steps,
-      length-map,
-      gap_found,
-      c.loop-sum.invariant,
-      c.in-Some.ensures.value,
-      c.in-Some.ensures.within.0,
-    )
+loop-sum-init c = grind (arith, common_steps, length-map)
+
+pub loop-first-init : goal.loop-first-init
+unfolding gap_of
+loop-first-init c =
+    let all : suc c.loop-sum.sum ≡ (c.loop-sum.sum + 1) - 0 = omega arith in
+    ap (λ (n : ℕ). first_found (gap_at (map (λ line. line.now) c.args.lines.now)
+    (map (λ line. line.now) c.args.others.now) c.loop-sum.sum) n 0) all
+
+pub loop-first-preserved : goal.loop-first-preserved
+loop-first-preserved c = grind (arith, common_steps, found_later, c.loop-first.invariant)
 
 pub loop-sum-preserved : goal.loop-sum-preserved
-loop-sum-preserved c =
-    grind (arith, common_steps, first_passed, no_pair, c.loop-sum.invariant, c.in_default.ensures.value)
-
-pub returns-clause-value : goal.returns-clause-value
-unfolding next_gap
-returns-clause-value c = grind (arith, common_steps, length-map, gap_missing, c.loop-sum.invariant)
+loop-sum-preserved c = grind (arith, common_steps, found_later, c.loop-sum.invariant, c.loop-first.invariant)

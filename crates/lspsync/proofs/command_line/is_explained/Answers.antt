@@ -1,3 +1,4 @@
+use Rattle.lspsync.proofs.Prelude.{rules}
 use Rattle.lspsync.proofs.command_line.is_explained.Goals as goal
 
 pub returns : goal.returns
@@ -5,20 +6,8 @@ returns c = record {
   explain = c.get_flag-explain.result;
   brief = c.get_flag-brief.result;
   all = c.get_flag-all.result;
-  is_explain = record {
-    missing = c.get_flag-explain.ensures.none;
-    set = c.get_flag-explain.ensures.value;
-    not_set = c.get_flag-explain.ensures.other;
-  };
-  is_brief = record {
-    missing = c.get_flag-brief.ensures.none;
-    set = c.get_flag-brief.ensures.value;
-    not_set = c.get_flag-brief.ensures.other;
-  };
-  is_all = record {
-    missing = c.get_flag-all.ensures.none;
-    set = c.get_flag-all.ensures.value;
-    not_set = c.get_flag-all.ensures.other;
-  };
+  is_explain = search rules;
+  is_brief = search rules;
+  is_all = search rules;
   value = c.is_any.ensures;
 }

@@ -5,10 +5,10 @@ use Rattle.lsp_pair.proofs.Steps.CalledLemmas.{is_call, call_is, call_same, no_d
 use Rattle.lsp_pair.proofs.pair.Pair.step.Goals as goal
 
 pub serve_first-requires : goal.serve_first-requires
-serve_first-requires c = reached_serves _ c.self.invariant
+serve_first-requires c = reached_serves _ _ c.self.invariant.1
 
 pub hear_first-requires : goal.hear_first-requires
-hear_first-requires c = reached_hears _ c.self.invariant
+hear_first-requires c = reached_hears _ _ c.self.invariant.1
 
 pub invariant_of-self : goal.invariant_of-self
 invariant_of-self c =
