@@ -76,10 +76,8 @@ pub then_means : (units : ℕ → ℕ) (old : List ℕ) (first second : List Con
     → meaning units old first ≡ Ok items → meaning units (text_of old items) second ≡ Ok others
     → meaning units old (first ++ second) ≡ Ok (then_items items others)
 then_means units old first second items others is are =
-    let on : after_changes units old 0 (plain old) (first ++ second) ≡ after_changes units old (0 + length first) items
-    second = after_changes-append units old 0 (plain old) items first second is in
-    let error : after_changes units old 0 (then_items items (plain (text_of old items))) second
-    ≡ Ok (then_items items others) = then-changes units old items 0 (plain (text_of old items)) others second are in
+    let on = after_changes-append units old 0 (plain old) items first second is in
+    let error = then-changes units old items 0 (plain (text_of old items)) others second are in
     let here : after_changes units old 0 items second ≡ Ok (then_items items others) = rw then-plain at error in
     on ∙ any_number units old 0 (0 + length first) items (then_items items others) second here
 

@@ -177,8 +177,7 @@ module _ (units : ℕ → ℕ) (before : List ℕ) (batch : List ContentChange) 
       → (batch_fault_of fault ≡ OutOfMemory)
       ⊎ (text_within max_len before (meaning units (chars before) batch) ≡ Err (batch_fault_of fault))
   draft_faulted max_len fault error =
-      let text : text_of (chars draft) (plain (chars draft)) ≡ text_of (chars before) drafting.items =
-      plain_text (chars draft) ∙ text_is in
+      let text = plain_text (chars draft) ∙ text_is in
       ⊎_elim
       (λ (memory : fault ≡ NoMemory). inl (ap batch_fault_of memory))
       (λ (t : (why : Fault) × (items_after units (chars draft) (plain (chars draft)) (content_change change) ≡ Err why)

@@ -1,5 +1,5 @@
 -- What text edits leave by indexes is what they leave once they are sorted by their byte offsets.
-use Rattle.lsp_edit.proofs.Prelude.{ℕ, suc, ◌≡◌, ◌+◌, ◌-◌, ◌<◌, ◌≤◌, zero, Bool, true, false, cond, ◌==◌, nat_lt, nat_le, List, [], ◌∷◌, ◌++◌, length, map, filter, flat_map, slice_index_or as get_or, Ok, refl, sym, ap, ap₂, ◌∙◌, subst, arith, ⊎_elim, inl, inr, append-nil, lt-ltb, le-ltb, ltb-false, ne_eqb, eq-eqb, Contains, AllByRecursion, IsPermutation, IsNonDecreasingBy, ties, chars, IsUtf8, cases_Bool, cases_eq, cases_lt, length-map, recursion_from_All, filter_agree, All-permutation, Contains-permutation, IsNonDecreasingBy-from_sort, IsPermutation-map, IsPermutation-sym, list_any-IsPermutation, IsPlace, place_of, numbers_from, place_rises, Placed, TextEdit, TextEditFault, ContentChange, meaning, canonical, Item, Old, New, Keeps, Part, AreParts, index_of, items_of, LocatedEdit, located, new_at, is_taken_out, left_at, items_left, ComesBefore, NoneOverlap, IsBatchOfEdits, EditsOverlap, located_of, Lies, ArePlaced, IsInOrder, AreApart, old_parts, parts_left, AreLeftByEdits, DoOverlap, common_steps}
+use Rattle.lsp_edit.proofs.Prelude.{ℕ, suc, ◌≡◌, ◌+◌, ◌-◌, ◌<◌, ◌≤◌, zero, Bool, true, false, cond, ◌==◌, nat_lt, nat_le, List, [], ◌∷◌, ◌++◌, length, map, filter, flat_map, slice_index_or as get_or, Ok, refl, sym, ap, ap₂, ◌∙◌, subst, arith, ⊎_elim, inl, inr, append-nil, lt-ltb, le-ltb, ltb-false, ne_eqb, eq-eqb, Contains, AllByRecursion, IsPermutation, ties, chars, IsUtf8, cases_Bool, cases_eq, cases_lt, length-map, recursion_from_All, filter_agree, All-permutation, Contains-permutation, IsNonDecreasingBy-from_sort, IsPermutation-map, IsPermutation-sym, list_any-IsPermutation, IsPlace, place_of, numbers_from, place_rises, Placed, TextEdit, TextEditFault, ContentChange, meaning, canonical, Item, Old, New, Keeps, Part, AreParts, index_of, items_of, LocatedEdit, located, new_at, is_taken_out, left_at, items_left, ComesBefore, NoneOverlap, IsBatchOfEdits, EditsOverlap, located_of, Lies, ArePlaced, IsInOrder, AreApart, old_parts, parts_left, AreLeftByEdits, DoOverlap, common_steps}
 use Rattle.std.specs.List.{All, AllPairs}
 use Rattle.std.specs.Ordering.{is_lt, nat_cmp}
 use Rattle.std.proofs.lemmas.List.{get_or-map, get_or_default}
@@ -112,8 +112,7 @@ module _ (old : List ℕ) where
         (λ (l : p.start < q.start). inl (places_less p.start q.start (lie i no_edit (omega arith)).at_start
         (lie j no_edit within).at_start l))
         (λ (l : q.start ≤ p.start).
-        let up : IsNonDecreasingBy (λ (e : Placed). e.start) ordered =
-        IsNonDecreasingBy-from_sort (λ (e : Placed). e.start) ordered order.sorted in
+        let up = IsNonDecreasingBy-from_sort (λ (e : Placed). e.start) ordered order.sorted in
         let e : p.start ≡ q.start = omega (arith, up i j no_edit (omega arith) within) in
         inr (
           ap (index_of old) e,
@@ -164,8 +163,7 @@ module _ (old : List ℕ) where
         let k : ℕ = over.index in
         let low : k < length ordered = omega (arith, over.within) in
         let a : get_or (all_of ordered) k first ≡ first = located_at k over.first low over.first_is in
-        let b : get_or (all_of ordered) (k + 1) second ≡ second =
-        located_at (k + 1) over.second over.within over.second_is in
+        let b = located_at (k + 1) over.second over.within over.second_is in
         let a_in : k < length (all_of ordered) = omega (arith, long) in
         let b_in : k + 1 < length (all_of ordered) = omega (arith, long, over.within) in
         record {
@@ -256,8 +254,7 @@ module _ (before : List ℕ) (utf8 : IsUtf8 before) where
         → IsBatchOfEdits units before edits answered
     batch_by_indexes some answered is =
         let all : List LocatedEdit = all_of (chars before) left.placed in
-        let items : items_of (chars before) parts ≡ items_left all (length (chars before)) =
-        items_are ∙ (sym (runs_through (chars before) 0 (length (chars before)) ordered stand (omega arith))
+        let items = items_are ∙ (sym (runs_through (chars before) 0 (length (chars before)) ordered stand (omega arith))
         ∙ sym (left_same (chars before) units edits left.placed left.ordered left.at left.order)) in
         record {
           all = all;

@@ -69,8 +69,7 @@ nothing_there : (old : List ℕ) (low i : ℕ) (es : List LocatedEdit) → Stand
     → (new_at es i ≡ []) × (is_taken_out es i ≡ false)
 nothing_there old low i [] stand less = (refl, refl)
 nothing_there old low i (e ∷ es) stand less =
-    let rest : (new_at es i ≡ []) × (is_taken_out es i ≡ false) =
-    nothing_there old e.stop i es stand.4 (omega (arith, stand.0, stand.1)) in (
+    let rest = nothing_there old e.stop i es stand.4 (omega (arith, stand.0, stand.1)) in (
       rw (ne_eqb e.start i (λ s. omega (arith, stand.0))) rest.0,
       rw (lt-leb e.start i (omega (arith, stand.0))) rest.1,
     )
@@ -139,8 +138,7 @@ pub left_keeps : (old : List ℕ) (low : ℕ) (es : List LocatedEdit) → StandA
 left_keeps old low [] stand = row_keeps old low (length old - low) (omega (arith, stand.0))
 left_keeps old low (e ∷ es) stand =
     let n : e.start ≡ low + (e.start - low) = omega (arith, stand.0) in
-    let rest : Keeps old e.start (map New e.text ++ left_from (length old) e.stop es) =
-    new_keeps old e.start e.text (left_from (length old) e.stop es) stand.3
+    let rest = new_keeps old e.start e.text (left_from (length old) e.stop es) stand.3
     (keeps_from_lower old e.start e.stop (left_from (length old) e.stop es) stand.1 stand.3
     (stand_whole old e.stop es stand.4) (left_keeps old e.stop es stand.4)) in
     run_keeps old low (e.start - low) (map New e.text ++ left_from (length old) e.stop es)

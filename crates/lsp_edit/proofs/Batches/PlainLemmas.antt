@@ -31,8 +31,7 @@ pub plain_next : (units : ℕ → ℕ) (old : List ℕ) (items next : List Item)
 plain_next units old items next changes edited change more are view made own fits =
     let here : items_after units old items change ≡ Ok next =
     subst (λ (e : PlainData). items_after units e.before e.items change ≡ Ok next) (sym view) made in
-    let long : length (edited_bytes edited) ≡ length (encode_utf8_all (text_of old items)) =
-    ap (λ (e : PlainData). length (edited_bytes e)) (sym view) in
+    let long = ap (λ (e : PlainData). length (edited_bytes e)) (sym view) in
     record {
       size = are.size;
       keeps = after_change_keeps old units items next change are.keeps here;

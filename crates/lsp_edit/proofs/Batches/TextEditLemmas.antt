@@ -3,7 +3,7 @@ use Rattle.lsp_edit.proofs.Prelude.{ℕ, suc, false, ◌≡◌, ◌+◌, ◌<◌
 use Rattle.std.proofs.lemmas.List.{get_or_default}
 use Rattle.std.proofs.lemmas.List.Elements.{All-push}
 use Rattle.std.specs.List.{All}
-use Rattle.lsp_edit.proofs.Composing.AppliedLemmas.{AreEnds, ends_told}
+use Rattle.lsp_edit.proofs.Composing.AppliedLemmas.{ends_told}
 use Rattle.lsp_edit.proofs.Parts.IndexLemmas.{index_of-place}
 use Rattle.lsp_edit.proofs.Parts.PutLemmas.{new_items, are_both}
 
@@ -79,8 +79,7 @@ pub placed_more : (units : ℕ → ℕ) (old : List ℕ) (edits : List TextEdit)
     → Ok (one.start, one.stop) ≡ places_at one.number old (ends_of units old edit.range) → one.number ≡ length placed
     → one.text.now ≡ string_bytes edit.new_text → next ≡ placed ++ one ∷ [] → ArePlaced units old edits more next
 placed_more units old edits edit rest more placed next one is are found number_is text_is next_is =
-    let e : AreEnds units old edit.range one.start one.stop =
-    ends_told units old edit.range one.number one.start one.stop found in
+    let e = ends_told units old edit.range one.number one.start one.stop found in
     let ends : ends_of units old edit.range ≡ Ok (e.low, e.high) =
     rw (e.low_is, e.high_is, le-leb e.low e.high e.order) refl in
     let same : located_of old one ≡ record {
@@ -90,13 +89,7 @@ placed_more units old edits edit rest more placed next one is are found number_i
       text = chars (string_bytes edit.new_text);
     }
     = λ i. record { number = number_is i; start = e.low_at i; stop = e.high_at i; text = chars (text_is i) } in
-    let all : map (located_of old) next ≡ map (located_of old) placed ++ (record {
-      number = length placed;
-      start = e.low;
-      stop = e.high;
-      text = chars (string_bytes edit.new_text);
-    } ∷ [])
-    = ap (map (located_of old)) next_is ∙ (map-append (located_of old) placed (one ∷ [])
+    let all = ap (map (located_of old)) next_is ∙ (map-append (located_of old) placed (one ∷ [])
     ∙ ap (λ (x : LocatedEdit). map (located_of old) placed ++ x ∷ []) same) in
     let long : length next ≡ length placed + 1 = ap length next_is ∙ length-append placed (one ∷ []) in
     record {

@@ -75,8 +75,7 @@ module _ (size : ℕ) where
       ≤ suc (hunks size false 0 items)
   all_new characters items =
       let p : hunks size false 0 (map New characters ++ []) ≤ hunks size true 0 [] = put_in false 0 characters [] in
-      let q : hunks size false 0 (map New characters ++ []) ≡ hunks size false 0 (map New characters) =
-      ap (hunks size false 0) (append-nil (map New characters)) in
+      let q = ap (hunks size false 0) (append-nil (map New characters)) in
       omega (arith, one_if_new (nat_lt 0 size))
 
   none_at_first : (low count : ℕ) → low + count ≡ size → hunks size false low (map Old (numbers_from low count)) ≡ 0

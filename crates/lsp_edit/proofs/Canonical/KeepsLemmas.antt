@@ -60,8 +60,7 @@ module _ (old : List ℕ) where
 
   pub after_later : (low : ℕ) (front rest : List Item) → Keeps old low (front ++ rest) → low ≤ after low front
   after_later low [] rest k = omega arith
-  after_later low (Old index ∷ front) rest k = let l : suc index ≤ after (suc index) front =
-      after_later (suc index) front rest k.3 in omega (arith, k.0)
+  after_later low (Old index ∷ front) rest k = let l = after_later (suc index) front rest k.3 in omega (arith, k.0)
   after_later low (New character ∷ front) rest k = after_later low front rest k.1
 
   -- An index of the items' text that splits no CRLF of that text stands behind an index that splits none of the old
@@ -105,10 +104,8 @@ module _ (old : List ℕ) where
       subst (Keeps old 0) (sym (split_between items start stop order)) keeps in
       let rest : Keeps old (after 0 front) (middle ++ back) = rest_keeps 0 front (middle ++ back) split in
       let e : start + (stop - start) ≡ stop = omega arith in
-      let last : after 0 (take stop items) ≡ after (after 0 front) middle =
-      ap (after 0) (rw e at (take-add start (stop - start) items)) ∙ after-append 0 front middle in
-      let low_whole : splits_crlf old (after 0 front) ≡ false =
-      index_whole items start keeps (omega arith) start_whole in
+      let last = ap (after 0) (rw e at (take-add start (stop - start) items)) ∙ after-append 0 front middle in
+      let low_whole = index_whole items start keeps (omega arith) start_whole in
       let high_whole : splits_crlf old (after (after 0 front) middle) ≡ false =
       subst (λ (n : ℕ). splits_crlf old n ≡ false) last (index_whole items stop keeps within stop_whole) in
       other_rest_keeps 0 front (middle ++ back) (map New characters ++ back) split

@@ -23,12 +23,10 @@ module _ (old : List ℕ) where
   last_kept low (New character) [] rest index split keeps is = absurd (let k : splits_crlf old low ≡ false = keeps.0 in
       let s : splits_crlf old low ≡ splits_crlf old (suc index) = ap (splits_crlf old) is in cc)
   last_kept low (Old here) (next ∷ front) rest index split keeps is =
-      let r : (more : List Item) × (next ∷ front ≡ more ++ Old index ∷ []) =
-      last_kept (suc here) next front rest index split keeps.3 is in
+      let r = last_kept (suc here) next front rest index split keeps.3 is in
       (Old here ∷ r.0, ap (λ (items : List Item). Old here ∷ items) r.1)
   last_kept low (New character) (next ∷ front) rest index split keeps is =
-      let r : (more : List Item) × (next ∷ front ≡ more ++ Old index ∷ []) =
-      last_kept low next front rest index split keeps.1 is in
+      let r = last_kept low next front rest index split keeps.1 is in
       (New character ∷ r.0, ap (λ (items : List Item). New character ∷ items) r.1)
 
   before_feed : (front rest : List Item) (index : ℕ) → splits_crlf old (suc index) ≡ true

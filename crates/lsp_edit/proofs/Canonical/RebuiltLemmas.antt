@@ -27,8 +27,7 @@ length-plain_to high = length-map (numbers_from 0 high) Old ∙ length-numbers 0
 plain_to_split : (low high : ℕ) → low ≤ high → plain_to high ≡ plain_to low ++ map Old (numbers_from low (high - low))
 plain_to_split low high order =
     let e : low + (high - low) ≡ high = omega arith in
-    let n : numbers_from 0 (low + (high - low)) ≡ numbers_from 0 low ++ numbers_from (0 + low) (high - low) =
-    numbers_split 0 low (high - low) in
+    let n = numbers_split 0 low (high - low) in
     let z : 0 + low ≡ low = omega arith in
     let m : numbers_from 0 high ≡ numbers_from 0 low ++ numbers_from low (high - low) = rw (e, z) at n in
     ap (map Old) m ∙ map-append Old (numbers_from 0 low) (numbers_from low (high - low))
@@ -36,8 +35,7 @@ plain_to_split low high order =
 plain_to_next : (index : ℕ) (rest : List Item) → plain_to (suc index) ++ rest ≡ plain_to index ++ (Old index ∷ rest)
 plain_to_next index rest =
     let one : suc index - index ≡ 1 = omega arith in
-    let s : plain_to (suc index) ≡ plain_to index ++ map Old (numbers_from index (suc index - index)) =
-    plain_to_split index (suc index) (omega arith) in
+    let s = plain_to_split index (suc index) (omega arith) in
     let t : plain_to (suc index) ≡ plain_to index ++ (Old index ∷ []) = rw one at s in
     ap (λ (items : List Item). items ++ rest) t ∙ append_assoc (plain_to index) (Old index ∷ []) rest
 
@@ -77,15 +75,13 @@ module _ (old : List ℕ) where
     index_met : (met : List ℕ) (high k : ℕ) → IsMet met high → k ≤ high → splits_crlf old k ≡ false
         → denoted units met (exact_position units old k) ≡ Some k
     index_met met high k is order whole =
-        let near : splits_crlf met k ≡ splits_crlf old k =
-        splits_near met old (suc high) k (agree_to met high is) (omega arith) in
+        let near = splits_near met old (suc high) k (agree_to met high is) (omega arith) in
         let met_whole : splits_crlf met k ≡ false = near ∙ whole in
         let met_take : take k (take high met) ≡ take k met = take-take k high met order in
         let old_take : take k (take high old) ≡ take k old = take-take k high old order in
         let both : take k (take high met) ≡ take k (take high old) = ap (take k) is.same in
         let same : take k met ≡ take k old = cc in
-        let e : exact_position units met k ≡ exact_position units old k =
-        exact_near units met old k same (omega (arith, is.long)) (omega (arith, is.within)) met_whole whole in
+        let e = exact_near units met old k same (omega (arith, is.long)) (omega (arith, is.within)) met_whole whole in
         ap (denoted units met) (sym e) ∙ exact_denotes units some met k (omega (arith, is.long)) met_whole
 
     -- The change of a gap, on items that are old up to the gap's end, puts the gap's text in its place.
@@ -94,10 +90,8 @@ module _ (old : List ℕ) where
         (change_of_gap units old (gap_at low high text) ∷ []) (plain_to low ++ (map New text ++ rest))
     gap_changed low high text rest ends first =
         let is : IsMet (text_of old (plain_to high ++ rest)) high = is_met high rest ends.within first in
-        let low_met : denoted units (text_of old (plain_to high ++ rest)) (exact_position units old low) ≡ Some low =
-        index_met (text_of old (plain_to high ++ rest)) high low is ends.order ends.low_whole in
-        let high_met : denoted units (text_of old (plain_to high ++ rest)) (exact_position units old high) ≡ Some high =
-        index_met (text_of old (plain_to high ++ rest)) high high is (omega arith) ends.high_whole in
+        let low_met = index_met (text_of old (plain_to high ++ rest)) high low is ends.order ends.low_whole in
+        let high_met = index_met (text_of old (plain_to high ++ rest)) high high is (omega arith) ends.high_whole in
         let made : items_after units old (plain_to high ++ rest) (change_of_gap units old (gap_at low high text))
         ≡ Ok (plain_to low ++ (map New text ++ rest)) = rw (low_met, high_met) replaced_here in
         record {
@@ -107,8 +101,7 @@ module _ (old : List ℕ) where
       where
         front : take low (plain_to high ++ rest) ≡ plain_to low
         front =
-            let s : plain_to high ≡ plain_to low ++ map Old (numbers_from low (high - low)) =
-            plain_to_split low high ends.order in
+            let s = plain_to_split low high ends.order in
             rw (
               s,
               append_assoc (plain_to low) (map Old (numbers_from low (high - low))) rest,

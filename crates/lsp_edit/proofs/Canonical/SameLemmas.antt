@@ -34,8 +34,7 @@ same_items (New c ∷ items) (Old j ∷ others) k t = absurd (new_first c items 
 same_items (New c ∷ items) (New d ∷ others) k t =
     let s = some_text items in
     let o = some_text others in
-    let u : (c ∷ s.0) ∷ s.1 ≡ (d ∷ o.0) ∷ o.1 =
-    sym (ap (put_first c) s.2) ∙ (t ∙ ap (put_first d) o.2) in
+    let u = sym (ap (put_first c) s.2) ∙ (t ∙ ap (put_first d) o.2) in
     let first : c ≡ d = cc in
     let same_texts : gap_texts items ≡ gap_texts others = cc (s.2, o.2) in
     ap₂ (λ (n : ℕ) (more : List Item). New n ∷ more) first (same_items items others k same_texts)
@@ -54,8 +53,7 @@ module _ (units : ℕ → ℕ) (some : (c : ℕ) → 1 ≤ units c) (old : List 
     λ same.
         let one : meaning units old (canonical units old items) ≡ Ok items = canonical_means batch items is in
         let two : meaning units old (canonical units old others) ≡ Ok others = canonical_means other others are in
-        let both : meaning units old (canonical units old items) ≡ meaning units old (canonical units old others) =
-        ap (meaning units old) same in
+        let both = ap (meaning units old) same in
         let made : ◌≡◌ {A = Result (List Item) (ℕ × Fault)} (Ok items) (Ok others) = cc in
         let e : items ≡ others = cc in
         record { same_kept = ap kept e; same_texts = ap gap_texts e },

@@ -55,8 +55,7 @@ module _ (weight : ℕ → ℕ) where
   pub no_longer : (units : ℕ → ℕ) (old : List ℕ) (items : List Item) → sum_by (λ change. sum_by weight change.text)
       (canonical units old items) ≤ sum_by weight (text_of old items)
   no_longer units old items =
-      let turned : sum_by change_weight (canonical units old items)
-      ≡ sum_by change_weight (map (change_of_gap units old) (filter is_changed (gaps old items))) =
+      let turned =
       sum_by-IsPermutation change_weight (map (change_of_gap units old) (filter is_changed (gaps old items)))
       (canonical units old items)
       (IsPermutation-reverse (map (change_of_gap units old) (filter is_changed (gaps old items)))) in

@@ -173,7 +173,8 @@ pub record IsRanged (units : ℕ → ℕ) (range : Range) (before : List ℕ) (p
   pub order : start ≤ stop
   pub within : stop ≤ len
   pub ordered : AreOrdered parts
-  pub bytes : bytes_of before (replaced_parts parts start stop new) ≡ replace_range (bytes_of before parts) start stop new
+  pub bytes : bytes_of before (replaced_parts parts start stop new)
+      ≡ replace_range (bytes_of before parts) start stop new
   pub start_at : (bytes : List ℕ) → bytes ≡ bytes_of before parts → IsCharBoundary bytes start
   pub stop_at : (bytes : List ℕ) → bytes ≡ bytes_of before parts → IsCharBoundary bytes stop
   pub short : (bytes : List ℕ) → bytes ≡ bytes_of before parts → length (replace_range bytes start stop new)
@@ -226,12 +227,9 @@ module _ (units : ℕ → ℕ) (before : List ℕ) (parts : List Part) (len chan
   pub all_next : length (new_parts new) < 18446744073709551616
       → IsNext units before parts changes (record { range = None; text = chars new }) (new_parts new) (length new)
   all_next small =
-      let n : (items_of (chars before) (new_parts new) ≡ map New (chars new)) × AreParts before (new_parts new) =
-      new_items before new (is_utf8-from_IsUtf8 new utf8) in
-      let text : text_of (chars before) (items_of (chars before) (new_parts new)) ≡ chars new =
-      ap (text_of (chars before)) n.0 ∙ text_of-new (chars before) (chars new) in
-      let bytes : bytes_of before (new_parts new) ≡ new =
-      parts_bytes before old_utf8 (new_parts new) n.1
+      let n = new_items before new (is_utf8-from_IsUtf8 new utf8) in
+      let text = ap (text_of (chars before)) n.0 ∙ text_of-new (chars before) (chars new) in
+      let bytes = parts_bytes before old_utf8 (new_parts new) n.1
       ∙ (ap encode_utf8_all text ∙ encodes-chars new utf8) in
       next_of (record { range = None; text = chars new }) (new_parts new) (length new)
       (ap (λ (i : List Item). Ok i) (sym n.0))
@@ -257,8 +255,10 @@ module _ (units : ℕ → ℕ) (before : List ℕ) (parts : List Part) (len chan
     both : (items_of (chars before) (replaced_parts parts start stop new)
         ≡ take r.ends.low had ++ (map New (chars new) ++ drop r.ends.high had))
         × AreParts before (replaced_parts parts start stop new)
-    both = rw (r.ends.start_is, r.ends.stop_is) at (replaced_items before old_utf8 parts r.ends.low r.ends.high new are.are
-        (is_utf8-from_IsUtf8 new utf8) r.ends.order r.within)
+    both =
+        rw (r.ends.start_is, r.ends.stop_is) at
+        (replaced_items before old_utf8 parts r.ends.low r.ends.high new are.are (is_utf8-from_IsUtf8 new utf8)
+        r.ends.order r.within)
 
     -- the bytes of the text with those between the places replaced
     range_bytes : bytes_of before (replaced_parts parts start stop new)
@@ -298,8 +298,7 @@ pub room_told : (before : List ℕ) (parts : List Part) (len changes more : ℕ)
     → ArePieces before parts len changes → seen before parts changes ≡ edited → length (edited_bytes edited) + more
     ≤ 2147483648 → len + more ≤ 2147483648
 room_told before parts len changes more edited are is room =
-    let n : len ≡ length (encode_utf8_all (text_of (chars before) (items_of (chars before) parts))) =
-    are.long ∙ ap length (parts_bytes before (IsUtf8-from_is_utf8 before are.utf8) parts are.are) in
+    let n = are.long ∙ ap length (parts_bytes before (IsUtf8-from_is_utf8 before are.utf8) parts are.are) in
     omega (arith, n, ap (λ (e : PlainData). length (edited_bytes e)) is)
 
 pub next_told : (units : ℕ → ℕ) (before : List ℕ) (parts : List Part) (changes : ℕ) (change : ContentChange)

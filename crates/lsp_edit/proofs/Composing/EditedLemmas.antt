@@ -1,5 +1,5 @@
 -- The fields of pieces: what they are at first, and what they tell.
-use Rattle.lsp_edit.proofs.Prelude.{ℕ, ◌≡◌, ◌-◌, ◌≤◌, List, length, sym, ap, ap₂, ◌∙◌, subst, arith, append-nil, take_all, encode_utf8_all, ⊎_elim, chars, IsUtf8, nil_from_length, encodes-chars, is_utf8-from_IsUtf8, IsUtf8-from_is_utf8, chars-nil, chars_from_encodes, IsCharBoundary-start, IsCharBoundary-end, place_of, place_end, plain, text_of, Part, index_of, items_of, bytes_of, AreParts, NoneTouch, Keeps, ArePieces, PlainData, edited_text, edited_bytes, common_steps, cases_lt, le-ltb, lt-ltb, old_parts, ◌<◌, []}
+use Rattle.lsp_edit.proofs.Prelude.{ℕ, ◌≡◌, ◌-◌, ◌≤◌, List, length, sym, ap, ap₂, ◌∙◌, subst, arith, append-nil, take_all, encode_utf8_all, ⊎_elim, chars, IsUtf8, nil_from_length, encodes-chars, is_utf8-from_IsUtf8, IsUtf8-from_is_utf8, chars-nil, chars_from_encodes, IsCharBoundary-start, IsCharBoundary-end, place_end, plain, text_of, Part, index_of, items_of, bytes_of, AreParts, NoneTouch, Keeps, ArePieces, PlainData, edited_text, edited_bytes, common_steps, cases_lt, le-ltb, lt-ltb, old_parts, ◌<◌, []}
 use Rattle.lsp_edit.proofs.Canonical.KeepsLemmas.{plain_keeps}
 use Rattle.lsp_edit.proofs.Canonical.RebuiltLemmas.{text_row}
 use Rattle.lsp_edit.proofs.Parts.IndexLemmas.{index_of-place, index_first}
@@ -8,8 +8,7 @@ use Rattle.lsp_edit.proofs.Composing.AppliedLemmas.{seen}
 
 pub index_last : (bytes : List ℕ) → IsUtf8 bytes → index_of (chars bytes) (length bytes) ≡ length (chars bytes)
 index_last bytes utf8 =
-    let e : place_of (chars bytes) (length (chars bytes)) ≡ length bytes =
-    place_end (chars bytes) ∙ ap length (encodes-chars bytes utf8) in
+    let e = place_end (chars bytes) ∙ ap length (encodes-chars bytes utf8) in
     ap (index_of (chars bytes)) (sym e) ∙ index_of-place (chars bytes) (length (chars bytes)) (omega arith)
 
 pub plain_text : (text : List ℕ) → text_of text (plain text) ≡ text
@@ -59,7 +58,8 @@ pub now_bytes : (before : List ℕ) (parts : List Part) (len changes : ℕ) → 
 now_bytes before parts len changes are = sym (parts_bytes before (IsUtf8-from_is_utf8 before are.utf8) parts are.are)
 
 pub bytes_seen : {before : List ℕ} {parts : List Part} {len changes : ℕ} {edited : PlainData}
-    → ArePieces before parts len changes → seen before parts changes ≡ edited → edited_bytes edited ≡ bytes_of before parts
+    → ArePieces before parts len changes → seen before parts changes ≡ edited → edited_bytes edited
+    ≡ bytes_of before parts
 bytes_seen {before} {parts} {len} {changes} are view =
     sym (ap edited_bytes view) ∙ now_bytes before parts len changes are
 

@@ -31,8 +31,7 @@ module _ (units : ℕ → ℕ) (text : List ℕ) (range : Range) (number start s
   places_reversed less =
       let high : IsWhole text b.index = denoted_whole units text range.stop b.index b.is in
       let low : IsWhole text a.index = denoted_whole units text range.start a.index a.is in
-      let falls : b.index < a.index
-      = ⊎_elim
+      let falls = ⊎_elim
       (λ (l : b.index < a.index). l)
       (λ (l : a.index ≤ b.index). absurd (omega (arith, a.at, b.at, place_rises text a.index b.index l high.within)))
       (cases_lt b.index a.index) in

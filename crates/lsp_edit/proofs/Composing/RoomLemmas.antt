@@ -49,18 +49,13 @@ module _ (units : ℕ → ℕ) (before : List ℕ) (meant : Result (List Item) (
   pub applying_on : (next : PlainData) → done < 18446744073709551615 → Applied units edited (content_change change) next
       → Applying units before meant (done + 1) more next
   applying_on next small applied =
-      let made : items_after units before edited.items (content_change change) ≡ Ok next.items =
-      ap (λ (b : List ℕ). items_after units b edited.items (content_change change)) (sym applying.same)
+      let made = ap (λ (b : List ℕ). items_after units b edited.items (content_change change)) (sym applying.same)
       ∙ applied.changed in
       let l : after_changes units before (suc edited.changes) next.items (map content_change more) ≡ meant =
       rw made at left_here in
       let n : next.changes ≡ suc edited.changes = applied.counted ∙ omega (arith, applying.counted) in
-      let longer : length (encode_utf8_all (text_of edited.before next.items))
-      ≤ length (encode_utf8_all (text_of edited.before edited.items))
-      + length (encode_utf8_all (chars (string_bytes change.text)))
-      = change_longer units edited.before edited.items next.items (content_change change) applied.changed in
-      let own : length (encode_utf8_all (chars (string_bytes change.text))) ≡ string_len change.text =
-      ap length (encodes-chars (string_bytes change.text) (IsUtf8-string_bytes change.text))
+      let longer = change_longer units edited.before edited.items next.items (content_change change) applied.changed in
+      let own = ap length (encodes-chars (string_bytes change.text) (IsUtf8-string_bytes change.text))
       ∙ sym change.text.bytes.ok.0 in
       record {
         left = ap (λ (m : ℕ). after_changes units before m next.items (map content_change more)) n ∙ l;

@@ -1,5 +1,5 @@
 -- Layers that are joined, and how they are folded into one row.
-use Rattle.lsp_edit.proofs.Prelude.{Result, Fault, IsOn, meant_by, ℕ, ◌≡◌, List, [], ◌∷◌, ◌++◌, length, map, sym, ap, ◌∙◌, subst, arith, nat_lt, encode_utf8_all, Ok, chars, IsUtf8, cases_Bool, map-append, chars_from_encodes, Layer, Item, plain, text_of, ContentChange, meaning, then_items, AllOver, layer_parts, IsOver, items_over, IsLayer, bytes_left, text_within, IsJoined, IsReached, JoinedData, joined_text, Keeps, Part, items_of, through_parts, common_steps, AreKept, joined, old_parts}
+use Rattle.lsp_edit.proofs.Prelude.{Result, Fault, IsOn, meant_by, ℕ, ◌≡◌, List, [], ◌∷◌, ◌++◌, length, map, sym, ap, ◌∙◌, subst, arith, nat_lt, Ok, chars, IsUtf8, cases_Bool, map-append, chars_from_encodes, Layer, Item, plain, text_of, ContentChange, meaning, then_items, AllOver, layer_parts, IsOver, items_over, IsLayer, bytes_left, text_within, IsJoined, IsReached, JoinedData, joined_text, Keeps, Part, items_of, through_parts, common_steps, AreKept, joined, old_parts}
 use Rattle.lsp_edit.specs.declared.delta.Delta.{Delta}
 use Rattle.lsp_edit.proofs.Batches.ComposeLemmas.{text_of-then}
 use Rattle.lsp_edit.proofs.Parts.CutPartsLemmas.{parts_bytes, parts_utf8}
@@ -38,8 +38,7 @@ left_reached : (old new : JoinedData) (meant : Result (List Item) (ℕ × Fault)
     → text_within max_len reached meant ≡ Ok left → IsReached new left
 left_reached old new meant reached left max_len parts at is new_is within =
     let text : List ℕ = text_of (chars reached) (items_of (chars reached) parts) in
-    let bytes : encode_utf8_all text ≡ left =
-    within_is max_len reached (items_of (chars reached) parts) left (rw is.means at within) in
+    let bytes = within_is max_len reached (items_of (chars reached) parts) left (rw is.means at within) in
     let utf8 : IsUtf8 left =
     subst IsUtf8 (parts_bytes reached is.utf8 parts is.are ∙ bytes) (parts_utf8 reached is.utf8 parts is.are) in
     record {
@@ -154,9 +153,7 @@ module _ (before : List ℕ) (parts row : List Part) (rows : List (List Part)) (
 
   pub folded_next : (made : List Part) → made ≡ through_parts parts row → IsFolded before made rows items
   folded_next made is =
-      let e : items_of (chars before) (through_parts parts row) ≡ then_items (items_of (chars before) parts)
-      (items_of (text_of (chars before) (items_of (chars before) parts)) row) =
-      folded_both.items ∙ ap (λ (t : List ℕ). then_items (items_of (chars before) parts) (items_of t row))
+      let e = folded_both.items ∙ ap (λ (t : List ℕ). then_items (items_of (chars before) parts) (items_of t row))
       row_over.text_is in
       rw is (record {
         kept = folded_both.kept;

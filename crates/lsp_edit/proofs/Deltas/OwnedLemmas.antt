@@ -11,8 +11,7 @@ use Rattle.lsp_edit.proofs.Parts.ThroughLemmas.{AreComposed, composed}
 pub are_split : (old : List ℕ) (parts more : List Part) → AreParts old (parts ++ more) → AreParts old parts
     × AreParts old more
 are_split old [] more are = (tt, are)
-are_split old (part ∷ parts) more are = let ih : AreParts old parts × AreParts old more =
-    are_split old parts more are.1 in ((are.0, ih.0), ih.1)
+are_split old (part ∷ parts) more are = let ih = are_split old parts more are.1 in ((are.0, ih.0), ih.1)
 
 pub items_both : (old : List ℕ) (parts more : List Part) → items_of (chars old) (parts ++ more)
     ≡ items_of (chars old) parts ++ items_of (chars old) more
@@ -36,21 +35,14 @@ pub same_new : (whole done : List Part) (text bytes : List ℕ) (rest : List Par
     → AreSameItems (done ++ (new_parts text ++ (NewPart bytes ∷ rest))) whole
     → AreSameItems (done ++ (new_parts (text ++ bytes) ++ rest)) whole
 same_new whole done text bytes rest utf8 same old are =
-    let before : AreParts old (done ++ (new_parts text ++ (NewPart bytes ∷ rest)))
-    × (items_of (chars old) (done ++ (new_parts text ++ (NewPart bytes ∷ rest))) ≡ items_of (chars old) whole) =
-    same old are in
-    let outer : AreParts old done × AreParts old (new_parts text ++ (NewPart bytes ∷ rest)) =
-    are_split old done (new_parts text ++ (NewPart bytes ∷ rest)) before.0 in
-    let inner : AreParts old (new_parts text) × AreParts old (NewPart bytes ∷ rest) =
-    are_split old (new_parts text) (NewPart bytes ∷ rest) outer.1 in
+    let before = same old are in
+    let outer = are_split old done (new_parts text ++ (NewPart bytes ∷ rest)) before.0 in
+    let inner = are_split old (new_parts text) (NewPart bytes ∷ rest) outer.1 in
     let bytes_utf8 : IsUtf8 bytes = IsUtf8-from_is_utf8 bytes inner.1.0.1 in
-    let one : (items_of (chars old) (new_parts text) ≡ map New (chars text)) × AreParts old (new_parts text) =
-    new_items old text (is_utf8-from_IsUtf8 text utf8) in
-    let both : (items_of (chars old) (new_parts (text ++ bytes)) ≡ map New (chars (text ++ bytes)))
-    × AreParts old (new_parts (text ++ bytes))
-    = new_items old (text ++ bytes) (is_utf8-from_IsUtf8 (text ++ bytes) (IsUtf8-append text bytes utf8 bytes_utf8)) in
-    let letters : map New (chars (text ++ bytes)) ≡ map New (chars text) ++ map New (chars bytes) =
-    ap (map New) (chars-append text bytes utf8) ∙ map-append New (chars text) (chars bytes) in
+    let one = new_items old text (is_utf8-from_IsUtf8 text utf8) in
+    let both =
+    new_items old (text ++ bytes) (is_utf8-from_IsUtf8 (text ++ bytes) (IsUtf8-append text bytes utf8 bytes_utf8)) in
+    let letters = ap (map New) (chars-append text bytes utf8) ∙ map-append New (chars text) (chars bytes) in
     let ends : items_of (chars old) (new_parts (text ++ bytes) ++ rest)
     ≡ items_of (chars old) (new_parts text ++ (NewPart bytes ∷ rest))
     = grind (arith, common_steps, items_both, append_assoc) in (

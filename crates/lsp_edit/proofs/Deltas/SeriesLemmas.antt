@@ -1,5 +1,5 @@
 -- A batch that is joined series by series.
-use Rattle.lsp_edit.proofs.Prelude.{ℕ, ◌≡◌, ◌≤◌, List, ◌++◌, length, sym, ap, ◌∙◌, append_assoc, Ok, chars, text_of, ContentChange, meaning, text_within, IsJoined, IsReached, JoinedData, joined_text, joined}
+use Rattle.lsp_edit.proofs.Prelude.{ℕ, ◌≡◌, ◌≤◌, List, ◌++◌, length, sym, ap, ◌∙◌, append_assoc, Ok, chars, text_of, ContentChange, meaning, text_within, IsJoined, IsReached, JoinedData, joined}
 use Rattle.lsp_edit.proofs.Batches.ComposeLemmas.{then_means}
 use Rattle.lsp_edit.proofs.Deltas.DeltaLemmas.{within_fits}
 
@@ -20,8 +20,7 @@ module _ (units : ℕ → ℕ) (before : List ℕ) (batch : List ContentChange) 
       → IsReached new left → text_within 1073741824 reached (meaning units (chars reached) series) ≡ Ok left
       → IsSeries units before batch new left more
   series_next joined new reached left series rest more is parts next at within =
-      let text : text_of (chars before) joined.items ≡ joined_text joined =
-      ap (λ (b : List ℕ). text_of (chars b) joined.items) (sym is.same) in
+      let text = ap (λ (b : List ℕ). text_of (chars b) joined.items) (sym is.same) in
       record {
         done = is.done ++ series;
         all = append_assoc is.done series more ∙ (ap (λ (r : List ContentChange). is.done ++ r) (sym parts) ∙ is.all);

@@ -20,8 +20,7 @@ pub chars_front : (bytes : List ℕ) (k : ℕ) → IsUtf8 bytes → k ≤ length
     → chars (take (place_of (chars bytes) k) bytes) ≡ take k (chars bytes)
 chars_front bytes k utf8 within =
     let e : encode_utf8_all (chars bytes) ≡ bytes = encodes-chars bytes utf8 in
-    let t : take (place_of (chars bytes) k) bytes ≡ encode_utf8_all (take k (chars bytes)) =
-    ap (take (place_of (chars bytes) k)) (sym e) ∙ take_place (chars bytes) k in
+    let t = ap (take (place_of (chars bytes) k)) (sym e) ∙ take_place (chars bytes) k in
     sym (chars_from_encodes (take k (chars bytes)) (take (place_of (chars bytes) k) bytes)
     (IsUtf8-take bytes (place_of (chars bytes) k) utf8 (place_boundary bytes k utf8 within)) (sym t))
 
@@ -29,8 +28,7 @@ chars_back : (bytes : List ℕ) (k : ℕ) → IsUtf8 bytes → k ≤ length (cha
     → chars (drop (place_of (chars bytes) k) bytes) ≡ drop k (chars bytes)
 chars_back bytes k utf8 within =
     let e : encode_utf8_all (chars bytes) ≡ bytes = encodes-chars bytes utf8 in
-    let t : drop (place_of (chars bytes) k) bytes ≡ encode_utf8_all (drop k (chars bytes)) =
-    ap (drop (place_of (chars bytes) k)) (sym e) ∙ drop_place (chars bytes) k in
+    let t = ap (drop (place_of (chars bytes) k)) (sym e) ∙ drop_place (chars bytes) k in
     sym (chars_from_encodes (drop k (chars bytes)) (drop (place_of (chars bytes) k) bytes)
     (IsUtf8-drop bytes (place_of (chars bytes) k) utf8 (place_boundary bytes k utf8 within)) (sym t))
 
@@ -78,8 +76,7 @@ module _ (old : List ℕ) (utf8 : IsUtf8 old) where
       ≡ length (encode_utf8_all (text_of (chars old) (items_in (chars old) part)))
   part_length (NewPart bytes) is = ap length (part_bytes (NewPart bytes) is)
   part_length (OldPart from to) is =
-      let b : length (bytes_in old (OldPart from to)) ≡ to - from =
-      length-take-le (to - from) (drop from old) (simp length-drop (omega (arith, is.0, is.2.0))) in
+      let b = length-take-le (to - from) (drop from old) (simp length-drop (omega (arith, is.0, is.2.0))) in
       sym b ∙ ap length (part_bytes (OldPart from to) is)
 
   -- Where a part of the old text is cut at the place of one of its indexes.
@@ -95,8 +92,7 @@ module _ (old : List ℕ) (utf8 : IsUtf8 old) where
       let low : ℕ = index_of (chars old) from in
       let in_row : k ≤ count from to =
       omega (arith, length-map (numbers_from low (count from to)) Old, length-numbers low (count from to)) in
-      let t : place_of (text_of (chars old) (items_in (chars old) (OldPart from to))) k
-      ≡ place_of (take (count from to) (drop low (chars old))) k = ap (λ (cs : List ℕ). place_of cs k) row.text_is in
+      let t = ap (λ (cs : List ℕ). place_of cs k) row.text_is in
       let u : place_of (take (count from to) (drop low (chars old))) k ≡ place_of (drop low (chars old)) k =
       ap (λ (cs : List ℕ). length (encode_utf8_all cs)) (take-take k (count from to) (drop low (chars old)) in_row) in
       let q : from + place_of (text_of (chars old) (items_in (chars old) (OldPart from to))) k
@@ -108,8 +104,7 @@ module _ (old : List ℕ) (utf8 : IsUtf8 old) where
       }
 
   pub place_above : (text : List ℕ) (k : ℕ) → 0 < k → k ≤ length text → 0 < place_of text k
-  place_above text k some within = let r : place_of text 0 + (k - 0) ≤ place_of text k =
-      place_rises text 0 k (omega arith) within in omega arith
+  place_above text k some within = let r = place_rises text 0 k (omega arith) within in omega arith
 
   pub place_below : (text : List ℕ) (k : ℕ) → k < length text → place_of text k < length (encode_utf8_all text)
   place_below text k within = omega (
@@ -141,12 +136,10 @@ module _ (old : List ℕ) (utf8 : IsUtf8 old) where
         back = rw (chars_back bytes k u (omega arith)) (sym (drop-map New k (chars bytes)));
         front_is = λ some.
             let above : 0 < place_of (chars bytes) k = place_above (chars bytes) k some (omega arith) in
-            let long : length (take (place_of (chars bytes) k) bytes) ≡ place_of (chars bytes) k =
-            length-take-le (place_of (chars bytes) k) bytes b.0 in
+            let long = length-take-le (place_of (chars bytes) k) bytes b.0 in
             (omega arith, is_utf8-from_IsUtf8 (take place bytes) (IsUtf8-take bytes place u b));
         back_is = λ less.
-            let below : place_of (chars bytes) k < length (encode_utf8_all (chars bytes)) =
-            place_below (chars bytes) k (omega arith) in
+            let below = place_below (chars bytes) k (omega arith) in
             let same : length (encode_utf8_all (chars bytes)) ≡ length bytes = ap length (encodes-chars bytes u) in
             (simp length-drop (omega arith), is_utf8-from_IsUtf8 (drop place bytes) (IsUtf8-drop bytes place u b));
         cut = b;
@@ -156,8 +149,7 @@ module _ (old : List ℕ) (utf8 : IsUtf8 old) where
       let c : IsRowCut from to k = row_cut from to k r within in
       let low : ℕ = index_of (chars old) from in
       let text : List ℕ = text_of (chars old) (items_in (chars old) (OldPart from to)) in
-      let long : length text ≡ length (items_in (chars old) (OldPart from to)) =
-      text_long (items_in (chars old) (OldPart from to)) in
+      let long = text_long (items_in (chars old) (OldPart from to)) in
       let at : IsCharBoundary old (from + place_of text k) =
       rw c.place_is (place_boundary old (low + k) utf8 (omega (arith, r.within, c.inside))) in
       let n : (low + k) - low ≡ k = omega arith in
@@ -174,8 +166,8 @@ module _ (old : List ℕ) (utf8 : IsUtf8 old) where
             ∙ ap (map Old) (rw m at (drop_numbers low k (count from to - k)))));
         front_is = λ some. let above : 0 < place_of text k = place_above text k some (omega (arith, long)) in
             (omega arith, is.1, at);
-        back_is = λ less. let below : place_of text k < length (encode_utf8_all text) =
-            place_below text k (omega (arith, long)) in (omega (arith, part_length (OldPart from to) is), at, is.2);
+        back_is = λ less. let below = place_below text k (omega (arith, long)) in
+            (omega (arith, part_length (OldPart from to) is), at, is.2);
         cut = let p : place_of text k ≤ length (encode_utf8_all text) = place_within text k (omega (arith, long)) in
             (omega (arith, is.0), omega (arith, part_length (OldPart from to) is));
       }

@@ -1,6 +1,6 @@
 -- Parts in a row, cut at the place of an index.
-use Rattle.lsp_edit.proofs.Prelude.{ℕ, zero, suc, ◌≡◌, ◌+◌, ◌-◌, ◌<◌, ◌≤◌, List, [], ◌∷◌, ◌++◌, length, take, drop, refl, sym, ap, ap₂, ◌∙◌, subst, arith, append-nil, take_at, drop_at, lt-ltb, le-ltb, ne_eqb, encode_utf8_all, ⊎_elim, chars, IsUtf8, cases_lt, map-append, length-append, take-append-le, drop-append-le, encodes-append, place_of, place_add, Item, text_of, Part, items_in, items_of, bytes_of, part_len, IsPartOf, AreParts, front_part, back_part, front_parts, back_parts, AreCut, common_steps, IsUtf8-between, IsUtf8-from_is_utf8, IsUtf8-nil, NewPart, OldPart, bytes_in, IsUtf8-append}
-use Rattle.lsp_edit.proofs.Parts.CutLemmas.{IsPartCut, part_bytes, part_length, place_above, place_below, text_long, part_cut, part_ordered}
+use Rattle.lsp_edit.proofs.Prelude.{ℕ, zero, suc, ◌≡◌, ◌+◌, ◌-◌, ◌<◌, ◌≤◌, List, [], ◌∷◌, ◌++◌, length, take, drop, refl, sym, ap, ap₂, ◌∙◌, arith, append-nil, take_at, drop_at, lt-ltb, le-ltb, ne_eqb, encode_utf8_all, ⊎_elim, chars, IsUtf8, cases_lt, map-append, length-append, take-append-le, drop-append-le, encodes-append, place_of, place_add, Item, text_of, Part, items_in, items_of, bytes_of, part_len, IsPartOf, AreParts, front_part, back_part, front_parts, back_parts, AreCut, common_steps, IsUtf8-between, IsUtf8-from_is_utf8, IsUtf8-nil, NewPart, OldPart, bytes_in, IsUtf8-append}
+use Rattle.lsp_edit.proofs.Parts.CutLemmas.{part_bytes, part_length, place_above, place_below, text_long, part_cut, part_ordered}
 use Rattle.std.proofs.Math.Seq.{take-append-add, drop-append-add}
 
 part_utf8 : (old : List ℕ) → IsUtf8 old → (part : Part) → IsPartOf old part → IsUtf8 (bytes_in old part)
@@ -42,67 +42,44 @@ module _ (old : List ℕ) (utf8 : IsUtf8 old) where
     pub back_are : AreParts old (back_parts parts place)
     pub cut : AreCut parts place
 
-  cut_of : (whole front back : List Part) (k place : ℕ) → front_parts whole place ≡ front → back_parts whole place
-      ≡ back → items_of (chars old) front ≡ take k (items_of (chars old) whole) → items_of (chars old) back
-      ≡ drop k (items_of (chars old) whole) → AreParts old front → AreParts old back → AreCut whole place
-      → AreCutAt whole k place
-  cut_of whole front back k place front_is_it back_is_it front_has back_has front_are back_are cut = record {
-    front = ap (items_of (chars old)) front_is_it ∙ front_has;
-    back = ap (items_of (chars old)) back_is_it ∙ back_has;
-    front_are = subst (AreParts old) (sym front_is_it) front_are;
-    back_are = subst (AreParts old) (sym back_is_it) back_are;
-    cut = cut;
-  }
-
   module _ (part : Part) (parts : List Part) (is : IsPartOf old part) (are : AreParts old parts) (place : ℕ) where
     cut_inside : (k : ℕ) → 0 < k → k < length (items_in (chars old) part)
         → place ≡ place_of (text_of (chars old) (items_in (chars old) part)) k → AreCutAt (part ∷ parts) k place
     cut_inside k some inside e =
-        let above : 0 < place_of (text_of (chars old) (items_in (chars old) part)) k =
-        place_above old utf8 (text_of (chars old) (items_in (chars old) part)) k some
+        let above = place_above old utf8 (text_of (chars old) (items_in (chars old) part)) k some
         (omega (arith, text_long old utf8 (items_in (chars old) part))) in
-        let below : place_of (text_of (chars old) (items_in (chars old) part)) k
-        < length (encode_utf8_all (text_of (chars old) (items_in (chars old) part))) =
-        place_below old utf8 (text_of (chars old) (items_in (chars old) part)) k
+        let below = place_below old utf8 (text_of (chars old) (items_in (chars old) part)) k
         (omega (arith, text_long old utf8 (items_in (chars old) part))) in
         let less : place < part_len part = omega (arith, part_length old utf8 part is) in
         let not_first : place ≡ 0 → ⊥ = λ z. omega arith in
-        let c : IsPartCut old utf8 part k (place_of (text_of (chars old) (items_in (chars old) part)) k) =
-        part_cut old utf8 part k is (omega arith) in
-        let front_has : items_in (chars old) (front_part part place) ≡ take k (items_in (chars old) part) =
-        ap (λ (p : ℕ). items_in (chars old) (front_part part p)) e ∙ c.front in
-        let back_has : items_in (chars old) (back_part part place) ≡ drop k (items_in (chars old) part) =
-        ap (λ (p : ℕ). items_in (chars old) (back_part part p)) e ∙ c.back in
-        cut_of (part ∷ parts) (front_part part place ∷ []) (back_part part place ∷ parts) k place
-        (rw (ne_eqb place 0 not_first, lt-ltb place (part_len part) less) refl)
-        (rw (lt-ltb place (part_len part) less) refl)
-        (append-nil (items_in (chars old) (front_part part place))
-        ∙ (front_has ∙ sym (take-append-le k (items_in (chars old) part) (items_of (chars old) parts) (omega arith))))
-        (ap (λ (i : List Item). i ++ items_of (chars old) parts) back_has
-        ∙ sym (drop-append-le k (items_in (chars old) part) (items_of (chars old) parts) (omega arith)))
-        (rw e (c.front_is some), tt)
-        (rw e (c.back_is inside), are) (
-          part_ordered old utf8 part is,
-          λ l. rw e c.cut,
-          λ l. absurd (omega arith),
-        )
+        let c = part_cut old utf8 part k is (omega arith) in
+        let front_has = ap (λ (p : ℕ). items_in (chars old) (front_part part p)) e ∙ c.front in
+        let back_has = ap (λ (p : ℕ). items_in (chars old) (back_part part p)) e ∙ c.back in
+        let late = ne_eqb place 0 not_first in
+        let within = lt-ltb place (part_len part) less in
+        record {
+          front = rw (late, within) (append-nil (items_in (chars old) (front_part part place)) ∙ (front_has
+              ∙ sym (take-append-le k (items_in (chars old) part) (items_of (chars old) parts) (omega arith))));
+          back = rw within (ap (λ (i : List Item). i ++ items_of (chars old) parts) back_has
+              ∙ sym (drop-append-le k (items_in (chars old) part) (items_of (chars old) parts) (omega arith)));
+          front_are = rw (late, within) (rw e (c.front_is some), tt);
+          back_are = rw within (rw e (c.back_is inside), are);
+          cut = (part_ordered old utf8 part is, λ l. rw e c.cut, λ l. absurd (omega arith));
+        }
 
     cut_at_start : place ≡ 0 → AreCutAt (part ∷ parts) 0 place
     cut_at_start e =
         let some : 0 < part_len part = part_some part is in
-        let c : IsPartCut old utf8 part 0 (place_of (text_of (chars old) (items_in (chars old) part)) 0) =
-        part_cut old utf8 part 0 is (omega arith) in
-        let long : length (encode_utf8_all (text_of (chars old) (items_in (chars old) part))) ≡ part_len part =
-        sym (part_length old utf8 part is) in
-        rw e
-        (cut_of (part ∷ parts) [] (back_part part 0 ∷ parts) 0 0
-        refl
-        (rw (lt-ltb 0 (part_len part) some) refl)
-        refl
-        (ap (λ (i : List Item). i ++ items_of (chars old) parts) c.back)
-        tt
-        (c.back_is (items_some (items_in (chars old) part) (omega arith)), are)
-        (part_ordered old utf8 part is, λ l. c.cut, λ l. absurd (omega arith)))
+        let c = part_cut old utf8 part 0 is (omega arith) in
+        let long = sym (part_length old utf8 part is) in
+        let within = lt-ltb 0 (part_len part) some in
+        rw e (record {
+          front = refl;
+          back = rw within (ap (λ (i : List Item). i ++ items_of (chars old) parts) c.back);
+          front_are = tt;
+          back_are = rw within (c.back_is (items_some (items_in (chars old) part) (omega arith)), are);
+          cut = (part_ordered old utf8 part is, λ l. c.cut, λ l. absurd (omega arith));
+        })
       where
         items_some : (items : List Item) → 0 < length (encode_utf8_all (text_of (chars old) items)) → 0 < length items
         items_some [] h = absurd (omega arith)
@@ -117,16 +94,17 @@ module _ (old : List ℕ) (utf8 : IsUtf8 old) where
         let not_first : place ≡ 0 → ⊥ = λ z. omega arith in
         let left : place - part_len part ≡ place_of (text_of (chars old) (items_of (chars old) parts)) k =
         omega arith in
-        cut_of (part ∷ parts) (part ∷ front_parts parts (place_of (text_of (chars old) (items_of (chars old) parts)) k))
-        (back_parts parts (place_of (text_of (chars old) (items_of (chars old) parts)) k)) rest place
-        (rw (ne_eqb place 0 not_first, le-ltb place (part_len part) (omega arith), left) refl)
-        (rw (le-ltb place (part_len part) (omega arith), left) refl)
-        (rw at (ap (λ (i : List Item). items_in (chars old) part ++ i) cuts.front
-        ∙ sym (take-append-add (items_in (chars old) part) (items_of (chars old) parts) k)))
-        (rw at (cuts.back ∙ sym (drop-append-add (items_in (chars old) part) (items_of (chars old) parts) k)))
-        (is, cuts.front_are)
-        cuts.back_are
-        (part_ordered old utf8 part is, λ l. absurd (omega arith), λ l. rw left cuts.cut)
+        let late = ne_eqb place 0 not_first in
+        let past = le-ltb place (part_len part) (omega arith) in
+        record {
+          front = rw (late, past, left, at) (ap (λ (i : List Item). items_in (chars old) part ++ i) cuts.front
+              ∙ sym (take-append-add (items_in (chars old) part) (items_of (chars old) parts) k));
+          back = rw (past, left, at) (cuts.back
+              ∙ sym (drop-append-add (items_in (chars old) part) (items_of (chars old) parts) k));
+          front_are = rw (late, past, left) (is, cuts.front_are);
+          back_are = rw (past, left) cuts.back_are;
+          cut = (part_ordered old utf8 part is, λ l. absurd (omega arith), λ l. rw left cuts.cut);
+        }
 
   front_place : (items rest : List Item) (k : ℕ) → k ≤ length items → place_of (text_of (chars old) (items ++ rest)) k
       ≡ place_of (text_of (chars old) items) k
@@ -152,8 +130,7 @@ module _ (old : List ℕ) (utf8 : IsUtf8 old) where
       (λ (rest_after : length (items_in (chars old) part) ≤ suc k).
       let here : suc k ≡ length (items_in (chars old) part) + (suc k - length (items_in (chars old) part)) =
       omega arith in
-      let long : length (items_in (chars old) part ++ items_of (chars old) parts) ≡ length (items_in (chars old) part)
-      + length (items_of (chars old) parts) = length-append (items_in (chars old) part) (items_of (chars old) parts) in
+      let long = length-append (items_in (chars old) part) (items_of (chars old) parts) in
       let p : place_of (text_of (chars old) (items_of (chars old) (part ∷ parts))) (suc k) ≡ part_len part
       + place_of (text_of (chars old) (items_of (chars old) parts)) (suc k - length (items_in (chars old) part))
       = ap (place_of (text_of (chars old) (items_of (chars old) (part ∷ parts)))) here

@@ -24,8 +24,7 @@ pub index_place : (bytes : List ℕ) → IsUtf8 bytes → (place : ℕ) → IsCh
     × (index_of (chars bytes) place ≤ length (chars bytes))
 index_place bytes utf8 place at =
     let a : IsIndexAt bytes place = index_at bytes place utf8 at in
-    let e : index_of (chars bytes) place ≡ a.index =
-    ap (index_of (chars bytes)) (sym a.place_is) ∙ index_of-place (chars bytes) a.index a.within in
+    let e = ap (index_of (chars bytes)) (sym a.place_is) ∙ index_of-place (chars bytes) a.index a.within in
     (ap (place_of (chars bytes)) e ∙ a.place_is, omega (arith, e, a.within))
 
 -- A later place has no lower index.

@@ -16,13 +16,10 @@ passing_at spans low zero within fits ordered = passing_begins (parts_of spans) 
 passing_at spans low (suc index) within fits ordered =
     let n : index + 1 ≡ suc index = omega arith in
     let less : index < length spans = omega (arith, within) in
-    let more : sum_by span_len (take (index + 1) spans) ≡ sum_by span_len (take index spans)
-    + span_len (get_or spans index (OldSpan 0 0)) = before_more spans index (OldSpan 0 0) less in
+    let more = before_more spans index (OldSpan 0 0) less in
     let all : sum_by span_len (take (index + 1) spans) ≤ low =
     subst (λ (k : ℕ). sum_by span_len (take k spans) ≤ low) (sym n) fits in
-    let ih : Passing (parts_of spans) (parts_of (take index spans)) (parts_of (drop index spans))
-    (sum_by span_len (take index spans)) low =
-    passing_at spans low index (omega (arith, less)) (omega (arith, more, all)) ordered in
+    let ih = passing_at spans low index (omega (arith, less)) (omega (arith, more, all)) ordered in
     subst (λ (k : ℕ). Passing (parts_of spans) (parts_of (take k spans)) (parts_of (drop k spans))
     (sum_by span_len (take k spans)) low) n
     (subst (λ (p : ℕ). Passing (parts_of spans) (parts_of (take (index + 1) spans)) (parts_of (drop (index + 1) spans))

@@ -1,5 +1,5 @@
 -- Parts: putting one behind others, and cutting at a place.
-use Rattle.lsp_edit.proofs.Prelude.{ℕ, ◌≡◌, List, [], ◌∷◌, ◌++◌, refl, sym, ap, ◌∙◌, append_assoc, append-nil, map-append, Span, Part, part_of, parts_of, joined, put_part, front_parts, AreCut}
+use Rattle.lsp_edit.proofs.Prelude.{ℕ, ◌≡◌, List, [], ◌∷◌, ◌++◌, refl, sym, ap, ◌∙◌, append_assoc, append-nil, map-append, Span, Part, part_of, parts_of, joined, put_part, front_parts, AreCut, arith, common_steps}
 
 put_behind : (parts : List Part) (last part : Part) → put_part (parts ++ last ∷ []) part ≡ parts ++ joined last part
 put_behind [] last part = refl
@@ -10,19 +10,12 @@ put_behind (first ∷ second ∷ parts) last part =
 -- What a span does that is put behind others: one that it touches is joined, any other stays.
 pub put_joined : (spans : List Span) (last span one : Span) → joined (part_of last) (part_of span) ≡ part_of one ∷ []
     → parts_of (spans ++ one ∷ []) ≡ put_part (parts_of (spans ++ last ∷ [])) (part_of span)
-put_joined spans last span one e =
-    map-append part_of spans (one ∷ [])
-    ∙ sym (ap (λ (ps : List Part). put_part ps (part_of span)) (map-append part_of spans (last ∷ []))
-    ∙ (put_behind (parts_of spans) (part_of last) (part_of span) ∙ ap (λ (ps : List Part). parts_of spans ++ ps) e))
+put_joined spans last span one e = grind (arith, common_steps, map-append, put_behind)
 
 pub put_apart : (spans : List Span) (last span : Span) → joined (part_of last) (part_of span) ≡ part_of last
     ∷ part_of span ∷ [] → parts_of ((spans ++ last ∷ []) ++ span ∷ []) ≡ put_part (parts_of (spans ++ last ∷ []))
     (part_of span)
-put_apart spans last span e =
-    ap parts_of (append_assoc spans (last ∷ []) (span ∷ []))
-    ∙ (map-append part_of spans (last ∷ span ∷ [])
-    ∙ sym (ap (λ (ps : List Part). put_part ps (part_of span)) (map-append part_of spans (last ∷ []))
-    ∙ (put_behind (parts_of spans) (part_of last) (part_of span) ∙ ap (λ (ps : List Part). parts_of spans ++ ps) e)))
+put_apart spans last span e = grind (arith, common_steps, map-append, put_behind, append_assoc)
 
 pub fronts_none : (parts : List Part) → front_parts parts 0 ≡ []
 fronts_none [] = refl

@@ -109,11 +109,8 @@ module _ (first : List Part) where
       + max 1 (length (back_parts first low))
   put_few made [] low ascend are = omega arith
   put_few made (NewPart bytes ∷ second) low ascend are =
-      let ih : length (put_through first (put_parts made (NewPart bytes ∷ [])) second) + 1
-      ≤ (length (put_parts made (NewPart bytes ∷ [])) + length second) + max 1 (length (back_parts first low))
-      = put_few (put_parts made (NewPart bytes ∷ [])) second low ascend are.1 in
-      let one : length (put_parts made (NewPart bytes ∷ [])) ≤ length made + 1 =
-      put_all_few made (NewPart bytes ∷ []) in
+      let ih = put_few (put_parts made (NewPart bytes ∷ [])) second low ascend are.1 in
+      let one = put_all_few made (NewPart bytes ∷ []) in
       omega arith
   put_few made (OldPart from to ∷ second) low ascend are =
       grind (

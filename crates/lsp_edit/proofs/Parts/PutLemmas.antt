@@ -68,15 +68,14 @@ module _ (old : List ℕ) where
       rows : (a b c : ℕ) → a ≤ b → b ≤ c → map Old (numbers_from a (c - a)) ≡ map Old (numbers_from a (b - a))
           ++ map Old (numbers_from b (c - b))
       rows a b c low high =
-          ap (map Old) (numbers_between a b c low high) ∙ map-append Old (numbers_from a (b - a)) (numbers_from b (c - b))
+          ap (map Old) (numbers_between a b c low high)
+          ∙ map-append Old (numbers_from a (b - a)) (numbers_from b (c - b))
 
       touching : to ≡ next → (to == next) ≡ true → (items_of (chars old) (joined (OldPart from to) (OldPart next end))
           ≡ items_in (chars old) (OldPart from to) ++ items_in (chars old) (OldPart next end))
           × AreParts old (joined (OldPart from to) (OldPart next end))
       touching same e =
-          let here : items_in (chars old) (OldPart from end) ≡ items_in (chars old) (OldPart from to)
-          ++ items_in (chars old) (OldPart to end)
-          = rows (index_of (chars old) from) (index_of (chars old) to) (index_of (chars old) end)
+          let here = rows (index_of (chars old) from) (index_of (chars old) to) (index_of (chars old) end)
           (index_rises (chars old) from to (omega (arith, is.0)))
           (index_rises (chars old) to end (omega (arith, was.0))) in
           rw e (grind (arith, common_steps, append-nil), ((omega (arith, is.0, was.0), is.1, was.2), tt))
@@ -101,8 +100,7 @@ module _ (old : List ℕ) where
       × AreParts old (put_parts parts more)
   put_all_items parts [] are were = (sym (append-nil (items_of (chars old) parts)), are)
   put_all_items parts (first ∷ rest) are were =
-      let p : (items_of (chars old) (put_part parts first) ≡ items_of (chars old) parts ++ items_in (chars old) first)
-      × AreParts old (put_part parts first) = put_items parts first are were.0 in (
+      let p = put_items parts first are were.0 in (
         grind (arith, common_steps, flat_map-append, append_assoc),
         are_both (put_part parts first) rest p.1 were.1,
       )
@@ -122,17 +120,12 @@ module _ (old : List ℕ) where
       (place_of (text_of (chars old) (items_of (chars old) parts)) stop) bytes)
   replaced_items old_utf8 parts start stop bytes are utf8 order within =
       let text : List ℕ = text_of (chars old) (items_of (chars old) parts) in
-      let a : AreCutAt old old_utf8 parts start (place_of text start) =
-      cut_parts old old_utf8 parts start are (omega arith) in
+      let a = cut_parts old old_utf8 parts start are (omega arith) in
       let b : AreCutAt old old_utf8 parts stop (place_of text stop) = cut_parts old old_utf8 parts stop are within in
-      let n : (items_of (chars old) (new_parts bytes) ≡ map New (chars bytes)) × AreParts old (new_parts bytes) =
-      new_items bytes utf8 in
+      let n = new_items bytes utf8 in
       let front : List Part = front_parts parts (place_of text start) ++ new_parts bytes in
-      let front_is : items_of (chars old) front ≡ take start (items_of (chars old) parts) ++ map New (chars bytes) =
-      flat_map-append (items_in (chars old)) (front_parts parts (place_of text start)) (new_parts bytes)
+      let front_is = flat_map-append (items_in (chars old)) (front_parts parts (place_of text start)) (new_parts bytes)
       ∙ ap₂ (λ (x y : List Item). x ++ y) a.front n.0 in
-      let all : (items_of (chars old) (put_parts front (back_parts parts (place_of text stop)))
-      ≡ items_of (chars old) front ++ items_of (chars old) (back_parts parts (place_of text stop)))
-      × AreParts old (put_parts front (back_parts parts (place_of text stop)))
-      = put_all_items front (back_parts parts (place_of text stop)) (are_both (front_parts parts (place_of text start))
+      let all =
+      put_all_items front (back_parts parts (place_of text stop)) (are_both (front_parts parts (place_of text start))
       (new_parts bytes) a.front_are n.1) b.back_are in (grind (arith, common_steps, ap₂, append_assoc), all.1)

@@ -43,8 +43,7 @@ replaced_spans old now made first last passed more start stop past text order no
     let later : List Span = drop last rest in
     let tail : parts_of (drop past old) ≡ drop 1 (parts_of later) = ap (λ (n : ℕ). parts_of (drop n old)) past_is
     ∙ (ap parts_of (sym (drop-drop (min (length rest) (last + 1)) first old)) ∙ spans_behind rest last) in
-    let all : parts_of now ≡ parts_of (take first old) ++ (parts_of made ++ parts_of (drop past old))
-    = ap parts_of now_is ∙ (map-append part_of (take first old) (made ++ drop past old)
+    let all = ap parts_of now_is ∙ (map-append part_of (take first old) (made ++ drop past old)
     ∙ ap (λ (ps : List Part). parts_of (take first old) ++ ps) (map-append part_of made (drop past old))) in
     all
     ∙ (grind (arith, common_steps, ap₂, replaced_is, none_after))

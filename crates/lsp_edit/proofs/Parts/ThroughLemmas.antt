@@ -1,5 +1,5 @@
 -- Parts over the text of other parts, told over what those are over.
-use Rattle.lsp_edit.proofs.Prelude.{ℕ, suc, ◌≡◌, ◌+◌, ◌-◌, ◌≤◌, List, [], ◌∷◌, ◌++◌, length, map, take, drop, sym, ap, ap₂, ◌∙◌, subst, arith, append_assoc, append-nil, IsCharBoundary, chars, IsUtf8, cases_lt, map-append, length-drop, drop-map, place_of, numbers_from, place_add, Item, Old, New, character_of, text_of, item_through, then_items, Keeps, Part, OldPart, NewPart, index_of, items_in, items_of, IsPartOf, AreParts, Ascend, back_parts, put_parts, through_part, put_through, through_parts, IsThrough, AreThrough, common_steps, AreKept, IsCharBoundary-start}
+use Rattle.lsp_edit.proofs.Prelude.{ℕ, suc, ◌≡◌, ◌+◌, ◌-◌, ◌≤◌, List, [], ◌∷◌, ◌++◌, length, map, take, sym, ap, ap₂, ◌∙◌, subst, arith, append_assoc, append-nil, IsCharBoundary, chars, IsUtf8, cases_lt, map-append, length-drop, drop-map, place_of, numbers_from, place_add, Item, Old, New, character_of, text_of, item_through, then_items, Keeps, Part, OldPart, NewPart, index_of, items_in, items_of, IsPartOf, AreParts, Ascend, back_parts, put_parts, through_part, put_through, through_parts, IsThrough, AreThrough, common_steps, AreKept, IsCharBoundary-start}
 use Rattle.lsp_edit.proofs.Batches.ComposeLemmas.{told_row, told_new, then_keeps}
 use Rattle.lsp_edit.proofs.Parts.CutLemmas.{text_long}
 use Rattle.lsp_edit.proofs.Parts.CutPartsLemmas.{AreCutAt, cut_parts}
@@ -37,8 +37,7 @@ module _ (old mid : List ℕ) (old_utf8 : IsUtf8 old) (mid_utf8 : IsUtf8 mid) (f
       (cut_parts old old_utf8 first low are (omega (arith, a.1, long))) in
       let rest : List Part = back_parts first from in
       let there : low + count ≡ index_of (chars mid) to = omega arith in
-      let rest_text : text_of (chars old) (items_of (chars old) rest) ≡ drop low text =
-      ap (text_of (chars old)) cut_a.back ∙ sym (drop-map (character_of (chars old)) low items) in
+      let rest_text = ap (text_of (chars old)) cut_a.back ∙ sym (drop-map (character_of (chars old)) low items) in
       let stop : place_of text (low + count) ≡ to = ap₂ (λ (t : List ℕ) (k : ℕ). place_of t k) (sym over) there ∙ b.0 in
       let span : place_of (text_of (chars old) (items_of (chars old) rest)) count ≡ to - from =
       ap (λ (t : List ℕ). place_of t count) rest_text ∙ omega (arith, place_add text low count, stop, start) in
@@ -60,17 +59,9 @@ module _ (old mid : List ℕ) (old_utf8 : IsUtf8 old) (mid_utf8 : IsUtf8 mid) (f
   told_all made (part ∷ second) are_made are_second =
       let items : List Item = items_of (chars old) first in
       let p : IsTold part = told_part part are_second.0 in
-      let q : (items_of (chars old) (put_parts made (through_part first part)) ≡ items_of (chars old) made
-      ++ items_of (chars old) (through_part first part)) × AreParts old (put_parts made (through_part first part))
-      = put_all_items old made (through_part first part) are_made p.parts in
-      let r : (items_of (chars old) (put_through first (put_parts made (through_part first part)) second)
-      ≡ items_of (chars old) (put_parts made (through_part first part)) ++ then_items items
-      (items_of (chars mid) second))
-      × AreParts old (put_through first (put_parts made (through_part first part)) second)
-      = told_all (put_parts made (through_part first part)) second q.1 are_second.1 in
-      let split : then_items items (items_in (chars mid) part ++ items_of (chars mid) second)
-      ≡ then_items items (items_in (chars mid) part) ++ then_items items (items_of (chars mid) second)
-      = map-append (item_through items) (items_in (chars mid) part) (items_of (chars mid) second) in (
+      let q = put_all_items old made (through_part first part) are_made p.parts in
+      let r = told_all (put_parts made (through_part first part)) second q.1 are_second.1 in
+      let split = map-append (item_through items) (items_in (chars mid) part) (items_of (chars mid) second) in (
         grind (arith, common_steps, append_assoc),
         r.1,
       )

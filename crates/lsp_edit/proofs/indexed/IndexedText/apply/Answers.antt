@@ -10,5 +10,10 @@ replace_range-requires c =
       order = r.order;
       at_start = r.at_start;
       at_end = r.at_stop;
-      room = omega (arith, replaced_length c.args.self.now c.in-Put.put.new.now _ _ r.order r.at_stop.0, on.size, on.short);
+      room = omega (
+        arith,
+        replaced_length c.args.self.now c.in-Put.put.new.now _ _ r.order r.at_stop.0,
+        on.size,
+        on.short,
+      );
     })

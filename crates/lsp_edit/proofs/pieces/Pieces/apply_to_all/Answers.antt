@@ -16,4 +16,5 @@ returns-clause-applied c = λ units.
     (all_next units _ _ _ _ c.self.invariant.0 c.args.text.now c.utf8.text
     (room_told _ _ _ _ _ c.args.self.now.edited c.self.invariant.0 (same_edited c.self.view_is) c.requires)
     (omega (arith, new_few c.args.text.now)))
-    c.args.self.now.edited (same_edited c.self.view_is) _ c.in_ok-replace_all.ensures.ok _ c.saturating_add-self-inside.ensures
+    c.args.self.now.edited (same_edited c.self.view_is) _ c.in_ok-replace_all.ensures.ok _
+    c.saturating_add-self-inside.ensures

@@ -11,5 +11,6 @@ invariant_of-self c =
     plain_next (units_in c.args.encoding) _ _ _ c.self.inside.changes c.args.self.now
     (content_change c.args.change.now)
     (string_len c.args.change.now.text) c.self.invariant c.self.view_is made
-    (ap length (encodes-chars text (IsUtf8-string_bytes c.args.change.now.text)) ∙ sym c.args.change.now.text.bytes.ok.0)
+    (ap length (encodes-chars text (IsUtf8-string_bytes c.args.change.now.text))
+    ∙ sym c.args.change.now.text.bytes.ok.0)
     c.requires

@@ -5,9 +5,11 @@ use Rattle.lsp_edit.proofs.plain.Plain.replaced.Goals as goal
 pub returns-in_err-low : goal.returns-in_err-low
 returns-in_err-low c =
     let p = err_from_is_err_and c.from_residual-in_err-low.result c.from_residual-in_err-low.ensures.1 in
-    let start = c.denoted-start.ensures ∙ ap (λ (t : List ℕ). denoted (units_in c.args.encoding) t c.in-Some.range.start)
+    let start = c.denoted-start.ensures
+    ∙ ap (λ (t : List ℕ). denoted (units_in c.args.encoding) t c.in-Some.range.start)
     (c.deref.ensures.value ∙ c.in_ok-now.ensures.text) in
-    let stop = c.denoted-stop.ensures ∙ ap (λ (t : List ℕ). denoted (units_in c.args.encoding) t c.in-Some.range.stop)
+    let stop = c.denoted-stop.ensures
+    ∙ ap (λ (t : List ℕ). denoted (units_in c.args.encoding) t c.in-Some.range.stop)
     (c.deref-2.ensures.value ∙ c.in_ok-now.ensures.text) in
     rw (p.1, p.2, c.in-Some.is, ← ap (λ (e : PlainData). e.changes) c.self.view_is)
     (range_faulted c.self.inside.changes c.args.self.now.items c.args.text.now _
@@ -16,9 +18,11 @@ returns-in_err-low c =
 
 pub put_between-requires : goal.put_between-requires
 put_between-requires c =
-    let start = c.denoted-start.ensures ∙ ap (λ (t : List ℕ). denoted (units_in c.args.encoding) t c.in-Some.range.start)
+    let start = c.denoted-start.ensures
+    ∙ ap (λ (t : List ℕ). denoted (units_in c.args.encoding) t c.in-Some.range.start)
     (c.deref.ensures.value ∙ c.in_ok-now.ensures.text) in
-    let stop = c.denoted-stop.ensures ∙ ap (λ (t : List ℕ). denoted (units_in c.args.encoding) t c.in-Some.range.stop)
+    let stop = c.denoted-stop.ensures
+    ∙ ap (λ (t : List ℕ). denoted (units_in c.args.encoding) t c.in-Some.range.stop)
     (c.deref-2.ensures.value ∙ c.in_ok-now.ensures.text) in
     let bounds = ends_bounded (units_in c.args.encoding) (edited_text c.args.self.now) c.in-Some.range
     c.self.inside.changes c.in_ok-low.low c.in_ok-low.high (rw (start, stop) at c.in_ok-low.ensures) in record {
