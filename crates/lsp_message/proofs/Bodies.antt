@@ -1,5 +1,5 @@
 -- The value of each written message: it is not deep, and its text is read back as it.
-use Rattle.lsp_message.proofs.Prelude.{◌≡◌, ℕ, ◌^◌, ◌<◌, ◌≤◌, suc, List, [], ◌∷◌, map, true, Option, Some, None, FitsSigned, IsUtf8, IfSome, All, codes, refl, sym, ap, ◌∙◌, subst, arith, rules, ℤ, IsUtf8-are_ascii, Data, number, unsigned, string, array, object, no_members, member, depth, items_depth, of_integer, read, max_depth, items_of, Encoding, Utf8, Position, Range, Offers, SyncKind, Off, ErrorCode, ParseError, IdData, whole, text, DocumentItem, ContentChangeData, ChangeData, CloseData, OutgoingData, IsProper, IsProperId, IsProperDocument, IsProperChange, IsProperEdit, IsProperRange, IsProperPosition}
+use Rattle.lsp_message.proofs.Prelude.{◌≡◌, ℕ, ◌^◌, ◌<◌, ◌≤◌, suc, List, [], ◌∷◌, map, true, Option, Some, None, FitsSigned, IsUtf8, IfSome, All, refl, sym, ap, ◌∙◌, subst, arith, rules, ℤ, IsUtf8-are_ascii, Data, number, unsigned, string, no_members, depth, items_depth, of_integer, read, max_depth, items_of, Encoding, Utf8, Range, Offers, SyncKind, Off, ErrorCode, ParseError, IdData, whole, text, DocumentItem, ContentChangeData, ChangeData, CloseData, OutgoingData, IsProper, IsProperId, IsProperDocument, IsProperChange, IsProperEdit, IsProperRange}
 use Rattle.std.specs.Int.{w32}
 use Rattle.lsp_text.specs.Units.{name_of}
 use Rattle.lsp_message.proofs.BodyLemmas.{body_is}

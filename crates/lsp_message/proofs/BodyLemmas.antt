@@ -1,8 +1,8 @@
 -- The body of a message is the compact text of its value.
-use Rattle.lsp_message.proofs.Prelude.{◌≡◌, ℕ, ℤ, pos, negsuc, Bool, true, false, List, [], ◌∷◌, ◌++◌, map, Option, Some, None, codes, refl, sym, ap, ap₂, ◌∙◌, append_assoc, join_by, flat_map, decimal, Data, null, of_integer, items_of, compact_text, items_text, number_text, Encoding, Utf8, Utf16, Utf32, Position, Range, Offers, SyncKind, Off, Full, Incremental, ErrorCode, ParseError, InvalidRequest, MethodNotFound, InvalidParams, ServerNotInitialized, IdData, whole, text, DocumentItem, ContentChangeData, ChangeData, CloseData}
+use Rattle.lsp_message.proofs.Prelude.{◌≡◌, ℕ, ℤ, pos, negsuc, Bool, true, false, List, [], ◌∷◌, ◌++◌, map, Option, Some, None, codes, refl, sym, ap, ap₂, ◌∙◌, append_assoc, join_by, flat_map, Data, null, of_integer, items_of, compact_text, items_text, number_text, Position, Range, Offers, ErrorCode, ParseError, IdData, whole, text, DocumentItem, ContentChangeData, ChangeData}
 use Rattle.std.specs.Fmt.{digits, signed_decimal}
 use Rattle.json.specs.Print.{quoted, escape_byte}
-use Rattle.lsp_message.specs.Outgoing.{OutgoingData, initialize, initialized, did_open, did_change, did_close, shutdown, exit, initialize_result, shutdown_result, error_reply, error_text, id_text, document_text, position_text, range_text, content_change_text, notification_text, result_text, body_of}
+use Rattle.lsp_message.specs.Outgoing.{OutgoingData, initialize, did_open, did_change, did_close, initialize_result, shutdown_result, error_reply, error_text, id_text, document_text, position_text, range_text, content_change_text, notification_text, result_text, body_of}
 use Rattle.lsp_message.specs.Written as values
 
 -- the digits of a whole number

@@ -1,5 +1,5 @@
 -- The grammar, a turn at a time, under the conversion to data.
-use Rattle.lsp_message.proofs.Prelude.{◌≡◌, ◌<◌, ◌≤◌, ◌-◌, ℕ, zero, suc, List, [], ◌∷◌, ◌++◌, length, Option, Some, None, Result, Ok, Err, OnErr, option_map, option_and_then, refl, sym, ap, ◌∙◌, arith, Token, Json, if_last, parse_map, after_end_array, read_key, value, value_is, value-begin_array, value-begin_object, items_more, items_end, members_more, members_no_key, members_end, read_key-shorter, Num, Data, number, array, object, Items, no_items, item, Members, no_members, put, of_json, of_items, of_members, converted, tokens, json_tokens, max_depth, read, items_then, value_at, items_at, members_at, array_at, object_at, kept_number, same_Some}
+use Rattle.lsp_message.proofs.Prelude.{◌≡◌, ◌<◌, ◌≤◌, ◌-◌, ℕ, zero, suc, List, [], ◌∷◌, ◌++◌, length, Option, Some, None, Result, Ok, Err, OnErr, option_map, option_and_then, refl, ap, ◌∙◌, arith, Token, Json, if_last, parse_map, after_end_array, read_key, value, value_is, value-begin_array, value-begin_object, items_more, items_end, members_more, members_no_key, members_end, read_key-shorter, Num, Data, array, object, Items, no_items, item, Members, no_members, put, of_json, of_items, of_members, converted, tokens, json_tokens, max_depth, read, items_then, value_at, items_at, members_at, array_at, object_at, kept_number, same_Some}
 use Rattle.std.proofs.lemmas.Option.{some_pair_parts}
 use Rattle.json.specs.Json as json
 use Rattle.json.specs.Tree.{depth}

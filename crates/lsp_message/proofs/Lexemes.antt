@@ -1,5 +1,5 @@
 -- The parts of a message with one change of a range, by their bytes.
-use Rattle.lsp_message.proofs.Prelude.{◌≡◌, ℕ, List, [], ◌∷◌, ◌++◌, take, drop, length, get_or, true, false, Option, Some, None, ◌≤◌, ◌<◌, max, refl, sym, ap, ap₂, ◌∙◌, subst, arith, codes, ◌==◌, ◌⊎◌, inl, inr, get_or-take, length-take-le, take-append-drop, drop-cons, suc, or_cases, eqb-true, ◌||◌, not, option_map, option_and_then, append_assoc, ends_word, is_stop, IsNumber, escape, Data, Members, number, string, array, object, no_members, no_items, item, put, unsigned, number_of, of_members, read, tokens, json_tokens, members_tokens, Range, content_change_in, member_at, natural_in, range_of, IsTaken, IsValueAt, IsLengthAt, common_steps}
+use Rattle.lsp_message.proofs.Prelude.{◌≡◌, ℕ, List, [], ◌∷◌, ◌++◌, take, drop, length, get_or, true, false, Option, Some, None, ◌≤◌, ◌<◌, max, refl, sym, ap, ap₂, ◌∙◌, arith, codes, ◌==◌, get_or-take, length-take-le, take-append-drop, drop-cons, suc, or_cases, eqb-true, ◌||◌, not, option_map, option_and_then, append_assoc, ends_word, is_stop, IsNumber, escape, Data, Members, number, string, array, object, no_members, no_items, item, put, unsigned, number_of, of_members, read, tokens, json_tokens, members_tokens, Range, content_change_in, member_at, natural_in, range_of, IsTaken, IsValueAt, IsLengthAt, common_steps}
 use Rattle.json.specs.Json as json
 use Rattle.json.specs.Text.{content}
 use Rattle.json.specs.Token as kind
@@ -29,16 +29,7 @@ no_bytes (x ∷ xs) e = let never : ⊥ = omega (arith, eqb-true (length (x ∷ 
 pub blank_read : (text : List ℕ) (i : ℕ) → i < length text → (get_or text i 0 == 32 || get_or text i 0 == 10) ≡ true
     → lex between (drop (suc i) text) ≡ lex between (drop i text)
 blank_read text i within blank =
-    by_case (or_cases (get_or text i 0 == 32) (get_or text i 0 == 10) blank) where
-      split : drop i text ≡ get_or text i 0 ∷ drop (suc i) text
-      split = drop-cons text i 0 within
-
-      by_case : ((get_or text i 0 == 32) ≡ true) ⊎ ((get_or text i 0 == 10) ≡ true)
-          → lex between (drop (suc i) text) ≡ lex between (drop i text)
-      by_case (inl e) = sym (ap (lex between) (split ∙ ap (λ x. x ∷ drop (suc i) text) (eqb-true (get_or text i 0) 32 e))
-          ∙ space_read (drop (suc i) text))
-      by_case (inr e) = sym (ap (lex between) (split ∙ ap (λ x. x ∷ drop (suc i) text) (eqb-true (get_or text i 0) 10 e))
-          ∙ line_feed_read (drop (suc i) text))
+    grind (arith, common_steps, or_cases, eqb-true, drop-cons, space_read, line_feed_read)
 
 -- ---- texts and numbers
 

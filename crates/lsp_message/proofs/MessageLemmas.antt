@@ -1,15 +1,11 @@
 -- The rows of the table of messages, over the six members that make an object a message.
-use Rattle.lsp_message.proofs.Prelude.{◌≡◌, ℕ, false, false_from_ne_true, List, Option, Some, None, option_map, codes, refl, ap, ◌∙◌, ℤ, bytes_eq-Decides, Data, number, string, as_str, as_i64, text_in, IdData, whole, text, request, message, id_in, id_found, is_version_two, call_of, outcome_of, answer_of, NamesRequest, RefusedRows, MessageRows, IsIdOf, IdLaw, version_of, method_of, id_of, params_of, error_of, result_of}
+use Rattle.lsp_message.proofs.Prelude.{◌≡◌, ℕ, false, false_from_ne_true, List, Option, Some, None, option_map, codes, refl, ap, ◌∙◌, arith, common_steps, bytes_eq-Decides, Data, number, string, as_str, text_in, IdData, whole, text, request, message, id_in, id_found, is_version_two, call_of, outcome_of, answer_of, NamesRequest, RefusedRows, MessageRows, IsIdOf, IdLaw, version_of, method_of, id_of, params_of, error_of, result_of}
 use Rattle.lsp_message.proofs.MemberLemmas.{message_of_object, message_of_other}
 
 -- ---- the members
 
 not_two : (version : Option Data) → (text_in version ≡ Some (codes "2.0") → ⊥) → is_version_two version ≡ false
-not_two version other = by_case (text_in version) refl where
-  by_case : (named : Option (List ℕ)) → text_in version ≡ named → is_version_two version ≡ false
-  by_case None is = rw is refl
-  by_case (Some s) is =
-      rw is (false_from_ne_true _ (λ same. other (is ∙ ap Some ((bytes_eq-Decides s (codes "2.0")).0 same))))
+not_two version other = grind (arith, common_steps, bytes_eq-Decides, false_from_ne_true)
 
 named_is : (m : Option Data) (name : List ℕ) → text_in m ≡ Some name → option_map as_str m ≡ Some (Some name)
 named_is None name is = cc
@@ -17,14 +13,10 @@ named_is (Some method) name is = ap Some is
 
 called : (i p : Option Data) (name : List ℕ) (id : IdData) → id_found i ≡ Some id → call_of i name p
     ≡ message (request id name p)
-called None p name id is = cc
-called (Some d) p name id is = rw is refl
+called i p name id is = grind (arith, common_steps)
 
 answer_to : (i e r : Option Data) (id : Option IdData) → NamesRequest i id → answer_of i e r ≡ outcome_of id e r
-answer_to i e r None is = rw is refl
-answer_to (Some (number n)) e r (Some id) is = rw is refl
-answer_to (Some (string s)) e r (Some id) is = rw is refl
-answer_to i e r (Some id) is = cc
+answer_to i e r id is = grind (arith, common_steps)
 
 -- ---- the rows
 
@@ -59,19 +51,11 @@ message_rows = record {
 
 -- ---- ids
 
-whole_of : (o : Option ℤ) (z : ℤ) → option_map whole o ≡ Some (whole z) → o ≡ Some z
-whole_of None z is = cc
-whole_of (Some y) z is = let same : y ≡ z = cc in ap Some same
-
-no_text_of : (o : Option ℤ) (s : List ℕ) → option_map whole o ≡ Some (text s) → ⊥
-no_text_of None s is = cc
-no_text_of (Some y) s is = cc
-
 id_from : (value : Data) (id : IdData) → id_in value ≡ Some id → IsIdOf id value
-id_from (number n) (whole z) is = (n, refl, whole_of (as_i64 n) z is)
-id_from (number n) (text s) is = absurd (no_text_of (as_i64 n) s is)
-id_from (string s) (text t) is = let same : s ≡ t = cc in ap string same
-id_from value id is = let never : ⊥ = cc in absurd never
+id_from (number n) (whole z) is = grind (arith, common_steps)
+id_from (number n) (text s) is = grind (arith, common_steps)
+id_from (string s) id is = grind (arith, common_steps)
+id_from value id is = absurd (cc)
 
 id_to : (value : Data) (id : IdData) → IsIdOf id value → id_in value ≡ Some id
 id_to value (whole z) is = ap id_in is.1 ∙ ap (option_map whole) is.2

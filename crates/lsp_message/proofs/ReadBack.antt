@@ -63,21 +63,15 @@ content_changes_in-edits : (es : List ContentChangeData) → All IsProperEdit es
 content_changes_in-edits [] h = refl
 content_changes_in-edits (e ∷ es) h =
     let first = h 0 e (omega arith) in
-    rw (
-      content_change_in-content_change_value e.range e.text first.range,
-      content_changes_in-edits es (λ k d l. h (suc k) d
-          (omega arith)),
-    ) refl
+    let later = content_changes_in-edits es (λ k d l. h (suc k) d (omega arith)) in
+    rw (content_change_in-content_change_value e.range e.text first.range, later) refl
 
 open_of-open_params : (p : DocumentItem) → IsProperDocument p → open_of (Some (values.open_params p)) ≡ Some p
 open_of-open_params p h = rw (version_in-of_integer p.version h.version) refl
 
 change_of-change_params : (p : ChangeData) → IsProperChange p → change_of (Some (values.change_params p)) ≡ Some p
-change_of-change_params p h = rw (
-  version_in-of_integer p.version h.version,
-  content_changes_in-edits p.changes
-      h.changes,
-) refl
+change_of-change_params p h =
+    rw (version_in-of_integer p.version h.version, content_changes_in-edits p.changes h.changes) refl
 
 offers_of-initialize_params : (utf8 utf32 : Bool) → let offers : Offers = record { utf8 = utf8; utf32 = utf32 } in
     offers_of (Some (values.initialize_params offers)) ≡ Some offers

@@ -1,5 +1,5 @@
 -- A body against the value that its bytes are.
-use Rattle.lsp_message.proofs.Prelude.{◌≡◌, ◌≢◌, ℕ, [], ◌∷◌, slice_index, ◌<◌, Bool, true, false, List, length, Some, None, Result, Ok, Err, IfOk, IfErr, IsUtf8, refl, sym, subst, ◌∙◌, arith, is_utf8, IsUtf8-from_is_utf8, is_utf8-from_IsUtf8, Data, read, MessageData, Reading, message_of, not_json, message, reading, message_view, IsReadFault, IsFaultOfError, common_steps}
+use Rattle.lsp_message.proofs.Prelude.{◌≡◌, ◌≢◌, ℕ, [], ◌∷◌, slice_index, ◌<◌, Bool, true, false, List, length, Some, None, Result, IfOk, IfErr, IsUtf8, refl, sym, subst, arith, is_utf8, IsUtf8-from_is_utf8, is_utf8-from_IsUtf8, Data, read, MessageData, Reading, message_of, not_json, message, reading, message_view, IsReadFault, IsFaultOfError, common_steps}
 use Rattle.json.specs.Json.{value}
 use Rattle.json.specs.Lex.{punctuate, lex}
 use Rattle.json.specs.Word.{word, after_number}
@@ -24,14 +24,11 @@ reading_of_none body refused = not_json_at body _ refl refused
 
 pub ok_by_reading : (r : Result Message ReadFault) (body : List ℕ) (found : Reading) → reading body ≡ found
     → Answers r found → IfOk r (λ m. reading body ≡ message (message_view m))
-ok_by_reading (Ok m) body found is h = is ∙ h
-ok_by_reading (Err e) body found is h = tt
+ok_by_reading r body found is h = grind (arith, common_steps)
 
 pub err_by_reading : (r : Result Message ReadFault) (body : List ℕ) (found : Reading) → reading body ≡ found
     → Answers r found → IfErr r (IsReadFault body)
-err_by_reading (Ok m) body found is h = tt
-err_by_reading (Err (NotAMessage id)) body found is h = is ∙ h
-err_by_reading _ body found is h = absurd h
+err_by_reading r body found is h = grind (arith, common_steps)
 
 -- the fault that an error of `serde_json` makes
 pub fault_by_error : (body : List ℕ) (error : Error) (fault : ReadFault) → IsUtf8 body → IsFaultOfError error fault

@@ -1,7 +1,7 @@
 -- What notes of a body go by: the `rangeLength` of its changes (LSP 3.17,
 -- TextDocumentContentChangeEvent), or the params of a `didSave`.
 use Rattle.std.specs.Prelude.{◌∷◌, if◌then◌else◌}
-use Rattle.lsp_message.specs.Prelude.{ℕ, Bool, true, false, List, [], Option, Some, None, bytes_eq, codes, Data, Items, no_items, item}
+use Rattle.lsp_message.specs.Prelude.{ℕ, Bool, List, [], Option, Some, None, bytes_eq, codes, Data, Items, no_items, item}
 use Rattle.lsp_message.specs.Incoming.{IncomingData, did_change, other_notification}
 use Rattle.lsp_message.specs.Message.{Reading, message, notification}
 use Rattle.lsp_message.specs.Values.{array_in, member_at, natural_in}
@@ -10,13 +10,7 @@ use Rattle.lsp_message.specs.Values.{array_in, member_at, natural_in}
 abbrev pub is_save : List ℕ → Bool
 is_save method = bytes_eq method (codes "textDocument/didSave")
 
--- Do notes go by more of a message than what it asks?
-abbrev pub is_noted : IncomingData → Bool
-is_noted (did_change params) = true
-is_noted (other_notification method) = is_save method
-is_noted m = false
-
--- That of each item of `contentChanges`, if it has one.
+-- The `rangeLength` of each item of `contentChanges`, if it has one.
 abbrev pub lengths_in : Items → List (Option ℕ)
 lengths_in no_items = []
 lengths_in (item d ds) = natural_in (member_at (codes "rangeLength") (Some d)) ∷ lengths_in ds

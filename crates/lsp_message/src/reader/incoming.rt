@@ -9,10 +9,10 @@ ghost use Rattle.serde_json.specs.Read.{read as read_value};
 ghost use Rattle.serde_json.specs.View.{view};
 ghost use Rattle.lsp_message.specs.Message as spec;
 ghost use Rattle.lsp_message.specs.Message.{reading, message_of, not_json};
-ghost use Rattle.lsp_message.specs.Lengths.{is_noted};
 ghost use Rattle.lsp_message.specs.Params.{change_of, ParamsMayAllocate};
 ghost use Rattle.lsp_message.specs.Seen.{id_view, message_view, IsNoted, IsReadFault, incoming_view};
 ghost use Rattle.lsp_message.specs.Incoming.{incoming_of, incoming_by, request_of, did_change};
+ghost use Rattle.lsp_message.specs.inside.Seen.{is_noted};
 
 use crate::agreement::{Offers, params_initialize};
 use crate::message::{Id, Message, ReadFault, read};

@@ -3,11 +3,12 @@
 ghost use Rattle.std.specs.Prelude.{◌≡◌, IfOk, Some, codes, false, option_map};
 ghost use Rattle.serde_json.specs.View.{items_view, view};
 ghost use Rattle.lsp_message.specs.Incoming.{incoming_of};
-ghost use Rattle.lsp_message.specs.Lengths.{is_noted, lengths_found, lengths_in};
+ghost use Rattle.lsp_message.specs.Lengths.{lengths_found, lengths_in};
 ghost use Rattle.lsp_message.specs.Message.{Reading};
 ghost use Rattle.lsp_message.specs.Seen.{IsNoted, incoming_view};
 ghost use Rattle.lsp_message.specs.Values.{array_in, member_at, natural_in};
 ghost use Rattle.lsp_message.specs.declared.reader.incoming.Incoming.{Incoming};
+ghost use Rattle.lsp_message.specs.inside.Seen.{is_noted};
 
 use crate::reader::incoming::Incoming;
 use serde_json::Value;

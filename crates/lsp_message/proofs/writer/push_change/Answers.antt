@@ -4,9 +4,7 @@ use Rattle.lsp_message.proofs.ReadBack.{body_of-unique}
 use Rattle.lsp_message.proofs.writer.push_change.Goals as goal
 
 pub returns-clause-ok : goal.returns-clause-ok
-returns-clause-ok c =
-    let number = c.args.version in
-    rw (body_is, sym (to_z-of_z w32 number (search rules))) c.push.ensures.ok
+returns-clause-ok c = rw (body_is, sym (to_z-of_z w32 c.args.version (search rules))) c.push.ensures.ok
 
 pub returns-clause-unique : goal.returns-clause-unique
 returns-clause-unique c = body_of-unique

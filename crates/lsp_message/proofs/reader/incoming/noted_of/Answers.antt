@@ -1,6 +1,6 @@
 use Rattle.lsp_message.proofs.Prelude.{◌≡◌, ℕ, Bool, true, false, List, Option, refl, ap, ◌∙◌, if◌then◌else◌, Offers}
 use Rattle.lsp_message.specs.Incoming.{initialize, shutdown, other_request}
-use Rattle.lsp_message.specs.Lengths.{is_noted}
+use Rattle.lsp_message.specs.inside.Seen.{is_noted}
 use Rattle.lsp_message.specs.Message.{IdData}
 use Rattle.lsp_message.proofs.reader.incoming.noted_of.Goals as goal
 

@@ -6,10 +6,9 @@ returns-in-Initialized-clause-tokens c = rw c.in-Initialized.is c.write_notifica
 
 pub returns-in-DidOpen-clause-tokens : goal.returns-in-DidOpen-clause-tokens
 returns-in-DidOpen-clause-tokens c =
-    let number = c.in-DidOpen.params.version in
     rw (
       c.in-DidOpen.is,
-      sym (to_z-of_z w32 number (search rules)),
+      sym (to_z-of_z w32 c.in-DidOpen.params.version (search rules)),
       sym c.as_str.ensures.value,
       sym c.as_str-in-DidOpen.ensures.value,
       sym c.as_str-in-DidOpen-2.ensures.value,

@@ -1,4 +1,4 @@
-use Rattle.lsp_replay.proofs.Prelude.{◌≡◌, ℕ, Bool, true, false, List, [], Option, None, option_and_then, refl, ap, ap₂, ◌∙◌, if◌then◌else◌, Reading, reading, IncomingData, did_change, did_open, other_notification, ServerData, Client, is_save, lengths_of, notification_params, notes_on, saved_in}
+use Rattle.lsp_replay.proofs.Prelude.{◌≡◌, ℕ, Bool, true, false, List, [], Option, Some, None, option_and_then, refl, ap, ap₂, ◌∙◌, if◌then◌else◌, Reading, reading, IncomingData, did_change, did_open, other_notification, ServerData, Client, is_save, lengths_of, notification_params, notes_on, saved_in}
 use Rattle.serde_json.specs.Data.{Data}
 use Rattle.lsp_message.specs.Lengths.{lengths_noted, params_noted}
 use Rattle.lsp_server.specs.Seen.{incoming_view}
@@ -40,6 +40,7 @@ returns c = λ body given.
           ∙ saved_same m (reading body);
       is_change = c.is_change.ensures;
       notes = c.in_ok-notes_on.ensures
-          ∙ ap₂ (λ (lengths : List (Option ℕ)) (params : Option Data). notes_on c.args.server.now c.args.ranged lengths params m) read.lengths read.params
+          ∙ ap₂ (λ (lengths : List (Option ℕ)) (params : Option Data). notes_on c.args.server.now c.args.ranged lengths
+          params m) read.lengths read.params
           ∙ notes_same c.args.server.now c.args.ranged m (reading body);
     })

@@ -1,6 +1,7 @@
 use Rattle.lsp_message.proofs.Prelude.{◌≡◌, false, [], None, refl, ◌∙◌, Reading, incoming_view}
 use Rattle.lsp_message.specs.Incoming.{IncomingData, did_change, other_notification}
-use Rattle.lsp_message.specs.Lengths.{is_noted, lengths_noted, params_noted}
+use Rattle.lsp_message.specs.Lengths.{lengths_noted, params_noted}
+use Rattle.lsp_message.specs.inside.Seen.{is_noted}
 use Rattle.lsp_message.proofs.reader.noted.Noted.nothing.Goals as goal
 
 unnoted : (m : IncomingData) (body : Reading) → is_noted m ≡ false

@@ -5,6 +5,5 @@ use Rattle.lsp_message.proofs.writer.documents.DidChangeWriteValue.write.Goals a
 
 pub returns-clause-tokens : goal.returns-clause-tokens
 returns-clause-tokens c =
-    let number = c.args.self.now.version in
     let batch = map-map values.content_change_value content_change_view c.args.self.now.changes.now in
-    rw (batch, sym (to_z-of_z w32 number (search rules))) c.write_notification.ensures.tokens
+    rw (batch, sym (to_z-of_z w32 c.args.self.now.version (search rules))) c.write_notification.ensures.tokens

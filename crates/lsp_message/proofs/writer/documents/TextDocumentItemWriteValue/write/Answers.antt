@@ -2,6 +2,4 @@ use Rattle.lsp_message.proofs.Prelude.{sym, rules, w32, to_z-of_z}
 use Rattle.lsp_message.proofs.writer.documents.TextDocumentItemWriteValue.write.Goals as goal
 
 pub returns-clause-tokens : goal.returns-clause-tokens
-returns-clause-tokens c =
-    let number = c.args.self.now.version in
-    rw (sym (to_z-of_z w32 number (search rules))) c.write.ensures.tokens
+returns-clause-tokens c = rw (sym (to_z-of_z w32 c.args.self.now.version (search rules))) c.write.ensures.tokens
