@@ -43,16 +43,19 @@ end_words side None = []
 end_words Start (Some range) = codes " starts at " ++ position_words range.start
 end_words Stop (Some range) = codes " ends at " ++ position_words range.stop
 
+-- A change, by its number from 1.
+abbrev pub change_words : ℕ → List ℕ
+change_words index = codes "change " ++ decimal (one_more index)
+
 -- ---- why a notification was refused
 
--- A change that has no result, with its number from 1.
+-- A change that has no result.
 abbrev pub edit_reason : Option ChangeData → EditFault → List ℕ
 edit_reason p (InsideCharacter change side) =
-    codes "change " ++ decimal (one_more change) ++ end_words side (range_sent p change)
-    ++ codes ", inside a character"
+    change_words change ++ end_words side (range_sent p change) ++ codes ", inside a character"
 edit_reason p (ReversedRange change) =
-    codes "change " ++ decimal (one_more change) ++ end_words Start (range_sent p change)
-    ++ codes ", after it" ++ end_words Stop (range_sent p change)
+    change_words change ++ end_words Start (range_sent p change) ++ codes ", after it"
+    ++ end_words Stop (range_sent p change)
 edit_reason p NoMemoryToEdit = []
 
 -- A command that the documents refuse, by the limits and by the change, if it is one.

@@ -13,7 +13,6 @@ pub mod Openings
 pub mod Parts
 pub mod Verdicts
 pub mod Engine
-pub mod Run
 pub mod Reads
 pub mod RunOutput
 pub mod Session

@@ -167,20 +167,6 @@ impl Session {
         &self.server
     }
 
-    /// Returns how many bodies were handled.
-    pub fn messages(&self) -> u64
-        ensures { result ≡ self.now.messages }
-    {
-        self.messages
-    }
-
-    /// Returns how many of the handled bodies were refused.
-    pub fn refusals(&self) -> u64
-        ensures { result ≡ self.now.refusals }
-    {
-        self.refusals
-    }
-
     /// Returns the outcome of a log command at the end of the input.
     pub fn outcome(&self) -> Outcome
         ensures { result ≡ session_outcome self.now }

@@ -16,7 +16,7 @@ ghost use Rattle.lsp_replay.specs.inside.Reads.{IsNotedOf};
 ghost use Rattle.lsp_replay.specs.inside.Verdicts.{verdict_view};
 
 use crate::facts::About;
-use crate::facts::asked::{copied_text, is_change, uri_of};
+use crate::facts::asked::{copied_text, uri_of};
 use crate::notes::Note;
 use crate::notes::changes::{Terms, push_batch_notes};
 use crate::notes::returns::{has_feed, has_lone_return};
@@ -43,14 +43,12 @@ pub(super) fn about_of(
         return Ok(About {
             uri: None,
             saved: None,
-            is_change: false,
             notes: Vec::new(alloc),
         });
     };
     Ok(About {
         uri: copied_text(alloc, uri_of(Sender::Client, incoming))?,
         saved: copied_text(alloc, saved_in(incoming, noted))?,
-        is_change: is_change(incoming),
         notes: notes_on(alloc, server, ranged, incoming, noted)?,
     })
 }

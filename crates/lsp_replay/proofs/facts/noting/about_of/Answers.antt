@@ -38,7 +38,6 @@ returns c = λ body given. let read = rw c.in-Client.is at given in
       uri = c.in_ok-copied_text.ensures ∙ c.uri_of.ensures;
       saved = c.in_ok-copied_text-2.ensures ∙ (c.saved_in.ensures ∙ saved_same (incoming_view c.in-Client.incoming)
           (λ method e. read.params method (sym read.asks ∙ e)));
-      is_change = c.is_change.ensures;
       notes = c.in_ok-notes_on.ensures
           ∙ notes_same c.args.server.now c.args.ranged (incoming_view c.in-Client.incoming)
           (λ change e. read.lengths change (sym read.asks ∙ e))

@@ -13,7 +13,7 @@ returns c =
     (habit_advice (not c.args.self.now.listing.all && has_repeated known.counts.noted))
     (rw (
       c.first_advice.ensures,
-      c.refusals-refusals.ensures,
+      c.outcome-refusals.ensures,
       c.has_tallies.ensures,
       c.noted-noted.ensures,
       c.counts.ensures,
