@@ -1,8 +1,9 @@
 -- The facts of a record, what is known after it, and the output of `trace` and `check --explain` from the record on.
-use Rattle.lsp_replay.proofs.Prelude.{◌≡◌, ◌≢◌, ℕ, Bool, List, [], ◌∷◌, Option, Some, None, is_some, option_map, string_bytes, refl, sym, ap, ap₂, ◌∙◌, inl, inr, ◌⊎◌, reading, change_view, ChangeData, IncomingData, incoming_of, ServerData, Head, Sender, Client, Server, Version, Record, Facts, Note, Taken, written_first, change_in, writes, rare_notes, Known, LineView, is_renamed, is_strict_refusal, known_after, last_in, lines, uri_of, is_mention, notes_if, notes_of, notes_on, ranged_after, Session, Verdict, recorded, bad, encoding_for, judge_server, judge, judge_from, BodyData, body_read, AreFacts, IsAbout, IsLearned, known_by, saved_in, saved_read, uri_read, notes_on_read, judge_at, IsTaken, ranged_read, ranged_with, verdict_view, output_in, lengths_of, notification_params}
+use Rattle.lsp_replay.proofs.Prelude.{◌≡◌, ◌≢◌, ℕ, Bool, List, [], ◌∷◌, Option, Some, None, is_some, option_map, string_bytes, refl, sym, ap, ap₂, ◌∙◌, inl, inr, ◌⊎◌, reading, change_view, ChangeData, IncomingData, incoming_of, ServerData, Head, Sender, Client, Server, Version, Record, Facts, Note, Taken, written_first, change_in, writes, rare_notes, Known, LineView, is_renamed, is_strict_refusal, known_after, last_in, lines, uri_of, is_mention, notes_if, notes_of, notes_on, ranged_after, Session, Verdict, recorded, bad, encoding_for, judge_server, judge, judge_from, BodyData, body_read, AreFacts, IsAbout, IsLearned, known_by, saved_in, on_client, judge_at, IsTaken, ranged_read, ranged_with, verdict_view, output_in, lengths_of, notification_params}
 use Rattle.lsp_replay.specs.declared.facts.About.{About}
 use Rattle.lsp_replay.proofs.Canonical.CanonicalLogLemmas.{heard_as}
 use Rattle.lsp_replay.proofs.Records.OutputLemmas.{output_after, unless_not}
+use Rattle.lsp_replay.proofs.Reports.OpeningLemmas.{on_side}
 use Rattle.lsp_replay.proofs.Reports.ReasonLemmas.{mention_at, strict_at}
 
 -- ---- what was read of a record's body, and the body itself
@@ -10,16 +11,6 @@ use Rattle.lsp_replay.proofs.Reports.ReasonLemmas.{mention_at, strict_at}
 module _ (s : Session) (body : List ℕ) where
   abbrev asked : IncomingData
   asked = incoming_of (reading body)
-
-  uri_at : (version : Version) (side : Sender) → uri_read (body_read version side body) ≡ uri_of side asked
-  uri_at version Client = refl
-  uri_at version Server = refl
-
-  saved_at : (version : Version) (side : Sender)
-      → saved_read (body_read version side body) (reading body)
-      ≡ saved_in side asked (notification_params (reading body))
-  saved_at version Client = refl
-  saved_at version Server = refl
 
   ranged_at : (ranged : Bool) (version : Version) (side : Sender)
       → ranged_read ranged s (body_read version side body) ≡ ranged_after ranged s side body
@@ -33,7 +24,8 @@ module _ (s : Session) (body : List ℕ) where
   no_notes notes verdict (inr e) = rw e refl
 
   notes_at : (ranged : Bool) (version : Version) (side : Sender)
-      → notes_if (notes_on_read s.server ranged (reading body) (body_read version side body))
+      → notes_if (on_client [] (notes_on s.server ranged (lengths_of (reading body)) (notification_params (reading body)))
+      (body_read version side body))
       (judge_from s version side body).verdict ≡ notes_of s ranged body (judge_from s version side body).verdict
   notes_at ranged version Client = refl
   notes_at ranged version Server =
@@ -55,7 +47,8 @@ module _ (known : Known) (s : Session) (head : Head) (body : List ℕ) (read : B
     {Same : Type 0} {HasSeen : ServerData → ChangeData → Type 0} (is_taken : IsTaken Same HasSeen s t head body taken)
   where
     uri_is : option_map string_bytes about.uri ≡ uri_of head.side (incoming_of (reading body))
-    uri_is = is_about.uri ∙ ap uri_read is_read ∙ uri_at s body head.version head.side
+    uri_is = is_about.uri ∙ ap (on_client None (uri_of Client)) is_read
+        ∙ on_side None uri_of (λ m. refl) head.version head.side body
 
     mention_is : is_mention (is_some taken.change) (verdict_view taken.verdict)
         ≡ is_mention (is_some (change_in (incoming_of (reading body)))) (judge_at s head body).verdict
@@ -65,7 +58,8 @@ module _ (known : Known) (s : Session) (head : Head) (body : List ℕ) (read : B
     notes_are : notes_if about.notes.items (verdict_view taken.verdict) ≡ notes_of s known.ranged body
         (judge_at s head body).verdict
     notes_are =
-        ap₂ notes_if (is_about.notes ∙ ap (notes_on_read s.server known.ranged (reading body)) is_read) is_taken.judged
+        ap₂ notes_if (is_about.notes ∙ ap (on_client [] (notes_on s.server known.ranged
+        (lengths_of (reading body)) (notification_params (reading body)))) is_read) is_taken.judged
         ∙ notes_at s body known.ranged head.version head.side
 
     strict_is : is_strict_refusal (option_map change_view taken.change) (verdict_view taken.verdict)
@@ -92,7 +86,9 @@ module _ (known : Known) (s : Session) (head : Head) (body : List ℕ) (read : B
           notes = (learned.notes ∙ notes_are) i;
         };
         saved = ap (option_map string_bytes) learned.saved ∙ is_about.saved
-            ∙ ap (λ (d : BodyData). saved_read d (reading body)) is_read ∙ saved_at s body head.version head.side;
+            ∙ ap (on_client None (λ m. saved_in Client m (notification_params (reading body)))) is_read
+            ∙ on_side None (λ side m. saved_in side m (notification_params (reading body))) (λ m. refl) head.version
+            head.side body;
         rare = learned.rare ∙ ap (rare_notes known.counts) notes_are;
       }
 

@@ -73,12 +73,6 @@ learned splices (Some uri) (answered (refused refusal)) s c =
     refused_by s.records uri (server_refusal_code refusal) c
 learned splices uri verdict s c = c
 
--- `s` is the session before it.
-abbrev pub comparing_after : ComparisonData → Session → Record → Judged → ComparisonData
-comparing_after c s r j =
-    learned (splices_in c.ending s.server (incoming_of (reading r.body)))
-    (if_ends_so c.ending (uri_of r.head.side (incoming_of (reading r.body)))) j.verdict j.session c
-
 -- The status is 0 if the texts are equal, byte for byte, whatever was refused.
 abbrev pub compared_outcome : Option Bool → Outcome → Outcome
 compared_outcome None outcome = lacking missing.Document outcome
@@ -88,7 +82,10 @@ compared_outcome (Some equal) outcome = record outcome { status = (if equal then
 abbrev pub comparing : View ComparisonData
 comparing = record {
   record_output = λ c s r j. unless_bad r j.verdict (writes []);
-  next = λ c s r j. comparing_after c s r j;
+  next = λ c s r j.
+      learned (splices_in c.ending s.server (incoming_of (reading r.body)))
+      (if_ends_so c.ending (uri_of r.head.side (incoming_of (reading r.body)))) j.verdict
+      j.session c;
   end_output = λ c s line_due. comparison_words c;
   outcome = λ c s. compared_outcome (equality c.document c.second c.file) (session_outcome s);
 }

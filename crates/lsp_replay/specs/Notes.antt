@@ -282,24 +282,16 @@ notes_words between (note ∷ notes) =
 
 -- ---- the kind of a note, by which notes are counted
 
--- Whether a `rangeLength` counts characters, as some editors do, or nothing that is known.
-abbrev pub length_kind : Bool → List ℕ
-length_kind true = codes "rangeLength in characters"
-length_kind false = codes "rangeLength"
-
--- Past which end a position is, by the position that it is taken as.
-abbrev pub past_kind : Position → Position → List ℕ
-past_kind sent taken =
-    if sent.line == taken.line then codes "past the line's end" else codes "past the last line"
-
--- The kind of a note, in words.
+-- The kind of a note, in words. A `rangeLength` may count characters, as it does in some editors.
 abbrev pub note_kind : Note → List ℕ
 note_kind OpenAlready = codes "open already"
 note_kind LoneReturn = codes "a CR alone"
 note_kind (OldVersion sent current) = codes "an old version"
 note_kind NoChanges = codes "no changes"
 note_kind (WholeText index) = codes "a whole text"
-note_kind (PastEnd index side sent taken) = past_kind sent taken
-note_kind (WrongLength index sent replaced characters) = length_kind (sent == characters)
+note_kind (PastEnd index side sent taken) =
+    if sent.line == taken.line then codes "past the line's end" else codes "past the last line"
+note_kind (WrongLength index sent replaced characters) =
+    if sent == characters then codes "rangeLength in characters" else codes "rangeLength"
 note_kind (SameText index) = codes "changes nothing"
 note_kind (OtherSaved line) = codes "another text saved"

@@ -4,7 +4,6 @@ use Rattle.std.specs.Prelude.{◌∷◌, ◌++◌, if◌then◌else◌}
 use Rattle.lsp_replay.specs.Prelude.{ℕ, Bool, true, false, List, [], Option, Some, None, option_and_then, codes, decimal, slice_get, signed_decimal, LimitsData, Position, Range, EditFault, Side, Start, Stop, ErrorCode, ParseError, InvalidRequest, InvalidParams, ServerNotInitialized, ChangeData, AlreadyOpen, TooManyDocuments, TextTooLong, NotOpen, StaleVersion, TooManyChanges, Edit, Store, AnswerData, reply, refused, exits, Sent, one_more}
 use Rattle.lsp_edit.specs.declared.fault.EditFault.TheVariants.{InsideCharacter, ReversedRange, NoMemory as NoMemoryToEdit}
 use Rattle.lsp_store.specs.declared.fault.StoreFault.{StoreFault}
-use Rattle.lsp_server.specs.declared.answer.Refusal.{Refusal}
 use Rattle.lsp_server.specs.declared.answer.Refusal.TheVariants.{InvalidParams as BadParams}
 
 -- ---- what was sent
@@ -75,11 +74,6 @@ store_reason limits p TooManyChanges =
 store_reason limits p (Edit fault) = edit_reason p fault
 store_reason limits p fault = []
 
--- A notification that is refused.
-abbrev pub refusal_reason : LimitsData → Option ChangeData → Refusal → List ℕ
-refusal_reason limits p BadParams = codes "the parameters can't be read"
-refusal_reason limits p (Store fault) = store_reason limits p fault
-
 -- ---- why any record was refused
 
 -- An error reply.
@@ -94,7 +88,8 @@ error_reason code = []
 -- The words for an answer that counts as refused, by the change that it is the answer to.
 abbrev pub reason_words : LimitsData → Option ChangeData → AnswerData Sent → List ℕ
 reason_words limits p (reply r) = error_reason r.code
-reason_words limits p (refused refusal) = refusal_reason limits p refusal
+reason_words limits p (refused BadParams) = codes "the parameters can't be read"
+reason_words limits p (refused (Store fault)) = store_reason limits p fault
 reason_words limits p (exits status) = codes "`exit` came without `shutdown`"
 reason_words limits p answer = []
 

@@ -31,7 +31,8 @@ pub struct Counts {
     pub dropped: Vec<Tally>,
     /// Those that count as refused, by their codes.
     pub refused: Vec<Tally>,
-    noted: Vec<Tally>,
+    /// The kinds of the notes.
+    pub noted: Vec<Tally>,
 }
 
 impl Model for Counts {
@@ -59,13 +60,6 @@ impl Counts {
             refused: Vec::new(alloc),
             noted: Vec::new(alloc),
         }
-    }
-
-    /// Returns the kinds of the notes.
-    pub fn noted(&self) -> &[Tally]
-        ensures { result.now ≡ self.now.noted }
-    {
-        self.noted.as_slice()
     }
 
     /// Counts a record with this number and these notes.

@@ -11,9 +11,9 @@ ghost use Rattle.lsp_replay.specs.Lines.{is_renamed, is_stale_refusal, is_strict
 ghost use Rattle.lsp_replay.specs.Lines.{last_in, nothing_known};
 ghost use Rattle.lsp_replay.specs.Mentions.{is_mention, last_for};
 ghost use Rattle.lsp_replay.specs.Session.{bad};
+ghost use Rattle.lsp_replay.specs.inside.Bodies.{judge_at};
 ghost use Rattle.lsp_replay.specs.inside.Facts.{AreFacts, IsLearned, known_by, noted_by};
 ghost use Rattle.lsp_replay.specs.inside.Reads.{IsNotedOf, IsReadOf};
-ghost use Rattle.lsp_replay.specs.inside.Session.{judge_at};
 ghost use Rattle.lsp_replay.specs.inside.Taken.{IsShown, accepted_of, ranged_with};
 ghost use Rattle.lsp_replay.specs.inside.Verdicts.{verdict_view};
 
@@ -92,10 +92,10 @@ pub struct Known {
     made: Mentions,
     // Whether the server asked for ranges.
     ranged: bool,
-    // Whether a record is refused with S1 or S5, which lenient limits never do, and was meant to
-    // change a text.
-    strict_refusal: bool,
-    counts: Counts,
+    /// Whether a record is refused with S1 or S5, which lenient limits never do, and was meant to
+    /// change a text.
+    pub strict_refusal: bool,
+    pub counts: Counts,
 }
 
 impl Model for Known {
@@ -125,20 +125,6 @@ impl Known {
             strict_refusal: false,
             counts: Counts::nothing(alloc),
         }
-    }
-
-    /// Returns how often what came.
-    pub fn counts(&self) -> &Counts
-        ensures { result.now ≡ self.now.counts }
-    {
-        &self.counts
-    }
-
-    /// Returns whether a record is refused with S1, or with S5 and changes.
-    pub fn has_strict_refusal(&self) -> bool
-        ensures { result ≡ self.now.strict_refusal }
-    {
-        self.strict_refusal
     }
 
     /// Takes the record that was read into a session, as [`Session::take`] does, and returns its

@@ -22,9 +22,8 @@ ghost use Rattle.lsp_server.specs.Planned.{IsNotObeyed};
 ghost use Rattle.lsp_server.specs.Seen.{incoming_view};
 ghost use Rattle.lsp_server.specs.Step.{step_on};
 ghost use Rattle.lsp_replay.specs.Session.{bad, opened, session_outcome};
-ghost use Rattle.lsp_replay.specs.inside.Bodies.{IsChangeTaken, IsReceived, body_view};
+ghost use Rattle.lsp_replay.specs.inside.Bodies.{IsChangeTaken, IsReceived, body_view, judge_at};
 ghost use Rattle.lsp_replay.specs.inside.Reads.{IsNotedOf, IsReadOf};
-ghost use Rattle.lsp_replay.specs.inside.Session.{judge_at};
 ghost use Rattle.lsp_replay.specs.inside.Taken.{IsChangeWitnessed, IsTakenAs};
 ghost use Rattle.lsp_replay.specs.inside.Verdicts.{verdict_view};
 

@@ -1,6 +1,6 @@
 -- The facts of a record, what is known after it, and its lines by them.
 use Rattle.std.specs.Prelude.{◌≡◌, ◌||◌, if◌then◌else◌}
-use Rattle.lsp_replay.specs.Prelude.{ℕ, Bool, List, Option, Some, None, is_some, option_map, string_bytes, Record, Reading, reading, change_view, incoming_of, ServerData, Taken, Appended, Listing, Note, notification_params}
+use Rattle.lsp_replay.specs.Prelude.{ℕ, Bool, List, [], Option, Some, None, is_some, option_map, string_bytes, Record, Reading, reading, change_view, incoming_of, ServerData, Taken, Appended, Listing, Note, lengths_of, notification_params}
 use Rattle.lsp_log.specs.declared.record.Sender.TheVariants.{Client}
 use Rattle.lsp_replay.specs.declared.facts.About.{About}
 use Rattle.lsp_replay.specs.declared.facts.Facts.{Facts}
@@ -9,29 +9,22 @@ use Rattle.lsp_replay.specs.Counts.{counts_after, rare_notes}
 use Rattle.lsp_replay.specs.Explained.{noted_uri, saved_in}
 use Rattle.lsp_replay.specs.Lines.{FactsData, Known, facts_of, is_renamed, is_strict_refusal, last_in, uri_of}
 use Rattle.lsp_replay.specs.Mentions.{is_mention, mentioned}
-use Rattle.lsp_replay.specs.Notes.{notes_if, notes_of}
+use Rattle.lsp_replay.specs.Notes.{notes_if, notes_of, notes_on}
 use Rattle.lsp_replay.specs.Session.{Session, has_changed, judge}
-use Rattle.lsp_replay.specs.inside.Bodies.{BodyData, body_read, from_client, from_server}
-use Rattle.lsp_replay.specs.inside.Noting.{notes_on_read}
+use Rattle.lsp_replay.specs.inside.Bodies.{BodyData, body_read, on_client}
 use Rattle.lsp_replay.specs.inside.Taken.{ranged_with, received_of}
 use Rattle.lsp_replay.specs.inside.Verdicts.{verdict_view}
 
 -- ---- before the record is taken, by what was read of its body
 
-abbrev pub uri_read : BodyData → Option (List ℕ)
-uri_read (from_client version m) = uri_of Client m
-uri_read (from_server body) = None
-
-abbrev pub saved_read : BodyData → Reading → Option (List ℕ)
-saved_read (from_client version m) body = saved_in Client m (notification_params body)
-saved_read (from_server bytes) body = None
-
 pub record IsAbout (s : ServerData) (ranged : Bool) (body : Reading) (read : BodyData)
     (about : About) :
     Type 0 where
-  pub uri : option_map string_bytes about.uri ≡ uri_read read
-  pub saved : option_map string_bytes about.saved ≡ saved_read read body
-  pub notes : about.notes.items ≡ notes_on_read s ranged body read
+  pub uri : option_map string_bytes about.uri ≡ on_client None (uri_of Client) read
+  pub saved : option_map string_bytes about.saved
+      ≡ on_client None (λ m. saved_in Client m (notification_params body)) read
+  pub notes : about.notes.items
+      ≡ on_client [] (notes_on s ranged (lengths_of body) (notification_params body)) read
 
 -- ---- after it
 

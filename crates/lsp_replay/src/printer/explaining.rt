@@ -62,7 +62,7 @@ impl Explain {
         if self.session.records() == 0 {
             return push_words(buffer, "The log has no messages.\n");
         }
-        push_counts(buffer, self.session.outcome().messages, self.known.counts())?;
+        push_counts(buffer, self.session.outcome().messages, &self.known.counts)?;
         self.push_advice(buffer)
     }
 
@@ -71,12 +71,12 @@ impl Explain {
         ensures { OnOk result (buffer.new.items ≡ buffer.old.items
             ++ advice self.now.listing self.now.session.refusals self.now.known) }
     {
-        let noted = self.known.counts().noted();
+        let noted = self.known.counts.noted.as_slice();
         let refusals = self.session.outcome().refused;
         push_words(buffer, first_advice(refusals, has_tallies(noted)))?;
         push_if(
             buffer,
-            self.known.has_strict_refusal(),
+            self.known.strict_refusal,
             "Many servers don't refuse what is S1 or S5 here. `--lenient` doesn't either.\n",
         )?;
         push_if(
@@ -90,7 +90,7 @@ impl Explain {
     fn hides_notes(&self) -> bool
         ensures { result ≡ (not self.now.listing.all && has_repeated self.now.known.counts.noted) }
     {
-        !self.listing.all && has_repeated(self.known.counts().noted())
+        !self.listing.all && has_repeated(&self.known.counts.noted)
     }
 }
 
@@ -234,7 +234,7 @@ fn push_counts(buffer: &mut Vec<u8>, messages: u64, counts: &Counts) -> Result<(
     push_words(buffer, "\n")?;
     push_tallies(buffer, "", &counts.dropped)?;
     push_tallies(buffer, "refused by ", &counts.refused)?;
-    push_tallies(buffer, "noted ", counts.noted())
+    push_tallies(buffer, "noted ", &counts.noted)
 }
 
 /// Writes a line for each thing that was counted.

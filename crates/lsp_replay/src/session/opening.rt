@@ -1,20 +1,21 @@
 //! The document that a record may open.
 
-ghost use Rattle.std.specs.Prelude.{◌≡◌, IfOk, option_map, string_bytes};
-ghost use Rattle.lsp_replay.specs.Openings.{opened_if};
-ghost use Rattle.lsp_replay.specs.inside.Bodies.{body_view};
-ghost use Rattle.lsp_replay.specs.inside.Openings.{open_read};
+ghost use Rattle.std.specs.Prelude.{◌≡◌, IfOk, None, option_map, string_bytes};
+ghost use Rattle.lsp_replay.specs.Openings.{opened_if, uri_opened};
+ghost use Rattle.lsp_replay.specs.inside.Bodies.{body_view, on_client};
 ghost use Rattle.lsp_replay.specs.inside.Verdicts.{verdict_view};
 
 use crate::facts::asked::copied_text;
 use crate::session::counting::has_changed;
 use crate::session::{RecordBody, Verdict};
+use lsp_log::Sender;
 use lsp_server::Incoming;
 use std::alloc::{AllocError, Global};
 
 /// Returns a copy of the URI of the document that a record asks to open.
 pub fn opened_uri(alloc: Global, read: &RecordBody<'_>) -> Result<Option<String>, AllocError>
-    ensures { IfOk result (λ uri. option_map string_bytes uri ≡ open_read (body_view read.now)) }
+    ensures { IfOk result (λ uri. option_map string_bytes uri
+        ≡ on_client None (uri_opened Sender.Client) (body_view read.now)) }
 {
     match read {
         RecordBody::Client(_, Incoming::DidOpen(Some(params)), _) => {

@@ -19,8 +19,9 @@ returns c =
       c.in_ok-push_words.ensures,
       c.deref.ensures.value,
       c.deref-2.ensures.value,
+      c.deref-3.ensures.value,
       ap (λ k. k.changes) c.counts.view_is,
       ap (λ k. k.drops) c.counts.view_is,
       ap (λ k. k.refusals) c.counts.view_is,
-      c.noted.ensures,
+      ap (λ k. k.noted) c.counts.view_is,
     ) at c.push_tallies-3.ensures)
