@@ -1,7 +1,7 @@
 -- What of a message that wasn't refused is suspicious: its notes, and their words.
 -- These are ASCII, with no quotation mark and no backslash.
 use Rattle.std.specs.Prelude.{◌&&◌, ◌||◌, ◌==◌, ◌++◌, if◌then◌else◌, ◌∷◌}
-use Rattle.lsp_replay.specs.Prelude.{ℕ, ℤ, suc, Bool, true, false, not, nat_lt, int_le, length, map, slice_get, slice_range, sum_by, encode_utf8_all, List, [], Option, Some, None, option_and_then, option_map, Result, Ok, Err, codes, decimal, flat_map, signed_decimal, bytes_eq, chars, Data, units_in, Utf16, Utf32, Position, Range, ContentChange, Fault, meaning, ends_of, Side, Start, Stop, announced_of, IdData, reading, DocumentItem, ChangeData, Announced, is_save, lengths_of, notification_params, entry_at, greatest_batch, changed, ignored, IncomingData, did_open, did_change, other_notification, incoming_of, ServerData, content_change_from_data, session_encoding, one_more, Sender, Note}
+use Rattle.lsp_replay.specs.Prelude.{ℕ, ℤ, suc, Bool, true, false, not, nat_lt, int_le, length, map, slice_get, slice_range, sum_by, encode_utf8_all, List, [], Option, Some, None, option_and_then, option_map, Result, Ok, Err, codes, decimal, flat_map, signed_decimal, bytes_eq, chars, Data, units_in, Utf16, Utf32, Position, Range, ContentChange, Fault, meaning, ends_of, Side, Start, Stop, announced_of, IdData, reading, DocumentItem, ChangeData, Announced, is_save, lengths_of, notification_params, entry_at, greatest_batch, changed, ignored, IncomingData, did_open, did_change, other_notification, incoming_of, ServerData, content_change_from_data, session_encoding, Sender, Note}
 use Rattle.std.specs.List.{list_any}
 use Rattle.std.specs.Result.{result_ok}
 use Rattle.line_diff.specs.Lines.{ends_line}
@@ -12,7 +12,7 @@ use Rattle.lsp_message.specs.declared.agreement.SyncKind.TheVariants.{Incrementa
 use Rattle.lsp_message.specs.Values.{member_at, text_in}
 use Rattle.lsp_log.specs.declared.record.Sender.TheVariants.{Client, Server}
 use Rattle.lsp_replay.specs.declared.notes.Note.TheVariants.{OpenAlready, LoneReturn, OldVersion, NoChanges, WholeText, PastEnd, WrongLength, SameText, OtherSaved}
-use Rattle.lsp_replay.specs.Reasons.{position_words}
+use Rattle.lsp_replay.specs.Reasons.{change_words, position_words}
 use Rattle.lsp_replay.specs.Session.{Session, Verdict, answered, result_for}
 
 -- ---- one change on the text before it (LSP 3.17, TextDocumentContentChangeEvent); a character `c`
@@ -103,17 +103,17 @@ left_by units text change =
     if nat_lt greatest_batch (length (encode_utf8_all change.text)) then None
     else result_ok (text_within greatest_batch text (meaning units (chars text) (change ∷ [])))
 
--- The notes of what comes after a change, if the change leaves a text.
-abbrev pub notes_after : (List ℕ → List Note) → Option (List ℕ) → List Note
-notes_after rest None = []
-notes_after rest (Some text) = rest text
+-- What comes after a change, if the change leaves a text.
+abbrev pub if_left : {A : Type 0} → (List ℕ → List A) → Option (List ℕ) → List A
+if_left rest None = []
+if_left rest (Some text) = rest text
 
 -- The notes of changes from an index on, each on the bytes that the one before it leaves.
 abbrev pub notes_from : Terms → ℕ → List ℕ → List ContentChange → List Note
 notes_from terms index text [] = []
 notes_from terms index text (change ∷ changes) =
     change_notes terms (chars text) index change
-    ++ notes_after (λ next. notes_from terms (suc index) next changes)
+    ++ if_left (λ next. notes_from terms (suc index) next changes)
     (left_by terms.units text change)
 
 -- The notes of a batch on a text.
@@ -243,10 +243,6 @@ ranged_after ranged s Server body = ranged_for ranged s.expected body
 
 -- ---- in words
 
--- A change, by its number from 1.
-abbrev pub change_words : ℕ → List ℕ
-change_words index = codes "change " ++ decimal (one_more index)
-
 -- Which end of a change's range.
 abbrev pub side_words : Side → List ℕ
 side_words Start = codes " starts at "
@@ -286,24 +282,16 @@ notes_words between (note ∷ notes) =
 
 -- ---- the kind of a note, by which notes are counted
 
--- Whether a `rangeLength` counts characters, as some editors do, or nothing that is known.
-abbrev pub length_kind : Bool → List ℕ
-length_kind true = codes "rangeLength in characters"
-length_kind false = codes "rangeLength"
-
--- Past which end a position is, by the position that it is taken as.
-abbrev pub past_kind : Position → Position → List ℕ
-past_kind sent taken =
-    if sent.line == taken.line then codes "past the line's end" else codes "past the last line"
-
--- The kind of a note, in words.
+-- The kind of a note, in words. A `rangeLength` may count characters, as it does in some editors.
 abbrev pub note_kind : Note → List ℕ
 note_kind OpenAlready = codes "open already"
 note_kind LoneReturn = codes "a CR alone"
 note_kind (OldVersion sent current) = codes "an old version"
 note_kind NoChanges = codes "no changes"
 note_kind (WholeText index) = codes "a whole text"
-note_kind (PastEnd index side sent taken) = past_kind sent taken
-note_kind (WrongLength index sent replaced characters) = length_kind (sent == characters)
+note_kind (PastEnd index side sent taken) =
+    if sent.line == taken.line then codes "past the line's end" else codes "past the last line"
+note_kind (WrongLength index sent replaced characters) =
+    if sent == characters then codes "rangeLength in characters" else codes "rangeLength"
 note_kind (SameText index) = codes "changes nothing"
 note_kind (OtherSaved line) = codes "another text saved"

@@ -25,10 +25,14 @@ const HABIT_RATE: u64 = 100;
 #[derive(Drop)]
 pub struct Counts {
     alloc: Global,
-    changed: u64,
-    dropped: Vec<Tally>,
-    refused: Vec<Tally>,
-    noted: Vec<Tally>,
+    /// How many records changed documents.
+    pub changed: u64,
+    /// Those that were dropped, as one thing that was counted, if there are any.
+    pub dropped: Vec<Tally>,
+    /// Those that count as refused, by their codes.
+    pub refused: Vec<Tally>,
+    /// The kinds of the notes.
+    pub noted: Vec<Tally>,
 }
 
 impl Model for Counts {
@@ -56,34 +60,6 @@ impl Counts {
             refused: Vec::new(alloc),
             noted: Vec::new(alloc),
         }
-    }
-
-    /// Returns how many records changed documents.
-    pub fn changed(&self) -> u64
-        ensures { result ≡ self.now.changes }
-    {
-        self.changed
-    }
-
-    /// Returns the records that were dropped, as one thing that was counted, if there are any.
-    pub fn dropped(&self) -> &[Tally]
-        ensures { result.now ≡ self.now.drops }
-    {
-        self.dropped.as_slice()
-    }
-
-    /// Returns the codes of the records that count as refused.
-    pub fn refused(&self) -> &[Tally]
-        ensures { result.now ≡ self.now.refusals }
-    {
-        self.refused.as_slice()
-    }
-
-    /// Returns the kinds of the notes.
-    pub fn noted(&self) -> &[Tally]
-        ensures { result.now ≡ self.now.noted }
-    {
-        self.noted.as_slice()
     }
 
     /// Counts a record with this number and these notes.

@@ -1,5 +1,5 @@
 -- `trace` beside `check` and `replay`.
-use Rattle.lsp_replay.proofs.Prelude.{◌≡◌, ℕ, Bool, true, false, List, [], ◌∷◌, ◌++◌, Option, Some, None, refl, sym, ap, ◌∙◌, Err, ◌&&◌, codes, decimal, flat_map, if◌then◌else◌, option_map, bytes_eq-Decides, reading, DocumentItem, ErrorCode, ParseError, entry_at, reply, IncomingData, incoming_of, BadLog, Record, Details, RunOutput, written_first, canonical_of_record, check_line, checking, code_word, followed_by, log_config, replaying, report_from, unless_bad, verdict_word, writes, run_output_in, Session, Verdict, answered, has_changed, bad, opened, Judged, judge, Known, known_after, nothing_known, uri_of, is_renamed, last_in, notes_of, body_json, document_after, id_json, id_of, is_json, json_string, member, method_of, notes_json, reason_json, side_word, text_json, trace_line, tracing, version_json, within, Line, TraceLaw, checked_line, is_document, traced_line, written_text, output_in, lines}
+use Rattle.lsp_replay.proofs.Prelude.{◌≡◌, ℕ, Bool, true, false, List, [], ◌∷◌, ◌++◌, Option, Some, None, refl, sym, ap, ◌∙◌, Err, ◌&&◌, codes, decimal, flat_map, if◌then◌else◌, option_map, bytes_eq-Decides, reading, DocumentItem, ErrorCode, ParseError, entry_at, reply, IncomingData, incoming_of, BadLog, Record, Details, RunOutput, written_first, canonical_of_record, change_in, check_line, checking, code_word, followed_by, log_config, replaying, report_from, unless_bad, verdict_word, writes, run_output_in, Session, Verdict, answered, has_changed, bad, opened, Judged, judge, Known, known_after, nothing_known, uri_of, is_renamed, last_in, notes_of, body_json, document_after, id_json, id_of, is_json, json_string, member, method_of, notes_json, reason_json, side_word, text_json, trace_line, tracing, version_json, within, Line, TraceLaw, checked_line, is_document, traced_line, written_text, output_in, lines}
 use Rattle.std.specs.Str.{bytes_eq}
 use Rattle.lsp_replay.proofs.Reports.MemberLemmas.{line_parts}
 use Rattle.lsp_replay.proofs.Records.TableLemmas.{record_keeps}
@@ -36,7 +36,7 @@ module _ (details : Details) (known : Known) (s : Session) (r : Record) (m : Inc
   abbrev between : List ℕ
   between =
       member (codes ",\"reason\":")
-      (reason_json j.session.server.config.limits m (is_renamed known uri j.verdict) j.verdict)
+      (reason_json j.session.server.config.limits (change_in m) (is_renamed known uri j.verdict) j.verdict)
       ++ member (codes ",\"last\":") (option_map decimal (last_in known uri j.verdict))
       ++ member (codes ",\"notes\":") (notes_json (notes_of s known.ranged r.body j.verdict))
       ++ member (codes ",\"version\":") (version_json document) ++ member (codes ",\"canonical\":")
@@ -66,7 +66,7 @@ module _ (details : Details) (known : Known) (s : Session) (r : Record) (m : Inc
       (member (codes ",\"uri\":") (option_map json_string uri))
       (codes ",\"word\":\"") (verdict_word j.verdict) (codes "\"")
       (member (codes ",\"reason\":")
-      (reason_json j.session.server.config.limits m (is_renamed known uri j.verdict) j.verdict))
+      (reason_json j.session.server.config.limits (change_in m) (is_renamed known uri j.verdict) j.verdict))
       (member (codes ",\"last\":") (option_map decimal (last_in known uri j.verdict)))
       (member (codes ",\"notes\":") (notes_json (notes_of s known.ranged r.body j.verdict)))
       (member (codes ",\"version\":") (version_json document))

@@ -1,5 +1,5 @@
 -- What an engine wrote where it came to the end of a log.
-use Rattle.lsp_replay.proofs.Prelude.{◌≡◌, ◌≢◌, ℕ, Bool, true, false, List, [], ◌∷◌, ◌++◌, length, Option, Some, None, inl, inr, refl, sym, ap, subst, ◌∙◌, append-nil, nat_lt, codes, ⊤, if◌then◌else◌, Result, Ok, Err, IfOk, Appends, Consumes, frame, AreInRange, Settings, Outcome, EngineFault, BadLog, BodyTooLong, AllRecords, Log, LogRules, IsReadAs, Record, RunOutput, Session, Verdict, bad, judge, opened, PortState, all_of, last_of, IsCause, IsObserved, RanOver, RecordOutput, writes, ends, followed_by, unless_bad, normalising, written, canonical_of_record, front_of, canonical_output, converting, line_before, reply_record, as_log, as_converted, log_config, canonical_log, converted, report, run_output_in, IsCanonicalLog, IsConverted, IsSquashed, Wrote, normalised, normalised_if, squashed, squashed_steps}
+use Rattle.lsp_replay.proofs.Prelude.{◌≡◌, ◌≢◌, ℕ, Bool, true, false, List, [], ◌∷◌, ◌++◌, length, Option, Some, None, inl, inr, refl, sym, ap, subst, ◌∙◌, append-nil, nat_lt, codes, ⊤, if◌then◌else◌, Result, Ok, Err, IfOk, Appends, Consumes, frame, AreInRange, Settings, Outcome, EngineFault, BadLog, BodyTooLong, AllRecords, Log, LogRules, IsReadAs, Record, RunOutput, Session, Verdict, bad, judge, opened, PortState, all_of, last_of, IsCause, IsObserved, RanOver, RecordOutput, writes, ends, followed_by, unless_bad, normalising, written, canonical_of_record, front_of, canonical_output, converting, line_before, reply_record, as_log, as_converted, log_config, canonical_log, converted, report, run_output_in, IsCanonicalLog, IsConverted, IsReported, IsSquashed, Wrote, normalised, normalised_if, squashed, squashed_steps}
 use Rattle.lsp_frame.proofs.DecisionLemmas.{decision_law}
 use Rattle.lsp_log.proofs.AllRecordsLemmas.{all_records_law}
 use Rattle.lsp_replay.proofs.Runs.AnswerLemmas.{due_last}
@@ -123,25 +123,24 @@ module _ (settings : Settings) (ranges : AreInRange settings.limits)
       → IsReadAs (as_log settings) end.input end.log
       → (g end.log.records).outcome ≡ (report settings end.log.records).outcome
       → Holds end.log.records (all_of g end.log)
-      → Wrote settings Holds left_old left_new received_old received_new outcome
+      → Wrote settings (IsReported settings Holds) left_old left_new received_old received_new outcome
   wrote_by log_rules g Holds outcome end reads same holds = record {
     input = end.input;
     read = end.read;
     log = end.log;
     reads = reads;
     whole = end.whole;
-    reports = end.reports ∙ same;
     bytes = all_of g end.log;
     wrote = end.wrote;
-    holds = holds;
+    holds = (end.reports ∙ same, holds);
   }
 
   pub wrote_normal : {state : PortState} (result : Result Outcome EngineFault)
       → RanOver (as_log settings) (canonical_log settings) state left_old left_new received_old received_new result
-      → IfOk result (Wrote settings (IsCanonicalLog settings) left_old left_new received_old received_new)
+      → IfOk result (Wrote settings (IsReported settings (IsCanonicalLog settings)) left_old left_new received_old received_new)
   wrote_normal {state} =
       at_the_end (as_log settings) (canonical_log settings) (normal_not_ok (opened (log_config settings)))
-      (Wrote settings (IsCanonicalLog settings) left_old left_new received_old received_new)
+      (Wrote settings (IsReported settings (IsCanonicalLog settings)) left_old left_new received_old received_new)
       (λ outcome end.
       let holds : IsCanonicalLog settings end.log.records (all_of (canonical_log settings) end.log) =
       canonical_log_law settings ranges end.input end.log end.reads end.whole end.continues in
@@ -150,10 +149,10 @@ module _ (settings : Settings) (ranges : AreInRange settings.limits)
 
   pub wrote_squashed : {state : PortState} (result : Result Outcome EngineFault)
       → RanOver (as_log settings) (squashed settings) state left_old left_new received_old received_new result
-      → IfOk result (Wrote settings (IsSquashed settings) left_old left_new received_old received_new)
+      → IfOk result (Wrote settings (IsReported settings (IsSquashed settings)) left_old left_new received_old received_new)
   wrote_squashed {state} =
       at_the_end (as_log settings) (squashed settings) (squashed_not_ok settings)
-      (Wrote settings (IsSquashed settings) left_old left_new received_old received_new)
+      (Wrote settings (IsReported settings (IsSquashed settings)) left_old left_new received_old received_new)
       (λ outcome end.
       let holds : IsSquashed settings end.log.records (all_of (squashed settings) end.log) =
       squashed_law settings ranges end.input end.log end.reads end.whole end.continues in
@@ -161,10 +160,10 @@ module _ (settings : Settings) (ranges : AreInRange settings.limits)
 
   pub wrote_converted : {state : PortState} (result : Result Outcome EngineFault)
       → RanOver (as_converted settings) (converted settings) state left_old left_new received_old received_new result
-      → IfOk result (Wrote settings (IsConverted settings) left_old left_new received_old received_new)
+      → IfOk result (Wrote settings (IsReported settings (IsConverted settings)) left_old left_new received_old received_new)
   wrote_converted {state} =
       at_the_end (as_converted settings) (converted settings) (converted_not_ok (opened (log_config settings)))
-      (Wrote settings (IsConverted settings) left_old left_new received_old received_new)
+      (Wrote settings (IsReported settings (IsConverted settings)) left_old left_new received_old received_new)
       (λ outcome end.
       let holds : IsConverted settings end.log.records (all_of (converted settings) end.log) =
       converted_law settings ranges end.input end.log end.reads end.whole end.continues in

@@ -1,7 +1,6 @@
 -- What `normalise` writes with squash: a series by its changes, and by the bytes that the code keeps of it.
-use Rattle.lsp_replay.proofs.Prelude.{◌≡◌, ℕ, Bool, true, false, List, [], ◌∷◌, ◌++◌, map, length, nat_lt, bytes_eq, Option, Some, None, refl, sym, ap, ◌∙◌, append-nil, if◌then◌else◌, flat_map, is_none, option_map, Err, flat_map-append, frame, reading, ChangeData, DocumentItem, SquashData, squash_frame, squash_refusal, Refusal, entry_at, change_parts, units_in, reply, changed, incoming_of, content_change_from_data, session_encoding, BodyTooLong, Record, RunOutput, written_first, RecordOutput, canonical_change_body, canonical_if, change_in, followed_by, ends, front_of, line_if, log_config, output_in, unless_bad, written, writes, Session, Verdict, answered, bad, judge, opened, session_outcome, SeriesChange, change_if, change_on, joined, series_after, series_written, squash_output, squashed, squashing, OpenSeries, Step, begun_on, end_bytes, faulty, joined_by, longer, open_bytes, squashed_in, squashed_steps, step_if}
+use Rattle.lsp_replay.proofs.Prelude.{◌≡◌, ℕ, Bool, true, false, List, [], ◌∷◌, ◌++◌, map, length, nat_lt, bytes_eq, Option, Some, None, refl, sym, ap, ◌∙◌, append-nil, if◌then◌else◌, flat_map, option_map, Err, flat_map-append, frame, reading, ChangeData, DocumentItem, SquashData, entry_at, change_parts, units_in, reply, changed, incoming_of, content_change_from_data, session_encoding, BodyTooLong, Record, RunOutput, written_first, RecordOutput, canonical_change_body, canonical_if, change_in, followed_by, ends, front_of, line_if, log_config, output_in, unless_bad, written, writes, Session, Verdict, answered, bad, judge, opened, session_outcome, SeriesChange, change_if, change_on, joined, series_after, series_written, squash_output, squashed, squashing, OpenSeries, Step, begun_on, end_bytes, faulty, joined_by, longer, open_bytes, squashed_in, squashed_steps, step_if}
 use Rattle.lsp_replay.proofs.Records.ChangeLemmas.{was_accepted}
-use Rattle.lsp_replay.specs.inside.Squashed as kept
 
 -- ---- a series
 
@@ -22,13 +21,7 @@ kept_of (first ∷ series) = Some (kept_series first series)
 
 series_is : (series : List SeriesChange) → series_written series ≡ end_bytes (kept_of series)
 series_is [] = refl
-series_is (first ∷ series) = by (squash_refusal (joined first.document (first ∷ series)))
-  where
-    by : (refusal : Option Refusal)
-        → (if is_none refusal then first.front ++ squash_frame (joined first.document (first ∷ series)) else
-        flat_map single_of (first ∷ series)) ≡ kept.open_written (kept_series first series) refusal
-    by None = refl
-    by (Some refusal) = refl
+series_is (first ∷ series) = refl
 
 joined_more : (squash : SquashData) (series : List SeriesChange) (c : SeriesChange) → joined squash (series ++ c ∷ [])
     ≡ joined_by c.change (joined squash series)

@@ -1,5 +1,5 @@
 -- What `normalise` writes of the records that stay: a log of which `replay` reports the same.
-use Rattle.lsp_replay.proofs.Prelude.{◌≡◌, ℕ, Bool, true, false, ◌||◌, List, [], ◌++◌, length, Option, None, refl, sym, ap, ◌∙◌, subst, Result, IfOk, AreInRange, EngineFault, Version, Record, Log, IsReadAs, AreRecords, is_line_due, line_of, together, Settings, Outcome, Kept, KeepsDocuments, WroteDocuments, documents, kept_records, nothing_selected, PortState, all_of, RanOver, as_log, canonical_log, log_config, report, IsCanonicalLog, IsSquashed, LeavesAlike, RunOutput, Session, opened, normalised_if, squashed, squashed_steps}
+use Rattle.lsp_replay.proofs.Prelude.{◌≡◌, ℕ, Bool, true, false, ◌||◌, List, [], ◌++◌, length, Option, None, refl, sym, ap, ◌∙◌, subst, Result, IfOk, AreInRange, EngineFault, Version, Record, Log, IsReadAs, AreRecords, is_line_due, line_of, together, Settings, Outcome, Kept, KeepsDocuments, Wrote, documents, kept_records, nothing_selected, PortState, all_of, RanOver, as_log, canonical_log, log_config, report, IsCanonicalLog, IsSquashed, LeavesAlike, RunOutput, Session, opened, normalised_if, squashed, squashed_steps}
 use Rattle.lsp_replay.specs.laws.Documents.{DocumentsLaw, DocumentsStopAlike}
 use Rattle.lsp_replay.proofs.Stay.KeptLogLemmas.{are_kept, each_located, kept_due, kept_stop, line_left, located_all, located_left, reported, squash_located}
 use Rattle.lsp_replay.proofs.Canonical.NormalisedLemmas.{canonical_log_law, version_is}
@@ -147,10 +147,10 @@ documents_not_ok settings rs =
 pub wrote_documents : (settings : Settings) (ranges : AreInRange settings.limits) {state : PortState}
     {left_old left_new received_old received_new : Option (List ℕ)} (result : Result Outcome EngineFault)
     → RanOver (as_log settings) (documents settings) state left_old left_new received_old received_new result
-    → IfOk result (WroteDocuments settings left_old left_new received_old received_new)
+    → IfOk result (Wrote settings (KeepsDocuments settings) left_old left_new received_old received_new)
 wrote_documents settings ranges {state} {left_old} {left_new} {received_old} {received_new} =
     at_the_end (as_log settings) (documents settings) (documents_not_ok settings)
-    (WroteDocuments settings left_old left_new received_old received_new)
+    (Wrote settings (KeepsDocuments settings) left_old left_new received_old received_new)
     (λ outcome end. record {
       input = end.input;
       read = end.read;
@@ -159,7 +159,7 @@ wrote_documents settings ranges {state} {left_old} {left_new} {received_old} {re
       whole = end.whole;
       bytes = all_of (documents settings) end.log;
       wrote = end.wrote;
-      keeps = subst (λ (o : Outcome). KeepsDocuments settings end.log.records o (all_of (documents settings) end.log))
+      holds = subst (λ (o : Outcome). KeepsDocuments settings end.log.records o (all_of (documents settings) end.log))
           (sym end.reports)
           (documents_law settings ranges end.input end.log end.reads end.whole end.continues);
     })

@@ -6,7 +6,7 @@ ghost use Rattle.lsp_text.specs.Units.{units_in};
 ghost use Rattle.lsp_edit.specs.Edited.{content_change};
 ghost use Rattle.lsp_replay.specs.Notes.{batch_notes, change_notes, end_notes, is_same, length_at, length_notes};
 ghost use Rattle.lsp_replay.specs.Notes.{range_notes, same_notes, taken_as, whole_notes};
-ghost use Rattle.lsp_replay.specs.inside.Noting.{terms_view};
+ghost use Rattle.lsp_replay.specs.inside.Verdicts.{terms_view};
 
 pub(crate) mod replaced;
 
