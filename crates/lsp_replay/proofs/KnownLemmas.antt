@@ -27,35 +27,17 @@ module _ (s : Session) (body : List ℕ) where
   ranged_at ranged version Server = refl
 
   -- a server's record opens, closes and refuses no document, and has no notes
-  no_mention : (change : Bool) (verdict : Verdict) → (verdict ≡ recorded) ⊎ (verdict ≡ bad) → is_mention change verdict
-      ≡ false
-  no_mention change verdict (inl e) = rw e refl
-  no_mention change verdict (inr e) = rw e refl
-
-  no_notes : (notes : List Note) (verdict : Verdict) → (verdict ≡ recorded) ⊎ (verdict ≡ bad) → notes_if notes verdict
-      ≡ []
-  no_notes notes verdict (inl e) = rw e refl
-  no_notes notes verdict (inr e) = rw e refl
-
   mention_at : (version : Version) (side : Sender) → is_mention (is_change_read (body_read version side body))
       (judge_from s version side body).verdict ≡ is_mention (is_change asked) (judge_from s version side body).verdict
   mention_at version Client = refl
-  mention_at version Server =
-      let announced = encoding_for s.expected (reading body) in
-      let heard = heard_as s announced in
-      no_mention false (judge_server s announced).verdict heard
-      ∙ sym (no_mention (is_change asked) (judge_server s announced).verdict heard)
+  mention_at version Server = grind (arith, common_steps, (heard_as s (encoding_for s.expected (reading body))))
 
   notes_at : (ranged : Bool) (version : Version) (side : Sender)
       → notes_if (notes_on_read s.server ranged (reading body) (body_read version side body))
       (judge_from s version side body).verdict ≡ notes_of s ranged body (judge_from s version side body).verdict
   notes_at ranged version Client = refl
   notes_at ranged version Server =
-      let announced = encoding_for s.expected (reading body) in
-      let heard = heard_as s announced in
-      no_notes [] (judge_server s announced).verdict heard
-      ∙ sym (no_notes (notes_on s.server ranged (lengths_of (reading body)) (notification_params (reading body)) asked)
-      (judge_server s announced).verdict heard)
+      grind (arith, common_steps, (heard_as s (encoding_for s.expected (reading body))))
 
 -- ---- a record, by what was read of it, what it is about, and what became of it
 

@@ -17,10 +17,8 @@ module _ {kept params : Option Data} where
       → ((method : List ℕ) → m ≡ other_notification method → is_save method ≡ true → kept ≡ params)
       → notes_on s ranged sent kept m ≡ notes_on s ranged lengths params m
   notes_same s ranged (did_open (Some p)) same is = refl
-  notes_same s ranged (did_open None) same is = refl
   notes_same s ranged (did_change (Some p)) same is =
       ap (λ (ls : List (Option ℕ)). changing_notes (terms_in s ranged ls) p (entry_at s.table p.uri)) (same p refl)
-  notes_same s ranged (did_change None) same is = refl
   notes_same s ranged (other_notification method) same is =
       if_same (is_save method) _ (λ saves. ap
       (λ p. saved_notes (option_and_then (entry_at s.table) (saved_uri p)) (saved_text p)) (is method refl saves))
