@@ -17,23 +17,13 @@ module _ (s : Session) (body : List ℕ) where
   ranged_at ranged version Client = refl
   ranged_at ranged version Server = refl
 
-  -- a server's record has no notes
-  no_notes : (notes : List Note) (verdict : Verdict) → (verdict ≡ recorded) ⊎ (verdict ≡ bad) → notes_if notes verdict
-      ≡ []
-  no_notes notes verdict (inl e) = rw e refl
-  no_notes notes verdict (inr e) = rw e refl
-
   notes_at : (ranged : Bool) (version : Version) (side : Sender)
       → notes_if (on_client [] (notes_on s.server ranged (lengths_of (reading body)) (notification_params (reading body)))
       (body_read version side body))
       (judge_from s version side body).verdict ≡ notes_of s ranged body (judge_from s version side body).verdict
   notes_at ranged version Client = refl
   notes_at ranged version Server =
-      let announced = encoding_for s.expected (reading body) in
-      let heard = heard_as s announced in
-      no_notes [] (judge_server s announced).verdict heard
-      ∙ sym (no_notes (notes_on s.server ranged (lengths_of (reading body)) (notification_params (reading body)) asked)
-      (judge_server s announced).verdict heard)
+      grind (arith, common_steps, (heard_as s (encoding_for s.expected (reading body))))
 
 -- ---- a record, by what was read of it, what it is about, and what became of it
 

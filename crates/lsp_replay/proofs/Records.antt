@@ -1,8 +1,6 @@
 -- What a record asks, and what becomes of it in a session.
 pub mod AskedLemmas
-pub mod ContentLemmas
 pub mod ReadLemmas
-pub mod TokenLemmas
 pub mod JudgeLemmas
 pub mod StateLemmas
 pub mod NumberedLemmas

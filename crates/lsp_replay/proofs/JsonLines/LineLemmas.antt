@@ -4,7 +4,7 @@ use Rattle.std.specs.Int.{w32}
 use Rattle.json.specs.Print.{escape_byte, quoted}
 use Rattle.lsp_replay.specs.Commands.{canonical_of_record, change_in, document_line, verdict_word}
 use Rattle.lsp_replay.specs.Trace.{body_json, document_after, id_json, id_of, is_json, json_string, member, method_of, notes_json, reason_json, side_word, text_json, trace_line, version_json, within}
-use Rattle.lsp_replay.proofs.JsonLines.FitLemmas.{IsBody, IsFit, canonical_json, document_fits, id_fits, judged_fits, last_fits, method_utf8, text_utf8, uri_utf8}
+use Rattle.lsp_replay.proofs.JsonLines.FitLemmas.{HasText, IsBody, IsFit, canonical_json, document_fits, id_fits, judged_fits, last_fits, method_utf8, text_utf8, uri_utf8}
 use Rattle.lsp_replay.proofs.JsonLines.PlainLemmas.{escape_plain, utf8_plain}
 use Rattle.lsp_replay.proofs.JsonLines.ReasonPlainLemmas.{plain_note, plain_reason_with, plain_side, plain_verdict}
 use Rattle.lsp_replay.proofs.JsonLines.StringLemmas.{are_visible}
@@ -34,7 +34,7 @@ an_id (text s) is = a_json_string s is
 a_version : (z : ℤ) → FitsSigned w32 z → IsValue (signed_decimal z) (integer z)
 a_version z h = let small = h.sfits in an_integer z (record { sfits = omega arith })
 
-text_if : (is_asked : Bool) (entry : Option DocumentItem) → OnSome (λ (e : DocumentItem). IsUtf8 e.text) entry
+text_if : (is_asked : Bool) (entry : Option DocumentItem) → OnSome HasText entry
     → IsValueIf (text_json is_asked entry) (text_value is_asked entry)
 text_if true (Some entry) is = a_json_string entry.text is
 text_if _ _ is = tt
@@ -156,52 +156,44 @@ module _ (limits : LimitsData) (ranges : AreInRange limits) (details : Details) 
   pub trace_json : IsJsonLine (trace_line details known s r j m) (trace_value details known s r j m)
   unfolding escape_byte
   trace_json =
-      let body = a_member_if (codes ",\"body\":") (codes "body") _ (body_json (details.bodies && is_json m) r.body)
-      (body_value (details.bodies && is_json m) r.body) _ (refl, refl)
-      (body_if (details.bodies && is_json m) r.body
+      let body = a_member_if (codes "body") _ (body_json (details.bodies && is_json m) r.body)
+      (body_value (details.bodies && is_json m) r.body) _ refl (body_if (details.bodies && is_json m) r.body
       (λ e. fit.body_json r.body (and_parts details.bodies (is_json m) e).1)) no_more in
-      let text = a_member_if (codes ",\"text\":") (codes "text") _
-      (text_json (details.texts && has_changed j.verdict) entry)
-      (text_value (details.texts && has_changed j.verdict) entry) _ (refl, refl)
+      let text = a_member_if (codes "text") _ (text_json (details.texts && has_changed j.verdict) entry)
+      (text_value (details.texts && has_changed j.verdict) entry) _ refl
       (text_if (details.texts && has_changed j.verdict) entry
       (text_utf8 limits j.session.server.table uri after.held.table)) body in
-      let with_canonical = a_member_if (codes ",\"canonical\":") (codes "canonical") _ canonical
-      (option_and_then document canonical) _ (refl, refl)
+      let with_canonical = a_member_if (codes "canonical") _ canonical (option_and_then document canonical) _ refl
       (canonical_if canonical (λ body e. canonical_json limits ranges s r body fits.held e)) text in
-      let version = a_member_if (codes ",\"version\":") (codes "version") _ (version_json entry)
-      (option_map (λ (e : DocumentItem). integer e.version) entry) _ (refl, refl)
+      let version = a_member_if (codes "version") _ (version_json entry)
+      (option_map (λ (e : DocumentItem). integer e.version) entry) _ refl
       (values_if (λ (e : DocumentItem). FitsSigned w32 e.version) (λ (e : DocumentItem). signed_decimal e.version)
       (λ (e : DocumentItem). integer e.version) (λ e is. a_version e.version is) entry
       (document_fits j.session.server.table uri after.versions)) with_canonical in
-      let notes = a_member_if (codes ",\"notes\":") (codes "notes") _
-      (notes_json (notes_of s known.ranged r.body j.verdict))
-      (notes_value (notes_of s known.ranged r.body j.verdict)) _ (refl, refl)
+      let notes = a_member_if (codes "notes") _ (notes_json (notes_of s known.ranged r.body j.verdict))
+      (notes_value (notes_of s known.ranged r.body j.verdict)) _ refl
       (notes_if (notes_of s known.ranged r.body j.verdict)) version in
-      let last = a_member_if (codes ",\"last\":") (codes "last") _ (option_map decimal (last_in known uri j.verdict))
-      (option_map natural (last_in known uri j.verdict)) _ (refl, refl)
+      let last = a_member_if (codes "last") _ (option_map decimal (last_in known uri j.verdict))
+      (option_map natural (last_in known uri j.verdict)) _ refl
       (values_if (λ n. n < 2 ^ 64) decimal natural a_natural (last_in known uri j.verdict)
       (last_fits known uri j.verdict fits.made fits.mentions)) notes in
-      let reason = a_member_if (codes ",\"reason\":") (codes "reason") _
+      let reason = a_member_if (codes "reason") _
       (reason_json j.session.server.config.limits (change_in m) (is_renamed known uri j.verdict) j.verdict)
-      (reason_value j.session.server.config.limits m (is_renamed known uri j.verdict) j.verdict) _ (refl, refl)
+      (reason_value j.session.server.config.limits m (is_renamed known uri j.verdict) j.verdict) _ refl
       (reason_if j.session.server.config.limits m (is_renamed known uri j.verdict) j.verdict) last in
-      let word = a_quoted (codes ",\"word\":") (codes "word") (verdict_word j.verdict) _ _ (refl, refl)
-      (plain_verdict j.verdict) reason in
-      let with_uri = a_member_if (codes ",\"uri\":") (codes "uri") _ (option_map json_string uri)
-      (option_map json.string uri) _ (refl, refl)
+      let word = a_quoted (codes "word") (verdict_word j.verdict) _ _ refl (plain_verdict j.verdict) reason in
+      let with_uri = a_member_if (codes "uri") _ (option_map json_string uri) (option_map json.string uri) _ refl
       (values_if IsUtf8 json_string json.string a_json_string uri (uri_utf8 r.head.side r.body)) word in
-      let id = a_member_if (codes ",\"id\":") (codes "id") _ (option_map id_json (id_of m))
-      (option_map id_value (id_of m)) _ (refl, refl)
+      let id = a_member_if (codes "id") _ (option_map id_json (id_of m)) (option_map id_value (id_of m)) _ refl
       (values_if IsProperId id_json id_value an_id (id_of m) (id_fits r.body)) with_uri in
-      let method = a_member_if (codes ",\"method\":") (codes "method") _ (option_map json_string (method_of m))
-      (option_map json.string (method_of m)) _ (refl, refl)
+      let method = a_member_if (codes "method") _ (option_map json_string (method_of m))
+      (option_map json.string (method_of m)) _ refl
       (values_if IsUtf8 json_string json.string a_json_string (method_of m) (method_utf8 r.body)) id in
-      let from = a_quoted (codes ",\"from\":") (codes "from") (side_word r.head.side) _ _ (refl, refl)
-      (plain_side r.head.side) method in
-      let offset = a_member (codes ",\"offset\":") (codes "offset") (decimal r.head.place) _ (natural r.head.place) _
-      (refl, refl) (a_natural r.head.place place) from in
-      let line = an_object (codes "{\"number\":") (codes "number") (decimal j.session.records) _
-      (natural j.session.records) _ refl refl (a_natural j.session.records after.records) offset in
+      let from = a_quoted (codes "from") (side_word r.head.side) _ _ refl (plain_side r.head.side) method in
+      let offset = a_member (codes "offset") (decimal r.head.place) _ (natural r.head.place) _
+      refl (a_natural r.head.place place) from in
+      let line = an_object (codes "number") (decimal j.session.records) _
+      (natural j.session.records) _ refl (a_natural j.session.records after.records) offset in
       subst (λ l. IsJsonLine l (trace_value details known s r j m))
       (sym (regroup (codes "{\"number\":") (decimal j.session.records) (codes ",\"offset\":") (decimal r.head.place)
       (codes ",\"from\":\"") (side_word r.head.side) (codes "\"")
@@ -212,23 +204,16 @@ module _ (limits : LimitsData) (ranges : AreInRange limits) (details : Details) 
 
 -- ---- the line of `replay`
 
-document_regroup : (a l b t c u d v e f : List ℕ) → (a ++ l ++ b ++ t ++ c ++ u ++ d ++ v ++ e) ++ f
-    ≡ a ++ (l ++ (b ++ (t ++ (c ++ (u ++ (d ++ (v ++ (e ++ f))))))))
-document_regroup a l b t c u d v e f = simp append_assoc
-
 pub document_json : (entry : DocumentItem) → IsProperDocument entry
     → IsJsonLine (document_line entry) (document_value entry)
 unfolding document_line escape_byte
 document_json entry proper =
-    let version = a_member (codes ",\"version\":") (codes "version") (signed_decimal entry.version) (codes "}\n")
-    (integer entry.version) json.no_members (refl, refl) (a_version entry.version proper.version) no_more in
-    let with_uri = a_member (codes ",\"uri\":") (codes "uri") (quoted entry.uri) _ (json.string entry.uri) _
-    (refl, refl) (a_string entry.uri proper.uri) version in
-    let with_text = a_member (codes ",\"text\":") (codes "text") (quoted entry.text) _ (json.string entry.text) _
-    (refl, refl) (a_string entry.text proper.text) with_uri in
-    subst (λ l. IsJsonLine l (document_value entry))
-    (sym (document_regroup (codes "{\"languageId\":") (quoted entry.language) (codes ",\"text\":") (quoted entry.text)
-    (codes ",\"uri\":") (quoted entry.uri) (codes ",\"version\":") (signed_decimal entry.version) (codes "}")
-    (codes "\n")))
-    (an_object (codes "{\"languageId\":") (codes "languageId") (quoted entry.language) _ (json.string entry.language) _
-    refl refl (a_string entry.language proper.language) with_text)
+    let version = a_member (codes "version") (signed_decimal entry.version) (codes "}\n")
+    (integer entry.version) json.no_members refl (a_version entry.version proper.version) no_more in
+    let with_uri = a_member (codes "uri") (quoted entry.uri) _ (json.string entry.uri) _
+    refl (a_string entry.uri proper.uri) version in
+    let with_text = a_member (codes "text") (quoted entry.text) _ (json.string entry.text) _
+    refl (a_string entry.text proper.text) with_uri in
+    let line = an_object (codes "languageId") (quoted entry.language) _
+    (json.string entry.language) _ refl (a_string entry.language proper.language) with_text in
+    simp append_assoc (simp append_assoc at line)

@@ -1,5 +1,5 @@
 -- Texts that need no escape in a JSON string, and texts without line breaks.
-use Rattle.lsp_replay.proofs.Prelude.{◌≡◌, inl, inr, ℕ, ℤ, pos, negsuc, zero, suc, ◌/◌, ◌%◌, ◌<◌, ◌≤◌, Bool, true, false, cond, ◌&&◌, ◌||◌, ◌==◌, List, [], ◌∷◌, ◌++◌, decimal, refl, sym, ap, ◌∙◌, arith, IsUtf8, if◌then◌else◌, nat_le, nat_lt, digit_char, list_all, and_from, and_parts, cases_Bool, eqb-false, eqb-true, le-leb, le-ltb, lt-ltb, ltb-false, ltb-true, ne_eqb, or_cases, list_all-append, are_ascii, IsUtf8-are_ascii, escape_byte_plain, comma_if, compact_text, items_text, members_text, number_text, common_steps}
+use Rattle.lsp_replay.proofs.Prelude.{◌≡◌, ◌⊎◌, inl, inr, cases_lt, ℕ, ℤ, pos, negsuc, zero, suc, ◌/◌, ◌%◌, ◌<◌, ◌≤◌, Bool, true, false, cond, ◌&&◌, ◌||◌, ◌==◌, List, [], ◌∷◌, ◌++◌, decimal, refl, sym, ap, ◌∙◌, arith, IsUtf8, if◌then◌else◌, nat_le, nat_lt, digit_char, list_all, and_from, and_parts, cases_Bool, eqb-false, eqb-true, le-leb, le-ltb, lt-ltb, ltb-false, ltb-true, ne_eqb, or_cases, list_all-append, are_ascii, IsUtf8-are_ascii, escape_byte_plain, comma_if, compact_text, items_text, members_text, number_text, common_steps}
 use Rattle.std.specs.Fmt.{digit_glyph, digits, digits_onto, signed_decimal}
 use Rattle.std.proofs.Math.Nat.{mod-lt}
 use Rattle.json.specs.Run.{is_plain}
@@ -28,26 +28,37 @@ record IsPlainByte (x : ℕ) : Type 0 where
 plain_byte : (x : ℕ) → is_ascii_plain x ≡ true → IsPlainByte x
 plain_byte x both = grind (arith, common_steps, and_parts, eqb-false, ltb-false)
 
-pub escape_plain : (s : List ℕ) → IsPlain s → escape s ≡ s
-escape_plain [] h = refl
-escape_plain (x ∷ s) h =
+-- such a text is written in a JSON string as it is, and has no line break
+record IsPlainText (s : List ℕ) : Type 0 where
+  escaped : escape s ≡ s
+  ascii : are_ascii s ≡ true
+  visible : are_visible s ≡ true
+
+plain_text : (s : List ℕ) → IsPlain s → IsPlainText s
+plain_text [] h = record { escaped = refl; ascii = refl; visible = refl }
+plain_text (x ∷ s) h =
     let both = and_parts (is_ascii_plain x) (list_all is_ascii_plain s) h in
     let byte = plain_byte x both.0 in
-    ap (λ l. l ++ escape s) (escape_byte_plain x byte.quote byte.backslash byte.high)
-    ∙ ap (λ l. x ∷ l) (escape_plain s both.1)
+    let more = plain_text s both.1 in
+    record {
+      escaped = ap (λ l. l ++ escape s) (escape_byte_plain x byte.quote byte.backslash byte.high)
+          ∙ ap (λ l. x ∷ l) more.escaped;
+      ascii = and_from (nat_lt x 128) (are_ascii s) (and_parts (is_plain x) (nat_lt x 128) both.0).1 more.ascii;
+      visible = one_visible x s byte.high more.visible;
+    }
+
+pub escape_plain : (s : List ℕ) → IsPlain s → escape s ≡ s
+escape_plain s h = let is = plain_text s h in is.escaped
+
+pub utf8_plain : (s : List ℕ) → IsPlain s → IsUtf8 s
+utf8_plain s h = let is = plain_text s h in IsUtf8-are_ascii s is.ascii
+
+visible_plain : (s : List ℕ) → IsPlain s → are_visible s ≡ true
+visible_plain s h = let is = plain_text s h in is.visible
 
 -- a plain text between quotation marks is a string
 pub quoted_plain : (s : List ℕ) → IsPlain s → 34 ∷ (s ++ 34 ∷ []) ≡ quoted s
 quoted_plain s h = ap (λ l. 34 ∷ (l ++ 34 ∷ [])) (sym (escape_plain s h))
-
-ascii_plain : (s : List ℕ) → IsPlain s → are_ascii s ≡ true
-ascii_plain [] h = refl
-ascii_plain (x ∷ s) h =
-    let both = and_parts (is_ascii_plain x) (list_all is_ascii_plain s) h in
-    and_from (nat_lt x 128) (are_ascii s) (and_parts (is_plain x) (nat_lt x 128) both.0).1 (ascii_plain s both.1)
-
-pub utf8_plain : (s : List ℕ) → IsPlain s → IsUtf8 s
-utf8_plain s h = IsUtf8-are_ascii s (ascii_plain s h)
 
 -- ---- digits
 
@@ -76,13 +87,6 @@ plain_signed (pos n) = plain_decimal n
 plain_signed (negsuc n) = plain_decimal (suc n)
 
 -- ---- texts without line breaks
-
-pub visible_plain : (s : List ℕ) → IsPlain s → are_visible s ≡ true
-visible_plain [] h = refl
-visible_plain (x ∷ s) h =
-    let both = and_parts (is_ascii_plain x) (list_all is_ascii_plain s) h in
-    let byte = plain_byte x both.0 in
-    and_from (nat_le 32 x) (are_visible s) (le-leb 32 x byte.high) (visible_plain s both.1)
 
 either_visible : (b : Bool) (x y : List ℕ) → (b ≡ true → are_visible x ≡ true) → (b ≡ false → are_visible y ≡ true)
     → are_visible (cond b x y) ≡ true

@@ -7,7 +7,7 @@ use Rattle.lsp_store.specs.declared.fault.StoreFault.TheVariants.{TooManyDocumen
 use Rattle.lsp_server.specs.Codes.{server_refusal_code}
 use Rattle.lsp_server.specs.declared.answer.Refusal.{Refusal}
 use Rattle.lsp_server.specs.declared.answer.Refusal.TheVariants.{InvalidParams as BadParams, Store}
-use Rattle.lsp_replay.specs.declared.notes.Note.TheVariants.{OldVersion, WholeText, PastEnd, WrongLength, SameText, OtherSaved}
+use Rattle.lsp_replay.specs.declared.notes.Note.TheVariants.{LoneReturn, NoChanges, OpenAlready}
 use Rattle.lsp_replay.proofs.JsonLines.PlainLemmas.{IsPlain, either_plain, is_ascii_plain, plain-append, plain_decimal, plain_signed}
 
 -- ---- the word of an answer
@@ -98,11 +98,7 @@ plain_past : (sent taken : Position) → IsPlain (past_words sent taken)
 plain_past sent taken = either_plain (sent.line == taken.line) _ _ refl refl
 
 pub plain_note : (note : Note) → IsPlain (note_words note)
-plain_note (OldVersion sent current) = simp (list_all-append is_ascii_plain, plain_signed)
-plain_note (WholeText index) = simp (list_all-append is_ascii_plain, plain_decimal)
-plain_note (PastEnd index side sent taken) =
-    simp (list_all-append is_ascii_plain, plain_decimal, plain_from side, plain_past sent taken)
-plain_note (WrongLength index sent replaced characters) = simp (list_all-append is_ascii_plain, plain_decimal)
-plain_note (SameText index) = simp (list_all-append is_ascii_plain, plain_decimal)
-plain_note (OtherSaved line) = simp (list_all-append is_ascii_plain, plain_decimal)
-plain_note _ = refl
+plain_note OpenAlready = refl
+plain_note LoneReturn = refl
+plain_note NoChanges = refl
+plain_note _ = simp (list_all-append is_ascii_plain, plain_decimal, plain_signed, plain_from, plain_past)

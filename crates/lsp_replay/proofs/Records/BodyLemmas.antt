@@ -3,7 +3,7 @@ use Rattle.lsp_replay.proofs.Prelude.{◌≡◌, ◌⊎◌, inl, inr, ℕ, Bool,
 use Rattle.lsp_replay.specs.inside.Bodies.{BodyData, IsReceived, from_client, from_server, body_read, change_of, judge_read}
 use Rattle.lsp_replay.proofs.Canonical.CanonicalLogLemmas.{heard_as}
 use Rattle.lsp_replay.proofs.Records.JudgeLemmas.{asks_change}
-use Rattle.lsp_replay.proofs.Squash.JoiningLemmas.{early, idle}
+use Rattle.lsp_replay.proofs.Records.ChangeLemmas.{accepts}
 
 -- ---- a record is judged as its bytes are
 
@@ -75,37 +75,28 @@ accepted_read s head body read is =
     ap (λ (b : BodyData). accepted_if (change_of b) (judge_read s b).verdict) is
     ∙ accepted_in s head.version head.side body
 
--- a change that isn't received isn't accepted
-module _ (s : Session) (version : Version) (p : ChangeData) where
-  unless_received : (phase : Phase) → s.server.phase ≡ phase → (expected : Option IdData) → s.expected ≡ expected
-      → (s.server.phase ≡ Running → s.expected ≡ None → ⊥)
-      → accepted_if (Some p) (judge_client s version (did_change (Some p))).verdict ≡ None
-  unless_received Running at None waits never = absurd (never at waits)
-  unless_received Running at (Some id) waits never =
-      early s version p (λ (e : s.expected ≡ None). let wrong : None ≡ Some id = sym e ∙ waits in cc)
-  unless_received it at expected waits never =
-      idle s version p (λ (e : s.server.phase ≡ Running). let wrong : it ≡ Running = sym at ∙ e in cc)
-
-module _ (s : Session) (read : BodyData) (never : (p : ChangeData) → IsReceived s read p → ⊥) where
-  pub not_accepted : accepted_if (change_of read) (judge_read s read).verdict ≡ None
-  not_accepted = by (change_of read) refl
-    where
-      by : (change : Option ChangeData) → change_of read ≡ change
-          → accepted_if (change_of read) (judge_read s read).verdict ≡ None
-      by None is = ap (λ (change : Option ChangeData). accepted_if change (judge_read s read).verdict) is
-      by (Some p) is =
-          let asked = asked_in read p is in
-          ap (λ (b : BodyData). accepted_if (change_of b) (judge_read s b).verdict) asked.1
-          ∙ unless_received s asked.0 p s.server.phase refl s.expected refl
-          (λ running known. never p (record { is = is; running = running; known = known }))
-
--- what a change that is accepted is, and its canonical body
+-- what a change that is accepted is
 pub accepted_is : (change : Option ChangeData) (verdict : Verdict) (p : ChangeData)
     → accepted_if change verdict ≡ Some p → (change ≡ Some p) × (verdict ≡ answered changed)
 accepted_is (Some q) (answered changed) p e =
     let some : Some q ≡ Some p = e in let same : q ≡ p = cc in (ap Some same, refl)
 accepted_is _ _ p e = absurd (let wrong : None ≡ Some p = e in cc)
 
+-- a change that isn't received isn't accepted
+module _ (s : Session) (read : BodyData) (never : (p : ChangeData) → IsReceived s read p → ⊥) where
+  pub not_accepted : accepted_if (change_of read) (judge_read s read).verdict ≡ None
+  not_accepted = by (accepted_if (change_of read) (judge_read s read).verdict) refl
+    where
+      by : (found : Option ChangeData) → accepted_if (change_of read) (judge_read s read).verdict ≡ found → found ≡ None
+      by None e = refl
+      by (Some p) e =
+          let is = accepted_is (change_of read) (judge_read s read).verdict p e in
+          let asked = asked_in read p is.0 in
+          let at = accepts s asked.0 p s.server.phase refl s.expected refl
+          (ap (λ (b : BodyData). (judge_read s b).verdict) (sym asked.1) ∙ is.1) in
+          absurd (never p (record { is = is.0; running = at.0; known = at.1 }))
+
+-- its canonical body
 abbrev pub body_of : ServerData → Option ChangeData → Option (List ℕ)
 body_of server None = None
 body_of server (Some p) = Some (canonical_change_body server p)

@@ -27,17 +27,6 @@ not_recorded e = cc
 pub kind_of : (server : ServerData) (r : Record) (front : List ℕ) (series : Option OpenSeries) (change : Option
     ChangeData)
     (verdict : Verdict) → (step_if server r front series change verdict).end ≡ None → IsKind server change verdict
-kind_of server r front series None bad e = absurd (let wrong : Some (Err (BadLog r.head.place)) ≡ None = e in cc)
-kind_of server r front series (Some p) bad e = absurd (let wrong : Some (Err (BadLog r.head.place)) ≡ None = e in cc)
-kind_of server r front series None recorded e = inl (not_recorded, refl)
-kind_of server r front series (Some p) recorded e = inl (not_recorded, refl)
-kind_of server r front series None (answered answer) e = inl (not_bad answer, refl)
-kind_of server r front series (Some p) (answered (reply m)) e = inl (not_bad (reply m), refl)
-kind_of server r front series (Some p) (answered dropped) e = inl (not_bad dropped, refl)
-kind_of server r front series (Some p) (answered ignored) e = inl (not_bad ignored, refl)
-kind_of server r front series (Some p) (answered already_ended) e = inl (not_bad already_ended, refl)
-kind_of server r front series (Some p) (answered (refused why)) e = inl (not_bad (refused why), refl)
-kind_of server r front series (Some p) (answered (exits status)) e = inl (not_bad (exits status), refl)
 kind_of server r front series (Some p) (answered changed) e =
     inr (
       p,
@@ -51,14 +40,18 @@ kind_of server r front series (Some p) (answered changed) e =
         (front ++ frame (canonical_change_body server p)) series).end ≡ None → over ≡ false
     short true f = absurd (let wrong : Some (Err (BodyTooLong r.head.place)) ≡ None = f in cc)
     short false f = refl
+kind_of server r front series _ bad e = absurd (let wrong : Some (Err (BadLog r.head.place)) ≡ None = e in cc)
+kind_of server r front series _ recorded e = inl (not_recorded, refl)
+kind_of server r front series _ (answered answer) e = inl (not_bad answer, refl)
 
 -- neither is bad
 pub not_bad_of : (server : ServerData) (r : Record) (front : List ℕ) (series : Option OpenSeries) (change : Option
     ChangeData) (verdict : Verdict) → (step_if server r front series change verdict).end ≡ None → verdict ≢ bad
-not_bad_of server r front series None bad e = absurd (let wrong : Some (Err (BadLog r.head.place)) ≡ None = e in cc)
-not_bad_of server r front series (Some p) bad e = absurd (let wrong : Some (Err (BadLog r.head.place)) ≡ None = e in cc)
-not_bad_of server r front series change recorded e = not_recorded
-not_bad_of server r front series change (answered answer) e = not_bad answer
+not_bad_of server r front series change verdict e is = by (kind_of server r front series change verdict e)
+  where
+    by : IsKind server change verdict → ⊥
+    by (inl other) = other.0 is
+    by (inr kind) = let wrong : answered changed ≡ bad = sym kind.2 ∙ is in cc
 
 -- ---- an accepted change
 
@@ -74,14 +67,15 @@ pub record IsAccepted (s : Session) (r : Record) (p : ChangeData) : Type 0 where
   pub may : refusal_of s.server p ≡ None
 
 module _ (s : Session) (version : Version) (p : ChangeData) where
-  runs : (phase : Phase) → s.server.phase ≡ phase → (expected : Option IdData) → s.expected ≡ expected
+  -- only a running server accepts it
+  pub accepts : (phase : Phase) → s.server.phase ≡ phase → (expected : Option IdData) → s.expected ≡ expected
       → (judge_client s version (did_change (Some p))).verdict ≡ answered changed
       → (s.server.phase ≡ Running) × (s.expected ≡ None)
-  runs Running is None none e = (is, none)
-  runs New is None none e = absurd (let wrong = rw (is, none) at e in cc)
-  runs Down is (Some id) some e = absurd (let wrong = rw (is, some) at e in cc)
-  runs Ended is expected waits e = absurd (let wrong = rw is at e in cc)
-  runs _ is _ it e = absurd (let wrong = rw (is, it) at e in cc)
+  accepts Running is None none e = (is, none)
+  accepts New is None none e = absurd (let wrong = rw (is, none) at e in cc)
+  accepts Down is (Some id) some e = absurd (let wrong = rw (is, some) at e in cc)
+  accepts Ended is expected waits e = absurd (let wrong = rw is at e in cc)
+  accepts _ is _ it e = absurd (let wrong = rw (is, it) at e in cc)
 
 -- what it is that a record is accepted for
 pub was_accepted : (s : Session) (r : Record) (p : ChangeData) → change_in (incoming_of (reading r.body)) ≡ Some p
@@ -102,7 +96,7 @@ was_accepted s r p is error = by r.head.side refl
         let told_here : (judge_client s r.head.version (did_change (Some p))).verdict ≡ answered changed =
         ap (λ x. (judge_client s r.head.version x).verdict) (sym asks)
         ∙ ap (λ side. (judge_from s r.head.version side r.body).verdict) (sym client) ∙ error in
-        let where_it_runs = runs s r.head.version p s.server.phase refl s.expected refl told_here in
+        let where_it_runs = accepts s r.head.version p s.server.phase refl s.expected refl told_here in
         record {
           side = client;
           asks = asks;

@@ -40,26 +40,21 @@ judged_held limits s r received = from_held limits s r.head.version r.head.side 
 
 -- ---- the record of an accepted change
 
-record IsNormalCase (server : ServerData) (m : IncomingData) (verdict : Verdict) (body : List ℕ) : Type 0 where
-  change : ChangeData
-  asks : m ≡ did_change (Some change)
-  error : verdict ≡ answered changed
-  is : body ≡ canonical_change_body server change
+pub record IsNormalCase (server : ServerData) (m : IncomingData) (verdict : Verdict) (body : List ℕ) : Type 0 where
+  pub change : ChangeData
+  pub asks : m ≡ did_change (Some change)
+  pub error : verdict ≡ answered changed
+  pub is : body ≡ canonical_change_body server change
 
 pub asks_change : (m : IncomingData) (p : ChangeData) → change_in m ≡ Some p → m ≡ did_change (Some p)
 asks_change (did_change params) p e = ap did_change e
 asks_change m p e = absurd (let wrong : None ≡ Some p = e in cc)
 
-by_change : (server : ServerData) (m : IncomingData) (change : Option ChangeData) (verdict : Verdict) (body : List ℕ)
-    → ((p : ChangeData) → change ≡ Some p → m ≡ did_change (Some p)) → canonical_if server change verdict ≡ Some body
-    → IsNormalCase server m verdict body
-by_change server m (Some p) (answered changed) body asks e =
-    record { change = p; asks = asks p refl; error = refl; is = let same : Some body ≡ Some _ = sym e in cc }
-by_change server m change verdict body asks e = absurd (let wrong : None ≡ Some body = e in cc)
-
-case_of : (server : ServerData) (m : IncomingData) (verdict : Verdict) (body : List ℕ)
+pub case_of : (server : ServerData) (m : IncomingData) (verdict : Verdict) (body : List ℕ)
     → canonical_if server (change_in m) verdict ≡ Some body → IsNormalCase server m verdict body
-case_of server m verdict body = by_change server m (change_in m) verdict body (asks_change m)
+case_of server (did_change (Some p)) (answered changed) body e =
+    record { change = p; asks = refl; error = refl; is = let same : Some body ≡ Some _ = sym e in cc }
+case_of server _ _ body e = absurd (let wrong : None ≡ Some body = e in cc)
 
 -- ---- the canonical body is judged as the change was
 

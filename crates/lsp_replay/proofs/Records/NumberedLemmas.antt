@@ -18,29 +18,24 @@ abbrev AreAlike : Judged → Judged → Type 0
 AreAlike j k = (k.verdict ≡ j.verdict) × IsAlike j.session k.session
 
 module _ (n m : ℕ) where
-  alike_if : (b : Bool) (x y a c : Judged) → AreAlike x a → AreAlike y c
-      → AreAlike (if b then x else y) (if b then a else c)
-  alike_if true x y a c p q = p
-  alike_if false x y a c p q = q
-
   alike_server : (s : Session) (announced : Option (Option Encoding))
       → AreAlike (judge_server s announced) (judge_server (numbered n m s) announced)
   alike_server s (Some None) = (refl, (n, m, refl))
   alike_server s _ = (refl, (n, m, refl))
 
-  alike_incoming : (s : Session) (version : Version) (x : IncomingData) → AreAlike (judge_client s version x)
-      (judge_client (numbered n m s) version x)
-  alike_incoming s version x =
-      let step = step_on s.server x in
-      alike_if (is_ended s.server.phase) (judged bad s) (if is_early s x then judged bad s else handled s version x
-      step.state (as_sent step.answer))
-      (judged bad (numbered n m s)) (if is_early s x then judged bad (numbered n m s) else handled (numbered n m s)
-      version x step.state (as_sent step.answer)) (refl, (n, m, refl))
-      (alike_if (is_early s x) (judged bad s) (handled s version x step.state (as_sent step.answer))
-      (judged bad (numbered n m s)) (handled (numbered n m s) version x step.state (as_sent step.answer)) (
-        refl,
-        (n, m, refl),
-      ) (refl, (n, (handled (numbered n m s) version x step.state (as_sent step.answer)).session.messages, refl)))
+  module _ (s : Session) (version : Version) (x : IncomingData) where
+    abbrev answered_by : Session → Judged
+    answered_by t = handled t version x (step_on s.server x).state (as_sent (step_on s.server x).answer)
+
+    abbrev judged_by : Bool → Bool → Session → Judged
+    judged_by ended early t = if ended then judged bad t else if early then judged bad t else answered_by t
+
+    alike_by : (ended early : Bool) → AreAlike (judged_by ended early s) (judged_by ended early (numbered n m s))
+    alike_by false false = (refl, (n, (answered_by (numbered n m s)).session.messages, refl))
+    alike_by _ _ = (refl, (n, m, refl))
+
+    alike_incoming : AreAlike (judge_client s version x) (judge_client (numbered n m s) version x)
+    alike_incoming = alike_by (is_ended s.server.phase) (is_early s x)
 
   alike_from : (s : Session) (version : Version) (side : Sender) (body : List ℕ)
       → AreAlike (judge_from s version side body) (judge_from (numbered n m s) version side body)

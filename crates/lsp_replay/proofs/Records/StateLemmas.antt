@@ -1,13 +1,35 @@
 -- What a server holds: texts in UTF-8, and within its limit.
-use Rattle.lsp_replay.proofs.Prelude.{◌≡◌, ◌≤◌, Bool, true, false, List, map, length, Option, Some, None, refl, if◌then◌else◌, nat_lt, nat_le, ltb-false, LimitsData, units_in, DocumentItem, ChangeData, Refusal, already_open, too_many_documents, text_too_long, after_close, is_taken, open_refusal, change_refusal, close_refusal, unless_refused, AllWithin, within_end, within_change, within_close, Phase, New, Running, Down, Ended, IncomingData, not_json, not_a_message, response, initialize, shutdown, other_request, exit, did_open, did_change, did_close, other_notification, ServerData, step_in, step_on, result_step, content_change_from_data, session_encoding, arith, common_steps}
-use Rattle.lsp_replay.proofs.Records.ReadLemmas.{OnSome}
-use Rattle.lsp_replay.proofs.Records.AskedLemmas.{IsProperAsked, IsTextOpened, IsProperIncoming}
+use Rattle.lsp_replay.proofs.Prelude.{◌≡◌, ◌≤◌, List, map, length, Option, Some, None, Ok, refl, ltb-false, LimitsData, Encoding, units_in, OutgoingData, DocumentItem, ChangeData, CloseData, Store, Refusal, refusal_fault, after_close, after_open, close_refusal, open_refusal, table_after, unless_refused, AllWithin, within_end, within_change, within_close, Phase, New, Running, Down, AnswerData, refused, IncomingData, not_json, initialize, did_open, did_change, did_close, ServerData, change_command, step_in, step_on, result_step, content_change_from_data, session_encoding, refusal_of, common_steps, arith}
+use Rattle.lsp_server.specs.Step.{Step}
+use Rattle.lsp_replay.proofs.Records.AskedLemmas.{IsProperIncoming}
 
--- ---- commands
+-- ---- a step
 
-opened_short : (limits : LimitsData) (table : List DocumentItem) (entry : DocumentItem)
-    → open_refusal limits table entry ≡ None → length entry.text ≤ limits.max_text
-opened_short limits table entry e = grind (arith, common_steps, ltb-false)
+-- What holds of a step that leaves the documents, and of one that obeys, holds of any.
+module _ (s : ServerData) (P : IncomingData → Step → Type 0)
+    (same : (m : IncomingData) (answer : AnswerData OutgoingData) (phase : Phase) (encoding : Option Encoding)
+    → P m (record { answer = answer; state = record s { phase = phase; encoding = encoding } }))
+    (opens : (p : DocumentItem) → open_refusal s.config.limits s.table p ≡ None
+    → P (did_open (Some p)) (result_step s (Ok (after_open s.table p))))
+    (changes : (p : ChangeData) → refusal_of s p ≡ None
+    → P (did_change (Some p)) (result_step s (Ok (table_after s.table (change_command s p)))))
+    (closes : (p : CloseData) → close_refusal s.table p.uri ≡ None
+    → P (did_close (Some p)) (result_step s (Ok (after_close s.table p.uri)))) where
+  obeyed : (m : IncomingData) (refusal : Option Refusal) (next : List DocumentItem)
+      → (refusal ≡ None → P m (result_step s (Ok next))) → P m (result_step s (unless_refused refusal next))
+  obeyed m None next goes = goes refl
+  obeyed m (Some refusal) next goes = same m (refused (Store (refusal_fault refusal))) s.phase s.encoding
+
+  pub step_by : (phase : Phase) (m : IncomingData) → P m (step_in phase s m)
+  step_by New (initialize id None) = same _ _ _ _
+  step_by Running (did_open (Some p)) =
+      obeyed (did_open (Some p)) (open_refusal s.config.limits s.table p) (after_open s.table p) (opens p)
+  step_by Running (did_change (Some p)) =
+      obeyed (did_change (Some p)) (refusal_of s p) (table_after s.table (change_command s p)) (changes p)
+  step_by Running (did_close (Some p)) =
+      obeyed (did_close (Some p)) (close_refusal s.table p.uri) (after_close s.table p.uri) (closes p)
+  step_by Down not_json = same _ _ _ _
+  step_by _ _ = same _ _ _ _
 
 -- ---- a server
 
@@ -16,50 +38,25 @@ pub record IsHeldState (limits : LimitsData) (s : ServerData) : Type 0 where
   pub limit : s.config.limits ≡ limits
   pub table : AllWithin limits s.table
 
-obeyed_held : (limits : LimitsData) (s : ServerData) (refusal : Option Refusal) (next : List DocumentItem)
-    → IsHeldState limits s → (refusal ≡ None → AllWithin limits next)
-    → IsHeldState limits (result_step s (unless_refused refusal next)).state
-obeyed_held limits s None next received buffer = record { limit = received.limit; table = buffer refl }
-obeyed_held limits s (Some refusal) next received buffer = received
-
-open_step : (limits : LimitsData) (s : ServerData) (params : Option DocumentItem) → OnSome IsTextOpened params
-    → IsHeldState limits s → IsHeldState limits (step_in Running s (did_open params)).state
-open_step limits s None proper received = received
-open_step limits s (Some p) proper received =
-    obeyed_held limits s (open_refusal s.config.limits s.table p) _ received
-    (λ e.
-    let none : open_refusal limits s.table p ≡ None = rw received.limit at e in
-    within_end limits s.table _ received.table (record { utf8 = proper; short = opened_short limits s.table p none }))
-
-change_step : (limits : LimitsData) (s : ServerData) (params : Option ChangeData) → OnSome IsProperAsked params
-    → IsHeldState limits s → IsHeldState limits (step_in Running s (did_change params)).state
-change_step limits s None proper received = received
-change_step limits s (Some p) proper received =
-    obeyed_held limits s (change_refusal s.config.limits (units_in (session_encoding s)) s.table p.uri p.version
-    (map content_change_from_data p.changes)) _ received
-    (λ e.
-    let none : change_refusal limits (units_in (session_encoding s)) s.table p.uri p.version
-    (map content_change_from_data p.changes) ≡ None = rw received.limit at e in
-    within_change limits (units_in (session_encoding s)) s.table p.uri p.version
-    (map content_change_from_data p.changes)
-    proper.texts received.table none)
+opened_short : (limits : LimitsData) (table : List DocumentItem) (entry : DocumentItem)
+    → open_refusal limits table entry ≡ None → length entry.text ≤ limits.max_text
+opened_short limits table entry e = grind (arith, common_steps, ltb-false)
 
 -- A step keeps it.
-step_held : (limits : LimitsData) (phase : Phase) (s : ServerData) (m : IncomingData) → IsProperIncoming m
-    → IsHeldState limits s → IsHeldState limits (step_in phase s m).state
-step_held limits New s exit proper received = record { limit = received.limit; table = received.table }
-step_held limits New s (initialize id (Some offers)) proper received =
-    record { limit = received.limit; table = received.table }
-step_held limits Running s exit proper received = record { limit = received.limit; table = received.table }
-step_held limits Running s (shutdown id) proper received = record { limit = received.limit; table = received.table }
-step_held limits Running s (did_open params) proper received = open_step limits s params proper received
-step_held limits Running s (did_change params) proper received = change_step limits s params proper received
-step_held limits Running s (did_close (Some p)) proper received =
-    obeyed_held limits s (close_refusal s.table p.uri) _ received
-    (λ e. within_close limits s.table p.uri received.table)
-step_held limits Down s exit proper received = record { limit = received.limit; table = received.table }
-step_held limits _ s _ proper received = received
-
 pub step_on_held : (limits : LimitsData) (s : ServerData) (m : IncomingData) → IsProperIncoming m → IsHeldState limits s
     → IsHeldState limits (step_on s m).state
-step_on_held limits s m proper received = step_held limits s.phase s m proper received
+step_on_held limits s m proper received =
+    step_by s (λ m step. IsProperIncoming m → IsHeldState limits step.state)
+    (λ m answer phase encoding is. record { limit = received.limit; table = received.table })
+    (λ p may is. record {
+      limit = received.limit;
+      table = within_end limits s.table p received.table
+          (record { utf8 = is.text; short = opened_short limits s.table p (rw received.limit at may) });
+    })
+    (λ p may is. record {
+      limit = received.limit;
+      table = within_change limits (units_in (session_encoding s)) s.table p.uri p.version
+          (map content_change_from_data p.changes) is.texts received.table (rw received.limit at may);
+    })
+    (λ p may is. record { limit = received.limit; table = within_close limits s.table p.uri received.table })
+    s.phase m proper

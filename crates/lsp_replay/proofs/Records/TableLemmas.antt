@@ -2,6 +2,7 @@
 use Rattle.lsp_replay.proofs.Prelude.{◌≡◌, ℕ, Bool, true, false, List, [], ◌∷◌, ◌++◌, map, Option, Some, None, bytes_eq, refl, sym, ap, ◌∙◌, ℤ, ◌&&◌, if◌then◌else◌, bytes_eq-Decides, units_in, ContentChange, reading, DocumentItem, as_sent, Phase, New, Running, Down, Ended, IncomingData, incoming_of, not_json, not_a_message, response, initialize, shutdown, other_request, exit, did_open, did_change, did_close, other_notification, Sender, Client, Server, Version, Record, Session, Judged, answered, bad, has_changed, judged, handled, is_ended, is_early, judge, judge_from, judge_client, encoding_for, uri_of, is_document, arith, common_steps}
 use Rattle.lsp_store.specs.Table.{Refusal, entry_at, changed, after_open, after_change, after_close, close_refusal, change_refusal, open_refusal, unless_refused}
 use Rattle.lsp_server.specs.Step.{ServerData, Step, step_in, step_on, result_step, content_change_from_data, session_encoding}
+use Rattle.lsp_replay.proofs.Records.StateLemmas.{step_by}
 use Rattle.lsp_replay.proofs.Reports.KeptLemmas.{heard_table}
 
 -- ---- another document
@@ -43,28 +44,11 @@ Touches uri side m step = has_changed (answered (as_sent step.answer)) && is_doc
 abbrev Keeps : List ℕ → ServerData → IncomingData → Step → Type 0
 Keeps uri s m step = Touches uri Client m step ≡ false → entry_at step.state.table uri ≡ entry_at s.table uri
 
-obeyed_keeps : (uri : List ℕ) (s : ServerData) (m : IncomingData) (refusal : Option Refusal) (next : List DocumentItem)
-    → (is_document uri (uri_of Client m) ≡ false → entry_at next uri ≡ entry_at s.table uri)
-    → Keeps uri s m (result_step s (unless_refused refusal next))
-obeyed_keeps uri s m None next keeps other = keeps other
-obeyed_keeps uri s m (Some refusal) next keeps other = refl
-
 step_keeps : (phase : Phase) (uri : List ℕ) (s : ServerData) (m : IncomingData) → Keeps uri s m (step_in phase s m)
-step_keeps New uri s (initialize id None) other = refl
-step_keeps Running uri s (did_open (Some p)) other =
-    obeyed_keeps uri s (did_open (Some p)) (open_refusal s.config.limits s.table p) (after_open s.table p)
-    (same_open s.table p uri) other
-step_keeps Running uri s (did_change (Some p)) other =
-    let units = units_in (session_encoding s) in
-    let batch = map content_change_from_data p.changes in
-    obeyed_keeps uri s (did_change (Some p)) (change_refusal s.config.limits units s.table p.uri p.version batch)
-    (after_change units s.table p.uri p.version batch)
-    (same_changed units s.table p.uri p.version batch uri) other
-step_keeps Running uri s (did_close (Some p)) other =
-    obeyed_keeps uri s (did_close (Some p)) (close_refusal s.table p.uri) (after_close s.table p.uri)
-    (same_closed s.table p.uri uri) other
-step_keeps Down uri s not_json other = refl
-step_keeps _ uri s _ other = refl
+step_keeps phase uri s m =
+    step_by s (Keeps uri s) (λ m answer phase encoding other. refl) (λ p may. same_open s.table p uri)
+    (λ p may. same_changed (units_in (session_encoding s)) s.table p.uri p.version
+    (map content_change_from_data p.changes) uri) (λ p may. same_closed s.table p.uri uri) phase m
 
 -- ---- a record
 

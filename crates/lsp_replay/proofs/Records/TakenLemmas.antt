@@ -1,5 +1,6 @@
 -- A change that a running server receives: what becomes of it by its plan, or by why it is refused.
 use Rattle.lsp_replay.proofs.Prelude.{arith, ◌≡◌, ◌≢◌, ◌<◌, ◌≤◌, length, ℕ, ℤ, List, map, Option, Some, None, option_map, Result, Ok, Err, IfOk, IfErr, OnOk, refl, sym, ap, ap₂, ◌∙◌, subst, length-append, LimitsData, Version, Head, reading, ChangeData, DocumentItem, StoreFault, refusal_fault, IsBodyOfPlan, IsMessageFault, IsMessageOfPlan, IsPlanOf, IsPlanOn, canonical_body, ContentChange, HasReached, IsSquashAfter, IsSquashOfPlan, SquashData, squash_of, squash_under, units_in, Encoding, Store, Running, changed, refused, did_change, incoming_of, IsNotObeyed, IsPlanOfChange, IsPlannedAs, after_commit, store_of, answer_view, ServerData, content_change_from_data, session_encoding, step_on, one_more, One, change_view, Taken, Appended, Body, TooLong as BodyIsTooLong, Canonical, canonical_change_body, canonical_of_record, change_in, Session, Judged, Verdict, answered, counted, judge_client, judged, IsBegun, IsChangeWriting, IsFramed, IsJoined, IsLonger, IsOpenAfter, IsOpenIn, IsWriting, refusal_of, server_after, judge_at, IsChangeWitnessed, IsHeard, IsShown, IsTaken, IsTakenAs, accepted_if, accepted_of, ranged_read, received_of, IsAppended, verdict_view, common_steps}
+use Rattle.std.proofs.lemmas.Option.{none-some}
 use Rattle.std.specs.declared.alloc.AllocError.{AllocError}
 use Rattle.lsp_store.specs.declared.fault.StoreFault.TheVariants.{NoMemory}
 use Rattle.lsp_store.specs.declared.store.plan.Plan.{Plan}
@@ -15,13 +16,9 @@ use Rattle.lsp_replay.specs.inside.Bodies.{BodyData, IsChangeTaken, IsReceived, 
 use Rattle.lsp_replay.proofs.Records.BodyLemmas.{accepted_is, accepted_read, asked_in, body_of, canonical_is, judged_at, not_accepted, not_received, received_is}
 use Rattle.lsp_replay.proofs.Canonical.CanonicalLogLemmas.{over, within}
 use Rattle.lsp_replay.proofs.Records.ChangeLemmas.{done_session}
-use Rattle.lsp_replay.proofs.Squash.JoiningLemmas.{begun_open, is_begun, is_longer, longer_open, running_accepted, running_leaves, same_entry}
+use Rattle.lsp_replay.proofs.Squash.JoiningLemmas.{begun_open, is_begun, is_longer, longer_open, running_accepted, running_leaves}
 
 -- ---- what a running server answers to a change
-
-is_changed : (a : Answer) → answer_view a ≡ changed → a ≡ Changed
-is_changed Changed e = refl
-is_changed _ e = absurd (cc)
 
 -- What the server planned, as a session sees its server.
 module _ {inside server : ServerData} (same : inside ≡ server) (p : ChangeData) {planned found : PlannedChange}
@@ -138,13 +135,9 @@ module _ (s new : Session) (head : Head) (body : List ℕ) (before after : Canon
 -- the room before it stays
 pub room_kept : (max_body : ℕ) (canonical : Option (List ℕ)) (appended : Option Appended) (old new : List ℕ) (room : ℕ)
     → length old ≡ room → IsAppended max_body canonical appended old new → appended ≡ Some Body → room ≤ length new
-room_kept max_body None appended old new room len none some =
-    let wrong : None ≡ Some Body = sym none ∙ some in absurd (cc)
-room_kept max_body (Some body) None old new room len never some = absurd never
-room_kept max_body (Some body) (Some Body) old new room len both some =
-    omega (arith, ap length both.0, length-append old body, len)
-room_kept max_body (Some body) (Some BodyIsTooLong) old new room len over some =
-    let wrong : Some BodyIsTooLong ≡ Some Body = some in absurd (cc)
+room_kept max_body None appended old new room len is some = absurd (none-some Body (sym is ∙ some))
+room_kept max_body (Some body) appended old new room len is some =
+    let both = rw some at is in omega (arith, ap length both.0, length-append old body, len)
 
 -- how a change that is accepted is joined
 module _ {s new : Session} {series : Option SquashData} {head : Head} {body : List ℕ} {before after : Joiner}
@@ -160,6 +153,12 @@ module _ {s new : Session} {series : Option SquashData} {head : Head} {body : Li
     abbrev verdict : Verdict
     verdict = (judge_at s head body).verdict
 
+    -- what the witness has seen, the batches of the open series where nothing was joined, and those that are open then
+    record IsSeen : Type 0 where
+      written : IsWriting s.server series change verdict after.writing
+      stays : after.writing ≡ None → after.batches ≡ series
+      leads : (w : Writing) → after.writing ≡ Some w → IsOpenAfter new.server w
+
     joined_writing : (p : ChangeData) → change ≡ Some p → verdict ≡ answered changed → (w : Option Writing)
         → IsJoined s.server series p w → IsWriting s.server series change verdict w
     joined_writing p is accepted None never = absurd never
@@ -173,44 +172,39 @@ module _ {s new : Session} {series : Option SquashData} {head : Head} {body : Li
       joined.3,
     )
 
-    seen_by : (a : Option ChangeData) → accepted_of s head body ≡ a → IsShown (after ≡ before) HasJoined s new a
-        → IsWriting s.server series change verdict after.writing
-    seen_by None none same = grind (arith, common_steps, canonical_is, body_of)
-    seen_by (Some p) is seen =
-        let both = accepted_is change verdict p is in
-        joined_writing p both.0 both.1 after.writing
-        (subst (λ (j : Joiner). IsJoined s.server j.batches p after.writing) begins seen.0)
-
-    pub seen_joined : IsWriting s.server series change verdict after.writing
-    seen_joined = seen_by (accepted_of s head body) refl is.shown
-
-    -- the batches of the open series, where nothing was joined
-    unjoined_by : (a : Option ChangeData) → IsShown (after ≡ before) HasJoined s new a → after.writing ≡ None
-        → after.batches ≡ series
-    unjoined_by None same none = ap (λ (j : Joiner). j.batches) (same ∙ begins)
-    unjoined_by (Some p) seen none =
-        absurd (subst (λ (w : Option Writing). IsJoined s.server before.batches p w) none seen.0)
-
-    pub unjoined : after.writing ≡ None → after.batches ≡ series
-    unjoined none = unjoined_by (accepted_of s head body) is.shown none
-
     -- the batches that are open then lead to the document that is open then
     open_by : (server : ServerData) (p : ChangeData) → server ≡ server_after s.server p → (w : Writing)
         → IsChangeWriting s.server series p w → IsOpenAfter server w
     open_by server p leaves TooLong over = tt
-    open_by server p leaves (Continues canonical batches) joined =
-        subst (λ (t : ServerData). IsOpenIn t batches) (sym leaves) joined.2
-    open_by server p leaves (Begins canonical ended batches) joined =
-        subst (λ (t : ServerData). IsOpenIn t batches) (sym leaves) joined.4
+    open_by server p leaves (Continues canonical batches) joined = rw leaves joined.2
+    open_by server p leaves (Begins canonical ended batches) joined = rw leaves joined.4
 
-    open_seen : (a : Option ChangeData) → IsShown (after ≡ before) HasJoined s new a → (w : Writing)
-        → after.writing ≡ Some w → IsOpenAfter new.server w
-    open_seen None same w is =
-        let wrong : None ≡ Some w = sym (ap (λ (j : Joiner). j.writing) (same ∙ begins)) ∙ is in absurd (cc)
-    open_seen (Some p) seen w is = grind (arith, common_steps, open_by)
+    seen_by : (a : Option ChangeData) → accepted_of s head body ≡ a → IsShown (after ≡ before) HasJoined s new a → IsSeen
+    seen_by None none same =
+        let fresh : after ≡ record { batches = series; writing = None } = same ∙ begins in
+        record {
+          written = grind (arith, common_steps, canonical_is, body_of);
+          stays = λ w. ap (λ (j : Joiner). j.batches) fresh;
+          leads = λ w is. absurd (none-some w (sym (ap (λ (j : Joiner). j.writing) fresh) ∙ is));
+        }
+    seen_by (Some p) is seen =
+        let both = accepted_is change verdict p is in
+        let joined : IsJoined s.server series p after.writing =
+        subst (λ (j : Joiner). IsJoined s.server j.batches p after.writing) begins seen.0 in
+        record {
+          written = joined_writing p both.0 both.1 after.writing joined;
+          stays = λ none. absurd (subst (IsJoined s.server series p) none joined);
+          leads = λ w is. open_by new.server p seen.1 w (subst (IsJoined s.server series p) is joined);
+        }
+
+    pub seen_joined : IsWriting s.server series change verdict after.writing
+    seen_joined = let seen = seen_by (accepted_of s head body) refl is.shown in seen.written
+
+    pub unjoined : after.writing ≡ None → after.batches ≡ series
+    unjoined = let seen = seen_by (accepted_of s head body) refl is.shown in seen.stays
 
     pub seen_open : (w : Writing) → after.writing ≡ Some w → IsOpenAfter new.server w
-    seen_open w written = open_seen (accepted_of s head body) is.shown w written
+    seen_open = let seen = seen_by (accepted_of s head body) refl is.shown in seen.leads
 
 -- ---- what follows where a call succeeds
 
@@ -252,9 +246,6 @@ under_own : (limits : LimitsData) (encoding : Encoding) (old new : SquashData) {
     × (new.limits ≡ old.limits) × (new.encoding ≡ old.encoding) × HasReached new entry
     → IsSquashAfter old version batch new × HasReached new entry
 under_own limits encoding old new {version} {batch} same coded added = grind (arith, common_steps, own)
-
-on_same : (store : StoreData) (plan : Plan) (a b : IsPlanOn store plan) → a.entry ≡ b.entry
-on_same store plan a b = let both : Some a.entry ≡ Some b.entry = sym a.at ∙ b.at in cc
 
 module _ (server : ServerData) (p : ChangeData) {plan : Plan} (q : IsPlanOfChange server p plan) {store : StoreData}
     (same : store ≡ store_of server) where
@@ -315,9 +306,6 @@ module _ (server : ServerData) (p : ChangeData) {plan : Plan} (q : IsPlanOfChang
 
   -- the open series, if it is of the same document, and the batches with it
   module _ {squash : SquashData} (at : IsOpenIn server squash) (uri : p.uri ≡ squash.uri) where
-    pub plan_reached : (on : IsPlanOn store plan) → HasReached squash on.entry
-    plan_reached on = grind (arith, common_steps, same_entry, on_same)
-
     pub plan_longer : (next : SquashData) → IsSquashOfPlan store plan squash next
         → IsLonger (Some squash) p next × IsOpenIn (server_after server p) next
     plan_longer next added =
@@ -329,11 +317,3 @@ module _ (server : ServerData) (p : ChangeData) {plan : Plan} (q : IsPlanOfChang
           is_longer server p entry is_open squash next uri both.0,
           longer_open server p entry is_open squash next at uri both.0 left,
         )
-
-module _ (store : StoreData) (plan : Plan) where
-  pub body_too_long : (fault : StoreFault) → fault ≢ NoMemory → IsMessageFault store plan fault
-      → (uri : List ℕ) (version : ℤ) (encoding : Encoding) (batch : List ContentChange)
-      → IsPlanOf store uri version encoding batch plan
-      → store.limits.max_body < length (canonical_body (units_in encoding) store.table uri version batch)
-  body_too_long fault other why uri version encoding batch q =
-      (over store.limits _ _ fault q.accepted other (why uri version encoding batch q)).0
