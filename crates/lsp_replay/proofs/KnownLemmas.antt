@@ -1,7 +1,6 @@
 -- The facts of a record, what is known after it, and the output of `trace` and `check --explain` from the record on.
-use Rattle.lsp_replay.proofs.Prelude.{◌≡◌, ◌≢◌, ℕ, Bool, false, List, [], ◌∷◌, option_map, string_bytes, refl, sym, ap, ap₂, ◌∙◌, inl, inr, ◌⊎◌, reading, change_view, ChangeData, IncomingData, incoming_of, ServerData, Head, Sender, Client, Server, Version, Record, Facts, Note, Taken, written_first, change_in, writes, rare_notes, Known, LineView, is_renamed, is_strict_refusal, known_after, last_in, lines, uri_of, is_mention, notes_if, notes_of, notes_on, ranged_after, Session, Verdict, recorded, bad, encoding_for, judge_server, is_change, judge, judge_from, BodyData, body_read, AreFacts, IsAbout, IsLearned, is_change_read, known_by, saved_in, saved_read, uri_read, notes_on_read, judge_at, IsTaken, ranged_read, ranged_with, verdict_view, output_in, lengths_of, notification_params}
+use Rattle.lsp_replay.proofs.Prelude.{Bool, List, None, Option, Some, [], ap, ap₂, false, refl, string_bytes, sym, ℕ, ◌∙◌, ◌∷◌, ◌≡◌, ◌≢◌, option_map, Record, Head, Sender, Client, Server, Version, lengths_of, notification_params, reading, ChangeData, change_view, change_in, output_in, writes, learned, rare_notes, saved_in, Known, LineView, is_renamed, is_strict_refusal, known_after, last_in, lines, uri_of, is_mention, notes_if, notes_of, notes_on, ranged_after, written_first, Session, bad, encoding_for, is_change, judge, judge_from, judge_server, Facts, Note, Taken, BodyData, body_read, AreFacts, IsAbout, IsLearned, is_change_read, known_by, saved_read, uri_read, notes_on_read, judge_at, IsTaken, ranged_read, ranged_with, verdict_view, IncomingData, incoming_of, ServerData, Encoding}
 use Rattle.lsp_replay.specs.declared.facts.About.{About}
-use Rattle.lsp_replay.proofs.Canonical.CanonicalLogLemmas.{heard_as}
 use Rattle.lsp_replay.proofs.Records.OutputLemmas.{output_after, unless_not}
 use Rattle.lsp_replay.proofs.Reports.ReasonLemmas.{strict_at}
 
@@ -27,24 +26,22 @@ module _ (s : Session) (body : List ℕ) where
   ranged_at ranged version Server = refl
 
   -- a server's record opens, closes and refuses no document, and has no notes
-  no_mention : (change : Bool) (verdict : Verdict) → (verdict ≡ recorded) ⊎ (verdict ≡ bad) → is_mention change verdict
-      ≡ false
-  no_mention change verdict (inl e) = rw e refl
-  no_mention change verdict (inr e) = rw e refl
+  no_mention : (change : Bool) (announced : Option (Option Encoding))
+      → is_mention change (judge_server s announced).verdict ≡ false
+  no_mention change (Some None) = refl
+  no_mention change _ = refl
 
-  no_notes : (notes : List Note) (verdict : Verdict) → (verdict ≡ recorded) ⊎ (verdict ≡ bad) → notes_if notes verdict
-      ≡ []
-  no_notes notes verdict (inl e) = rw e refl
-  no_notes notes verdict (inr e) = rw e refl
+  no_notes : (notes : List Note) (announced : Option (Option Encoding))
+      → notes_if notes (judge_server s announced).verdict ≡ []
+  no_notes notes (Some None) = refl
+  no_notes notes _ = refl
 
   mention_at : (version : Version) (side : Sender) → is_mention (is_change_read (body_read version side body))
       (judge_from s version side body).verdict ≡ is_mention (is_change asked) (judge_from s version side body).verdict
   mention_at version Client = refl
   mention_at version Server =
       let announced = encoding_for s.expected (reading body) in
-      let heard = heard_as s announced in
-      no_mention false (judge_server s announced).verdict heard
-      ∙ sym (no_mention (is_change asked) (judge_server s announced).verdict heard)
+      no_mention false announced ∙ sym (no_mention (is_change asked) announced)
 
   notes_at : (ranged : Bool) (version : Version) (side : Sender)
       → notes_if (notes_on_read s.server ranged (reading body) (body_read version side body))
@@ -52,10 +49,9 @@ module _ (s : Session) (body : List ℕ) where
   notes_at ranged version Client = refl
   notes_at ranged version Server =
       let announced = encoding_for s.expected (reading body) in
-      let heard = heard_as s announced in
-      no_notes [] (judge_server s announced).verdict heard
+      no_notes [] announced
       ∙ sym (no_notes (notes_on s.server ranged (lengths_of (reading body)) (notification_params (reading body)) asked)
-      (judge_server s announced).verdict heard)
+      announced)
 
 -- ---- a record, by what was read of it, what it is about, and what became of it
 

@@ -1,5 +1,5 @@
 -- What `convert` writes of a log: a log of which the same is told.
-use Rattle.lsp_replay.proofs.Prelude.{◌≡◌, ℕ, Bool, true, false, Option, Some, None, refl, ap, ◌∙◌, ⊤, if◌then◌else◌, option_and_then, option_map, Data, Decides-int_eq, bytes_eq-Decides, IdData, Reading, whole, text, reading, OutgoingData, initialize_result, body_of, initialize_value, IsProperId, reading-body_of, is_read_back, Encoding, Phase, New, Running, Down, AnswerData, Sent, reply, as_sent, IncomingData, initialize, ServerData, step_in, step_on, begin_step, with_encoding, Version, One, Two, one_more, Session, Verdict, answered, recorded, bad, Judged, judged, judge_client, handled, judge_server, encoding_for, encoding_in, same_id, is_ended, is_early, is_new, expected_of, count_if, is_refused}
+use Rattle.lsp_replay.proofs.Prelude.{Bool, None, Option, Some, ap, false, refl, true, ℕ, ◌∙◌, ◌≡◌, Decides-int_eq, bytes_eq-Decides, if◌then◌else◌, option_and_then, option_map, ⊤, Version, One, Two, is_read_back, reading-body_of, IdData, Reading, reading, text, whole, OutgoingData, body_of, initialize_result, initialize_value, IsProperId, Judged, Session, Verdict, answered, bad, count_if, encoding_for, encoding_in, expected_of, handled, is_early, is_ended, is_new, is_refused, judge_client, judge_server, judged, recorded, same_id, AnswerData, Sent, as_sent, reply, IncomingData, initialize, ServerData, begin_step, step_in, step_on, with_encoding, Phase, New, one_more, Encoding, Data}
 use Rattle.lsp_message.specs.declared.agreement.Announced.{Announced}
 use Rattle.lsp_message.specs.declared.agreement.Offers.{Offers}
 use Rattle.lsp_message.specs.declared.agreement.SyncKind.{SyncKind}
@@ -99,13 +99,9 @@ begun s n server id offers proper =
 pub follows_step : (s : Session) (n : ℕ) (phase : Phase) (server : ServerData) (m : IncomingData) → IsProperIncoming m
     → FollowsStep s n phase server m
 follows_step s n New server (initialize id (Some offers)) proper = begun s n server id offers proper
-follows_step s n Running server m proper =
-    follows_none (rest_after s n (step_in Running server m).state (as_sent (step_in Running server m).answer) None)
-    (step_in Running server m).answer refl
-follows_step s n Down server m proper =
-    follows_none (rest_after s n (step_in Down server m).state (as_sent (step_in Down server m).answer) None)
-    (step_in Down server m).answer refl
-follows_step s n _ server _ proper = refl
+follows_step s n phase server m proper =
+    follows_none (rest_after s n (step_in phase server m).state (as_sent (step_in phase server m).answer) None)
+    (step_in phase server m).answer refl
 
 -- ---- a client's record is judged alike in both logs
 
