@@ -1,5 +1,5 @@
 -- What the canonical message of a record is told by.
-use Rattle.lsp_replay.proofs.Prelude.{Bool, List, None, Option, Some, [], ap, append_assoc, drop, false, inl, inr, le-ltb, length, lt-ltb, ltb-true, map, nat_lt, refl, sym, true, ℕ, ◌++◌, ◌<◌, ◌∙◌, ◌≡◌, ◌≢◌, ◌≤◌, ◌⊎◌, ltb-false, drop_at, Err, if◌then◌else◌, option_map, other, frame, LimitsData, Record, Version, whole, ChangeData, DocumentItem, canonical_if, ends, writes, written, Judged, Session, answered, bad, judge_client, judge_server, judged, recorded, Body, TooLong, IsAppended, AnswerData, Sent, as_sent, changed, did_change, ServerData, change_command, content_change_from_data, result_step, session_encoding, step_in, Phase, Running, IsRefusal, refusal_fault, body_refusal, else_refused, Refusal, body_too_long, change_refusal, command_refusal, table_after, unless_refused, StoreFault, units_in, Encoding}
+use Rattle.lsp_replay.proofs.Prelude.{Bool, List, None, Option, Some, [], ap, append_assoc, drop, false, inl, inr, le-ltb, length, lt-ltb, ltb-true, map, nat_lt, refl, sym, true, ℕ, ◌++◌, ◌<◌, ◌∙◌, ◌≡◌, ◌≢◌, ◌≤◌, ◌⊎◌, ltb-false, drop_at, Err, if◌then◌else◌, option_map, frame, LimitsData, Record, Version, ChangeData, DocumentItem, canonical_if, ends, writes, written, Judged, Session, answered, bad, judge_client, judge_server, judged, recorded, Body, TooLong, IsAppended, AnswerData, Sent, as_sent, changed, did_change, ServerData, change_command, content_change_from_data, result_step, session_encoding, step_in, Phase, Running, IsRefusal, refusal_fault, body_refusal, else_refused, Refusal, body_too_long, change_refusal, command_refusal, table_after, unless_refused, StoreFault, units_in, Encoding}
 use Rattle.lsp_store.specs.declared.fault.StoreFault.TheVariants.{BodyTooLong, NoMemory}
 use Rattle.lsp_stream.specs.declared.fault.EngineFault.TheVariants as fault
 

@@ -1,5 +1,5 @@
 -- What `normalise` writes of a log: a log of which the same is told, and of which the same is written.
-use Rattle.lsp_replay.proofs.Prelude.{Bool, List, None, Option, Some, [], ap, append-nil, append_assoc, ap₂, arith, false, length, nat_lt, refl, subst, sym, ℕ, ◌++◌, ◌+◌, ◌∙◌, ◌∷◌, ◌≡◌, ◌≢◌, ◌≤◌, ltb-false, common_steps, written_is_frame, place_after, IsFrameOf, frame, AreInRange, LimitsData, due_after, AreRecords, IsRecord, Record, is_line_due, line_of, mark_of, record_bytes, together, Head, Version, whole, RecordOutput, canonical_log, canonical_of_record, canonical_output, front_of, line_if, log_config, normalising, replaying, report, unless_bad, writes, written, all_of, RunOutput, written_first, Session, bad, judge, opened, run_output_in, CanonicalLogLaw}
+use Rattle.lsp_replay.proofs.Prelude.{Bool, List, None, Option, Some, [], ap, append-nil, append_assoc, ap₂, arith, false, length, nat_lt, refl, subst, sym, ℕ, ◌++◌, ◌+◌, ◌∙◌, ◌∷◌, ◌≡◌, ◌≢◌, ◌≤◌, ltb-false, common_steps, written_is_frame, place_after, IsFrameOf, frame, AreInRange, LimitsData, due_after, AreRecords, IsRecord, Record, is_line_due, line_of, mark_of, record_bytes, together, Version, RecordOutput, canonical_log, canonical_of_record, canonical_output, front_of, line_if, log_config, normalising, replaying, report, unless_bad, writes, written, all_of, RunOutput, written_first, Session, bad, judge, opened, run_output_in, CanonicalLogLaw}
 use Rattle.lsp_log.proofs.LogLemmas.{due_now}
 use Rattle.lsp_replay.proofs.CourseLemmas.{command_output, ended_as, line_first, none_due, passed, reads_back, report_on, went_on}
 use Rattle.lsp_replay.proofs.Records.StateLemmas.{IsHeldState}
@@ -28,60 +28,42 @@ record IsWrittenAs (limits : LimitsData) (at : ℕ) (s : Session) (r q : Record)
   is_frame_of : IsFrameOf limits.max_body q.raw q.body
   head : q.head ≡ record r.head { place = place_after 0 at }
   same : judge s q ≡ judge s r
-  first : normalising.record_output tt s r (judge s r) ≡ writes (front_of r.head ++ q.raw)
-  again : normalising.record_output tt s q (judge s r) ≡ writes (front_of r.head ++ q.raw)
+  first : canonical_output s r (judge s r) ≡ writes (front_of r.head ++ q.raw)
+  again : canonical_output s q (judge s r) ≡ writes (front_of r.head ++ q.raw)
 
 module _ (limits : LimitsData) (ranges : AreInRange limits) where
   module _ (at : ℕ) (s : Session) (r : Record) (received : IsHeldState limits s.server)
-      (is_frame_of : IsFrameOf limits.max_body r.raw r.body) (not_bad : (judge s r).verdict ≢ bad) where
+      (is_frame_of : IsFrameOf limits.max_body r.raw r.body) where
     abbrev max_body : ℕ
     max_body = s.server.config.limits.max_body
-
-    -- what is written of a record that is judged as this one
-    gives : (q : Record) (c : Option (List ℕ)) (given : RecordOutput)
-        → written max_body q (front_of r.head) c ≡ given
-        → unless_bad q (judge s r).verdict (written max_body q (front_of r.head) c) ≡ given
-    gives q c given is = unless_not q (judge s r).verdict (written max_body q (front_of r.head) c) not_bad ∙ is
-
-    kept : canonical_of_record s r.body (judge s r).verdict ≡ None → IsWrittenAs limits at s r (canonical_record at r None)
-    kept none = record {
-      is_frame_of = is_frame_of;
-      head = refl;
-      same = refl;
-      first = gives r _ _ (ap (written max_body r (front_of r.head)) none);
-      again = gives (canonical_record at r None) _ _
-          (ap (written max_body (canonical_record at r None) (front_of r.head)) none);
-    }
 
     fits : (body : List ℕ) → (written max_body r (front_of r.head) (Some body)).end ≡ None
         → nat_lt max_body (length body) ≡ false
     fits body e = grind (arith, common_steps, nat_lt)
 
-    framed : (q : Record) (body : List ℕ) → nat_lt max_body (length body) ≡ false
-        → written max_body q (front_of r.head) (Some body) ≡ writes (front_of r.head ++ frame body)
-    framed q body short = rw short refl
-
-    changed : (body : List ℕ) → canonical_of_record s r.body (judge s r).verdict ≡ Some body
-        → (canonical_output s r (judge s r)).end ≡ None → IsWrittenAs limits at s r (canonical_record at r (Some body))
-    changed body some e =
+    written_as : (normalised : Option (List ℕ)) → canonical_of_record s r.body (judge s r).verdict ≡ normalised
+        → (canonical_output s r (judge s r)).end ≡ None → IsWrittenAs limits at s r (canonical_record at r normalised)
+    written_as None none e = record {
+      is_frame_of = is_frame_of;
+      head = refl;
+      same = refl;
+      first = ap (written max_body r (front_of r.head)) none;
+      again = ap (written max_body (canonical_record at r None) (front_of r.head)) none;
+    }
+    written_as (Some body) some e =
         let short : nat_lt max_body (length body) ≡ false =
         fits body (ap (λ n. (written max_body r (front_of r.head) n).end) (sym some) ∙ e) in
         let small : length body ≤ limits.max_body = subst (λ (l : LimitsData). length body ≤ l.max_body) received.limit
         (ltb-false max_body (length body) short) in
         let twice = judged_again limits ranges s r.head r.body body received some small in
-        let q = canonical_record at r (Some body) in
         record {
           is_frame_of = written_is_frame limits.max_body body small (omega (arith, small, ranges.greatest_body));
           head = refl;
           same = twice.0;
-          first = gives r _ _ (ap (written max_body r (front_of r.head)) some ∙ framed r body short);
-          again = gives q _ _ (ap (written max_body q (front_of r.head)) twice.1 ∙ framed q body short);
+          first = ap (written max_body r (front_of r.head)) some ∙ rw short refl;
+          again =
+              ap (written max_body (canonical_record at r (Some body)) (front_of r.head)) twice.1 ∙ rw short refl;
         }
-
-    written_as : (normalised : Option (List ℕ)) → canonical_of_record s r.body (judge s r).verdict ≡ normalised
-        → (canonical_output s r (judge s r)).end ≡ None → IsWrittenAs limits at s r (canonical_record at r normalised)
-    written_as None none e = kept none
-    written_as (Some body) some e = changed body some e
 
   -- ---- all records
 
@@ -103,36 +85,24 @@ module _ (limits : LimitsData) (ranges : AreInRange limits) where
     rest = run_output_in normalising (judge s r).session rs
 
     first : run_output_in normalising s (r ∷ rs) ≡ written_first (front_of r.head ++ q.raw) rest
-    first = command_output normalising s r rs (judge s r) (front_of r.head ++ q.raw) refl one.first
+    first = command_output normalising s r rs (judge s r) (front_of r.head ++ q.raw) refl
+        (unless_not r (judge s r).verdict (canonical_output s r (judge s r)) not_bad ∙ one.first)
 
     front_is : front_of r.head ≡ line_if due ++ mark_of version r.head.side
     front_is = ap₂ (λ (b : Bool) (v : Version). line_if b ++ mark_of v r.head.side) is.due is.of_version
 
     one_more : AreWritten at version due s (r ∷ rs) (q ∷ qs)
     one_more = record {
-      are = (
-        record {
-          is_frame_of = one.is_frame_of;
-          side = λ e. ap (λ (h : Head). h.side) one.head ∙ is.side e;
-          of_version = ap (λ (h : Head). h.version) one.head ∙ is.of_version;
-          placed = ap (λ (h : Head). h.place) one.head;
-          due = ap (λ (h : Head). h.line_due) one.head ∙ is.due;
-        },
-        more.are,
-      );
-      all =
-          ap (λ (c : RunOutput). c.out ++ c.last false) first
-          ∙ append_assoc (front_of r.head ++ q.raw) rest.out (rest.last false)
-          ∙ ap (λ (b : Bool). (front_of r.head ++ q.raw) ++ (rest.out ++ rest.last b)) (sym (none_due rs))
-          ∙ ap₂ (λ (f z : List ℕ). (f ++ q.raw) ++ z) front_is more.all
-          ∙ ap (λ (h : Head). ((line_if due ++ mark_of version h.side) ++ q.raw) ++ together version qs [])
-          (sym one.head)
-          ∙ simp append_assoc;
+      are = grind (arith, common_steps);
+      all = grind (arith, common_steps, none_due, append_assoc, first, front_is);
       same_due = refl;
       again =
-          command_output normalising s q qs (judge s r) (front_of r.head ++ q.raw) one.same one.again
+          command_output normalising s q qs (judge s r) (front_of r.head ++ q.raw) one.same
+          (unless_not q (judge s r).verdict (canonical_output s q (judge s r)) not_bad ∙ one.again)
           ∙ ap (written_first (front_of r.head ++ q.raw)) more.again ∙ sym first;
-      same = command_output replaying s q qs (judge s r) [] one.same (unless_not q (judge s r).verdict (writes []) not_bad)
+      same =
+          command_output replaying s q qs (judge s r) [] one.same
+          (unless_not q (judge s r).verdict (writes []) not_bad)
           ∙ more.same ∙ sym (report_on s r rs not_bad);
     }
 
@@ -149,8 +119,8 @@ module _ (limits : LimitsData) (ranges : AreInRange limits) where
       let not_bad = passed r (judge s r).verdict g on.0 in
       let inner : g.end ≡ None = ap (λ (h : RecordOutput). h.end) (sym (unless_not r (judge s r).verdict g not_bad))
       ∙ on.0 in
-      let one = written_as at s r received each.0.is_frame_of not_bad
-      (canonical_of_record s r.body (judge s r).verdict) refl inner in
+      let one = written_as at s r received each.0.is_frame_of (canonical_of_record s r.body (judge s r).verdict) refl
+      inner in
       let q = canonical_record at r (canonical_of_record s r.body (judge s r).verdict) in
       one_more at before version due s r q rs (normal_from (at + length (record_bytes version q)) version
       (judge s r).session rs) each.0 not_bad one
@@ -181,7 +151,8 @@ canonical_log_law settings ranges input log reads whole goes = record {
 
     ends : ((canonical_log settings log.records).outcome ≡ (report settings log.records).outcome)
         × ((report settings log.records).stop ≡ None)
-    ends = ended_as normalising (λ _ u r e. passed r (judge u r).verdict (canonical_output u r (judge u r)) e) (λ _ u. refl) tt s log.records goes
+    ends = ended_as normalising (λ _ u r e. passed r (judge u r).verdict (canonical_output u r (judge u r)) e)
+        (λ _ u. refl) tt s log.records goes
 
     qs : List Record
     qs = normal_from (length (line_of log.version)) log.version s log.records

@@ -21,11 +21,6 @@ good_tests : (a b : Bool) (s : Session) (j : Judged)
 good_tests false false s j good = (refl, refl)
 good_tests _ _ s j good = absurd good
 
-handled_on : (s : Session) (version : Version) (m : IncomingData) → is_ended s.server.phase ≡ false → is_early s m
-    ≡ false
-    → judge_client s version m ≡ handled s version m (step_on s.server m).state (as_sent (step_on s.server m).answer)
-handled_on s version m a b = rw (a, b) refl
-
 -- no result is waited for in a log of version 1
 none_expected : (b : Bool) (m : IncomingData) (expected : Option IdData) → expected ≡ None
     → (if b then expected_of One m expected else expected) ≡ None
@@ -124,14 +119,15 @@ module _ (s : Session) (n : ℕ) (m : IncomingData) (none : s.expected ≡ None)
     refusals = count_if (is_refused answer) s.refusals;
   }
 
+  judged_as : (version : Version) (records : ℕ) → judge_client (twin s records) version m
+      ≡ judged (answered answer) (stepped (if is_new s.server.phase then expected_of version m s.expected
+      else s.expected) records)
+  judged_as version records = rw (tests.0, tests.1) refl
+
   pub judged_one : judge_client s One m ≡ judged (answered answer) (stepped None s.records)
-  judged_one =
-      handled_on s One m tests.0 tests.1
-      ∙ ap (λ (e : Option IdData). judged (answered answer) (stepped e s.records))
+  judged_one = judged_as One s.records ∙ ap (λ (e : Option IdData). judged (answered answer) (stepped e s.records))
       (none_expected (is_new s.server.phase) m s.expected none)
 
   pub judged_two : judge_client (twin s n) Two m ≡ judged (answered answer) (stepped (waits s.server.phase m) n)
-  judged_two =
-      handled_on (twin s n) Two m tests.0 tests.1
-      ∙ ap (λ (e : Option IdData). judged (answered answer)
+  judged_two = judged_as Two n ∙ ap (λ (e : Option IdData). judged (answered answer)
       (stepped (if is_new s.server.phase then expected_of Two m e else e) n)) none

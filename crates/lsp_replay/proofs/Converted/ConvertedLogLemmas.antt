@@ -1,5 +1,5 @@
 -- What `convert` writes of a log: a log of which the same is told.
-use Rattle.lsp_replay.proofs.Prelude.{Bool, List, None, Option, [], ap, append-nil, append_assoc, ap₂, arith, codes, false, length, refl, subst, sym, true, ℕ, ◌++◌, ◌+◌, ◌<◌, ◌==◌, ◌∙◌, ◌∷◌, ◌≡◌, ◌≢◌, ◌≤◌, ne_eqb, if◌then◌else◌, written_is_frame, place_after, frame, AreInRange, LimitsData, AreRecords, IsRecord, Record, is_line_due, line_of, record_bytes, together, version_line, Client, Server, Version, One, Two, IdData, reading, whole, OutgoingData, body_of, converted, converting, line_before, line_if, log_config, replaying, reply_record, report, unless_bad, writes, all_of, RunOutput, written_first, Judged, Session, Verdict, answered, bad, counted, judge, judge_client, judge_from, judged, opened, recorded, run_output_in, AreRepliesWithin, ConvertedLaw, IsReplyWithin, AnswerData, Sent, as_sent, reply, sent_reply, incoming_of, ServerData, step_on, one_more}
+use Rattle.lsp_replay.proofs.Prelude.{Bool, List, None, Option, [], ap, append-nil, append_assoc, arith, codes, false, length, refl, subst, sym, true, ℕ, ◌++◌, ◌+◌, ◌<◌, ◌==◌, ◌∙◌, ◌∷◌, ◌≡◌, ◌≢◌, ◌≤◌, ne_eqb, common_steps, if◌then◌else◌, written_is_frame, place_after, frame, AreInRange, LimitsData, AreRecords, IsRecord, Record, is_line_due, line_of, record_bytes, together, version_line, Client, Server, Version, One, Two, IdData, reading, OutgoingData, body_of, converted, converting, line_before, line_if, log_config, replaying, reply_record, report, unless_bad, writes, all_of, RunOutput, written_first, Judged, Session, Verdict, answered, bad, counted, judge, judge_client, judge_from, judged, opened, recorded, run_output_in, AreRepliesWithin, ConvertedLaw, IsReplyWithin, AnswerData, Sent, as_sent, reply, sent_reply, incoming_of, ServerData, step_on, one_more}
 use Rattle.lsp_replay.proofs.CourseLemmas.{command_output, ended_as, passed, reads_back, went_on}
 use Rattle.lsp_replay.proofs.Records.AskedLemmas.{asked_proper}
 use Rattle.lsp_replay.proofs.Converted.ConvertedLemmas.{twin, IsGood, Follows, next_of, rest_after, waits, follows_step, judged_one, judged_two}
@@ -121,13 +121,7 @@ module _ (limits : LimitsData) (ranges : AreInRange limits) where
         record { is_frame_of = is.is_frame_of; side = λ e. refl; of_version = refl; placed = refl; due = refl },
         after.are more.qs more.are,
       );
-      all = λ b.
-          ap (λ (c : RunOutput). c.out ++ c.last b) wrote
-          ∙ append_assoc (line_before s ++ codes ">" ++ r.raw ++ reply_record (answered answer)) rest.out (rest.last b)
-          ∙ ap₂ (λ (l z : List ℕ). (l ++ codes ">" ++ r.raw ++ reply_record (answered answer)) ++ z)
-          (line_is due s.records counts) (more.all b)
-          ∙ five (line_if due) (codes ">") r.raw (reply_record (answered answer)) (together Two more.qs [])
-          ∙ ap (λ z. line_if due ++ ((codes ">" ++ r.raw) ++ z)) (after.is more.qs);
+      all = λ b. grind (arith, common_steps, append_assoc, wrote, line_is, after.is, more.all);
       same =
           command_output replaying t (client_at at due r) (after.ps ++ more.qs) (judged (answered answer) u) [] two refl
           ∙ after.told more.qs ∙ more.same
@@ -195,7 +189,8 @@ converted_law settings ranges input log reads whole goes = record {
     ends : ((converted settings log.records).outcome ≡ (report settings log.records).outcome)
         × ((report settings log.records).stop ≡ None)
     ends = ended_as converting (λ _ u r e. passed r (judge u r).verdict (writes
-        (line_before u ++ codes ">" ++ r.raw ++ reply_record (judge u r).verdict)) e) (λ _ u. refl) tt s log.records goes
+        (line_before u ++ codes ">" ++ r.raw ++ reply_record (judge u r).verdict)) e) (λ _ u. refl) tt s log.records
+        goes
 
     each : AreRecords settings.limits.max_body One 0 false log.records
     each = subst (λ (v : Version). AreRecords settings.limits.max_body v (length (line_of v)) (is_line_due v [])

@@ -1,5 +1,5 @@
 -- What was written and answered by the records of one log.
-use Rattle.lsp_replay.proofs.Prelude.{Bool, List, None, Option, Some, [], ap, append-nil, append_assoc, arith, false, inl, inr, length, refl, sym, true, ℕ, ◌++◌, ◌<◌, ◌∙◌, ◌∷◌, ◌≡◌, ◌⊎◌, common_steps, length-append, Appends, Err, Result, written_is_frame, FrameFault, IsBadMark, IsMalformed, IsReadAs, Log, whole, IsCause, is_cut_off, last_if, PortState, all_of, last_of, RunOutput, Outcome, HasWritten, IsAnswer, RunStart, EngineFault, NoMemory, TooManyTurns}
+use Rattle.lsp_replay.proofs.Prelude.{Bool, List, None, Option, Some, [], ap, append-nil, append_assoc, arith, false, inl, inr, length, refl, sym, true, ℕ, ◌++◌, ◌<◌, ◌∙◌, ◌∷◌, ◌≡◌, ◌⊎◌, common_steps, length-append, Appends, Err, Result, written_is_frame, FrameFault, IsBadMark, IsMalformed, IsReadAs, Log, IsCause, is_cut_off, last_if, PortState, all_of, last_of, RunOutput, Outcome, HasWritten, IsAnswer, RunStart, EngineFault, NoMemory, TooManyTurns}
 
 -- ---- is the output at the end due?
 

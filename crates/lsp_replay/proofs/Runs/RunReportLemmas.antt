@@ -27,8 +27,8 @@ extends_on out None c longer more = record {
 extends_on out (Some answer) c longer more =
     record { rest = []; grows = sym (append-nil out); settles = λ _ _. refl; silent = λ _ _ _. refl }
 
-pub extends : {State : Type 0} (view : View State) (state : State) (s : Session)
-    → ExtendsAll (output_in view state s)
+pub extends : {State : Type 0} (view : View State) (state : State) (s : Session) (rs more : List Record)
+    → Extends (output_in view state s rs) (output_in view state s (rs ++ more))
 extends view state s [] more = record {
   rest = (output_in view state s more).out;
   grows = refl;
@@ -36,7 +36,8 @@ extends view state s [] more = record {
   silent = λ answer e. absurd (let wrong : None ≡ Some answer = e in cc);
 }
 extends view state s (r ∷ rs) more =
-    extends_on _ _ _ _ (extends view (view.next state s r (judge s r)) (judge s r).session rs more)
+    let given = view.record_output state s r (judge s r) in
+    extends_on given.out given.end _ _ (extends view (view.next state s r (judge s r)) (judge s r).session rs more)
 
 -- ---- rests that no record begins
 
@@ -66,7 +67,8 @@ bad_rest max_body input place log is side raw body more is_frame_of e =
 
 -- ---- from some records to all
 
-module _ (run_output : List Record → RunOutput) (extends_all : ExtendsAll run_output) (log_rules : LogRules) (state : PortState) (input : List ℕ) (old new : Option (List ℕ)) (log all : Log)
+module _ (run_output : List Record → RunOutput) (extends_all : ExtendsAll run_output) (log_rules : LogRules)
+    (state : PortState) (input : List ℕ) (old new : Option (List ℕ)) (log all : Log)
     (f : IsFirstOf log_rules log all) where
   abbrev Seen : Log → Result Outcome EngineFault → Type 0
   Seen l result = IsObserved log_rules state input old new l (run_output l.records) result
@@ -147,8 +149,9 @@ module _ (run_output : List Record → RunOutput) (extends_all : ExtendsAll run_
 
 -- ---- what the contract of an engine says, from what the loop does
 
-module _ (start : RunStart) (extends_all : ExtendsAll start.run_output) {state : PortState} {OnePart : Type 0} {left_now received_now : Option (List ℕ)}
-    {result : Result Outcome EngineFault} (ran : Ran start state OnePart left_now received_now result) where
+module _ (start : RunStart) (extends_all : ExtendsAll start.run_output) {state : PortState} {OnePart : Type 0}
+    {left_now received_now : Option (List ℕ)} {result : Result Outcome EngineFault}
+    (ran : Ran start state OnePart left_now received_now result) where
   -- an input of version 2, where that is refused, has no records
   not_both : (log : Log) → IsReadAs start.log_rules ran.input log → start.log_rules.refuses_two ≡ true
       → IsVersion start.log_rules.versions Two ran.input → ⊥
@@ -190,8 +193,9 @@ module _ (start : RunStart) (extends_all : ExtendsAll start.run_output) {state :
       cc))
       ran.came
 
-pub run_of_course : (run_output : List Record → RunOutput) → ExtendsAll run_output → (in_parts : Bool) {log_rules : LogRules} {flushes : Bool} {OnePart : Type 0} {max_turns : ℕ}
-    {before after : Ports} {result : Result Outcome EngineFault} → (in_parts ≡ false → OnePart)
+pub run_of_course : (run_output : List Record → RunOutput) → ExtendsAll run_output → (in_parts : Bool)
+    {log_rules : LogRules} {flushes : Bool} {OnePart : Type 0} {max_turns : ℕ} {before after : Ports}
+    {result : Result Outcome EngineFault} → (in_parts ≡ false → OnePart)
     → IsLoopRun log_rules run_output flushes OnePart max_turns before after result
     → IsEngineRun (record { log_rules = log_rules; run_output = run_output; flushes = flushes; in_parts = in_parts })
     max_turns before after result

@@ -1,5 +1,5 @@
 -- What an engine wrote where it came to the end of a log.
-use Rattle.lsp_replay.proofs.Prelude.{Bool, List, None, Option, Some, [], ap, append-nil, codes, false, inl, inr, length, nat_lt, refl, subst, sym, true, ℕ, ◌++◌, ◌∙◌, ◌∷◌, ◌≡◌, ◌≢◌, cond_both, Appends, Consumes, Err, IfOk, Ok, Result, ⊤, other, frame, AreInRange, IsReadAs, Log, LogRules, Record, AllRecords, IsCause, IsObserved, RanOver, RecordOutput, View, as_converted, as_log, canonical_log, canonical_of_record, canonical_output, converted, converting, ends, followed_by, front_of, line_before, log_config, normalising, reply_record, report, unless_bad, writes, written, PortState, all_of, last_of, RunOutput, Session, Verdict, bad, judge, opened, normalised, normalised_if, squashed, Settings, Outcome, run_output_in, squashed_steps, IsCanonicalLog, IsConverted, IsSquashed, Wrote, EngineFault, BadLog, BodyTooLong}
+use Rattle.lsp_replay.proofs.Prelude.{Bool, List, None, Option, Some, [], ap, append-nil, codes, false, inl, inr, length, nat_lt, refl, subst, sym, true, ℕ, ◌++◌, ◌∙◌, ◌∷◌, ◌≡◌, ◌≢◌, cond_both, Appends, Consumes, Err, IfOk, Ok, Result, ⊤, frame, AreInRange, IsReadAs, Log, LogRules, Record, AllRecords, IsCause, IsObserved, RanOver, RecordOutput, View, as_converted, as_log, canonical_log, canonical_of_record, canonical_output, converted, converting, ends, followed_by, front_of, line_before, log_config, normalising, reply_record, report, unless_bad, writes, written, PortState, all_of, last_of, RunOutput, Session, Verdict, bad, judge, opened, normalised, normalised_if, squashed, Settings, Outcome, run_output_in, squashed_steps, IsCanonicalLog, IsConverted, IsSquashed, Wrote, EngineFault, BadLog, BodyTooLong}
 use Rattle.lsp_frame.proofs.DecisionLemmas.{decision_law}
 use Rattle.lsp_log.proofs.AllRecordsLemmas.{all_records_law}
 use Rattle.lsp_replay.proofs.Runs.AnswerLemmas.{due_last}

@@ -1,5 +1,5 @@
 -- The open series of a log that is squashed, and the records that are written of it.
-use Rattle.lsp_replay.proofs.Prelude.{Bool, List, None, Option, Some, [], ap, arith, bytes_eq, false, length, nat_lt, refl, subst, sym, true, ℕ, ◌++◌, ◌∙◌, ◌∷◌, ◌≡◌, ◌≢◌, ◌≤◌, ltb-false, common_steps, if◌then◌else◌, written_is_frame, place_after, frame, AreInRange, LimitsData, due_after, Record, mark_of, Client, Version, reading, ChangeData, DocumentItem, canonical_change_body, front_of, line_if, Session, answered, bad, judge, OpenSeries, change_output, end_bytes, joined_by, longer, open_bytes, squash_step, changed, incoming_of, ServerData, session_encoding, Running, change_body, SquashData, squash_batch, squash_body, squash_of, squash_refusal, Refusal, entry_at}
+use Rattle.lsp_replay.proofs.Prelude.{Bool, List, None, Option, Some, [], ap, arith, bytes_eq, false, length, nat_lt, refl, subst, sym, true, ℕ, ◌++◌, ◌∙◌, ◌∷◌, ◌≡◌, ◌≢◌, ◌≤◌, cases_Bool, ltb-false, common_steps, written_is_frame, place_after, frame, AreInRange, LimitsData, due_after, Record, mark_of, Client, Version, reading, ChangeData, DocumentItem, canonical_change_body, front_of, line_if, Session, answered, bad, judge, OpenSeries, change_output, end_bytes, joined_by, longer, open_bytes, squash_step, changed, incoming_of, ServerData, session_encoding, Running, change_body, SquashData, squash_batch, squash_body, squash_of, squash_refusal, Refusal, entry_at}
 use Rattle.lsp_replay.proofs.Canonical.CanonicalChangeLemmas.{IsCanonicalChange, canonical_at, canonical_change}
 use Rattle.lsp_replay.proofs.Records.ChangeLemmas.{IsAccepted, IsDone, is_done}
 use Rattle.lsp_replay.proofs.Records.NumberedLemmas.{IsAlike, alike_both}
@@ -99,15 +99,9 @@ module _ (limits : LimitsData) (ranges : AreInRange limits) (at : ℕ) (version 
   here = subst AreInRange (sym limit) ranges
 
   module _ (is : squash_refusal series.squash ≡ None) where
-    few_of : (many over : Bool) (first second : Refusal)
-        → (if many then Some first else if over then Some second else None) ≡ None → (many ≡ false) × (over ≡ false)
-    few_of true over first second e = absurd (let wrong : Some first ≡ None = e in cc)
-    few_of false true first second e = absurd (let wrong : Some second ≡ None = e in cc)
-    few_of false false first second e = (refl, refl)
-
     both : (nat_lt series.squash.limits.max_changes (length (squash_batch series.squash)) ≡ false)
         × (nat_lt series.squash.limits.max_body (length (squash_body series.squash)) ≡ false)
-    both = few_of _ _ _ _ is
+    both = grind (arith, common_steps, cases_Bool)
 
     same_limits : series.squash.limits ≡ t.server.config.limits
     same_limits = ap (λ (k : SquashData). k.limits) p.from.is
@@ -177,11 +171,7 @@ module _ (limits : LimitsData) (ranges : AreInRange limits) (at : ℕ) (version 
     joins = one_joins t.server series.squash s.server p.from here few
 
     same_end : end_bytes (Some one_series) ≡ open_bytes series
-    same_end =
-        ap (λ (k : SquashData). open_bytes (record { front = front; singles = one_series.singles; squash = k })) joins
-        ∙ ap (λ f. open_bytes (record { front = f; singles = one_series.singles; squash = series.squash }))
-        (sym p.front)
-        ∙ rw is refl
+    same_end = grind (arith, common_steps, joins)
 
     as_one : IsEnded limits.max_body at version due due_in s (Some series) t before
     as_one = record {
@@ -205,7 +195,7 @@ module _ (limits : LimitsData) (ranges : AreInRange limits) (at : ℕ) (version 
             placed = refl;
             due = refl;
           }) (not_bad t before one change accepted done short) (end_bytes before) (Some one_series)
-          (begun_step t before one change accepted done short entry p.from.found p.apart));
+          (begun_step t before one change accepted done short entry p.from.at.found p.apart));
       same_due = not_due;
     }
 

@@ -1,5 +1,5 @@
 -- What `normalise` writes with squash: a series by its changes, and by the bytes that the code keeps of it.
-use Rattle.lsp_replay.proofs.Prelude.{Bool, List, None, Option, Some, [], ap, append-nil, bytes_eq, false, length, map, nat_lt, refl, subst, sym, true, ℕ, ◌++◌, ◌∙◌, ◌∷◌, ◌≡◌, flat_map-append, Err, Result, flat_map, if◌then◌else◌, is_none, option_map, frame, Record, reading, ChangeData, DocumentItem, RecordOutput, canonical_change_body, canonical_if, change_in, ends, followed_by, front_of, line_if, log_config, output_in, unless_bad, writes, written, RunOutput, written_first, Session, Verdict, answered, bad, judge, opened, session_outcome, SeriesChange, change_if, change_on, joined, series_after, series_written, squash_output, squashed, squashing, Outcome, OpenSeries, Step, begun, begun_on, change_output, end_bytes, faulty, joined_by, longer, open_bytes, other_step, squash_step, squashed_in, squashed_steps, step_if, changed, reply, incoming_of, content_change_from_data, session_encoding, change_parts, SquashData, squash_frame, squash_refusal, Refusal, entry_at, EngineFault, BadLog, BodyTooLong, units_in}
+use Rattle.lsp_replay.proofs.Prelude.{Bool, List, None, Option, Some, [], ap, append-nil, arith, bytes_eq, false, length, map, nat_lt, refl, subst, sym, true, ℕ, ◌++◌, ◌∙◌, ◌∷◌, ◌≡◌, common_steps, flat_map-append, Err, flat_map, if◌then◌else◌, is_none, option_map, frame, Record, reading, ChangeData, DocumentItem, RecordOutput, canonical_change_body, canonical_if, change_in, ends, followed_by, front_of, line_if, log_config, output_in, unless_bad, writes, written, RunOutput, Session, Verdict, answered, bad, judge, opened, session_outcome, SeriesChange, change_if, change_on, joined, series_after, series_written, squash_output, squashed, squashing, Settings, OpenSeries, Step, begun, begun_on, change_output, end_bytes, faulty, joined_by, longer, open_bytes, other_step, squash_step, squashed_in, squashed_steps, step_if, changed, reply, incoming_of, content_change_from_data, session_encoding, change_parts, SquashData, squash_frame, squash_refusal, Refusal, entry_at, BadLog, BodyTooLong, units_in}
 use Rattle.lsp_replay.proofs.Records.ChangeLemmas.{was_accepted}
 use Rattle.lsp_replay.specs.inside.Squashed as kept
 
@@ -39,16 +39,12 @@ joined_uri : (squash : SquashData) (series : List SeriesChange) → (joined squa
 joined_uri squash [] = refl
 joined_uri squash (c ∷ series) = joined_uri (joined_by c.change squash) series
 
-singles_more : (series : List SeriesChange) (c : SeriesChange) → flat_map single_of (series ++ c ∷ [])
-    ≡ flat_map single_of series ++ c.single
-singles_more series c = flat_map-append single_of series (c ∷ [])
-    ∙ ap (λ z. flat_map single_of series ++ z) (append-nil c.single)
-
 kept_more : (first : SeriesChange) (series : List SeriesChange) (c : SeriesChange) → kept_of ((first ∷ series) ++ c ∷
     []) ≡ Some (longer (kept_series first series) c.change c.single)
 kept_more first series c = λ i. Some (record {
   front = first.front;
-  singles = singles_more (first ∷ series) c i;
+  singles = (flat_map-append single_of (first ∷ series) (c ∷ [])
+      ∙ ap (λ z. flat_map single_of (first ∷ series) ++ z) (append-nil c.single)) i;
   squash = joined_more first.document (first ∷ series) c i;
 })
 
@@ -176,12 +172,7 @@ module _ (s : Session) (r : Record) where
 
 same_on : (a b : RecordOutput) (c d : RunOutput) → a ≡ b → (b.end ≡ None → c ≡ d)
     → followed_by a.out a.end c ≡ followed_by b.out b.end d
-same_on a b c d is later = ap (λ (g : RecordOutput). followed_by g.out g.end c) is ∙ by b.end later
-  where
-    by : (end : Option (Result Outcome EngineFault)) → (end ≡ None → c ≡ d)
-        → followed_by b.out end c ≡ followed_by b.out end d
-    by None later = ap (written_first b.out) (later refl)
-    by (Some answer) later = refl
+same_on a b c d is later = grind (arith, common_steps)
 
 abbrev ended : Session → List ℕ → RunOutput
 ended s bytes
@@ -200,5 +191,9 @@ series_are s series (r ∷ rs) =
     (λ e. series_are j.session next rs ∙ ap (λ (k : Option OpenSeries). squashed_in j.session k rs) (here.1 e))
 
 -- What is written by the changes of each series is what the code makes.
+pub squashed_at : (settings : Settings) (records : List Record)
+    → squashed settings records ≡ squashed_steps settings records
+squashed_at settings records = series_are (opened (log_config settings)) [] records
+
 pub squashed_is : squashed_steps ≡ squashed
-squashed_is = λ i. λ settings records. sym (series_are (opened (log_config settings)) [] records) i
+squashed_is = λ i. λ settings records. sym (squashed_at settings records) i

@@ -78,7 +78,8 @@ module _ (limits : LimitsData) (ranges : AreInRange limits) (at : ℕ) (version 
         set.message.joins squash encoding here
         ∙ sym (joins_as p squash (session_encoding s.server) (chars set.entry.text) set.items encoding here set.means);
     done = done;
-    like = alike_both (session_after s p) (judge s r).session (judge (numbered n m s) q).session (is_done s r p a).leaves (
+    like = alike_both (session_after s p) (judge s r).session (judge (numbered n m s) q).session
+        (is_done s r p a).leaves (
       done.leaves.0,
       done.leaves.1,
       done.leaves.2

@@ -1,6 +1,6 @@
 -- What `normalise` writes of a log with squash, a part at a time: records that lead to the same documents, and of which
 -- the same is written.
-use Rattle.lsp_replay.proofs.Prelude.{Bool, List, None, Option, Some, [], ap, append_assoc, ap₂, arith, bytes_eq, false, length, refl, subst, sym, ℕ, ◌++◌, ◌+◌, ◌∙◌, ◌∷◌, ◌≡◌, ◌≢◌, common_steps, length-append, ⊤, due_after, AreRecords, IsRecord, Record, mark_of, record_bytes, together, Version, followed_by, front_of, line_if, replaying, RunOutput, written_first, Session, bad, judge, run_output_in, OpenSeries, Step, end_bytes, squash_step, squashed_in}
+use Rattle.lsp_replay.proofs.Prelude.{Bool, List, None, Option, Some, [], ap, append_assoc, arith, bytes_eq, false, length, refl, subst, sym, ℕ, ◌++◌, ◌+◌, ◌∙◌, ◌∷◌, ◌≡◌, ◌≢◌, common_steps, length-append, ⊤, due_after, AreRecords, IsRecord, Record, record_bytes, together, Version, followed_by, front_of, line_if, replaying, RunOutput, written_first, Session, bad, judge, run_output_in, OpenSeries, Step, end_bytes, squash_step, squashed_in}
 use Rattle.lsp_replay.proofs.CourseLemmas.{IsReportedAs, none_due, report_on, reported_by, reported_end}
 use Rattle.lsp_replay.proofs.Records.NumberedLemmas.{IsAlike}
 
@@ -58,10 +58,7 @@ pub one_run : (max_body at : ℕ) (version : Version) (due : Bool) (t : Session)
     → IsRun max_body at version due t before (q ∷ []) (front_of q.head ++ q.raw) out (judge t q).session left
 one_run max_body at version due t before q is not_bad out left goes = record {
   are = (is, tt);
-  is = λ rest.
-      ap₂ (λ (b : Bool) (v : Version). ((line_if b ++ mark_of v q.head.side) ++ q.raw) ++ rest) is.due is.of_version
-      ∙ ap (λ z. z ++ rest) (append_assoc (line_if due) (mark_of version q.head.side) q.raw)
-      ∙ append_assoc (line_if due) (mark_of version q.head.side ++ q.raw) rest;
+  is = λ rest. grind (arith, common_steps, append_assoc);
   run_output = λ more. step_on t before q more out left goes;
   replay = λ more. report_on t q more not_bad;
 }
@@ -75,11 +72,7 @@ module _ {max_body at : ℕ} {version : Version} {due : Bool} {t u last : Sessio
   then_run = record {
     are = are_more max_body version at due us vs first.are
         (subst (λ n. AreRecords max_body version n (due_after due us) vs) placed more.are);
-    is = λ rest.
-        append_assoc bytes more_bytes (line_if (due_after due (us ++ vs)) ++ rest)
-        ∙ ap (λ b. bytes ++ (more_bytes ++ (line_if b ++ rest))) (due_more due us vs)
-        ∙ ap (λ z. bytes ++ z) (more.is rest) ∙ first.is (together version vs rest)
-        ∙ ap (λ z. line_if due ++ z) (sym (together_more version us vs rest));
+    is = λ rest. grind (arith, common_steps, append_assoc, due_more, together_more, first.is, more.is);
     run_output = λ others.
         let end = squashed_in last left others in
         ap (squashed_in t before) (append_assoc us vs others) ∙ first.run_output (vs ++ others)

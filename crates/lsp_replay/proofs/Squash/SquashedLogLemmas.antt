@@ -1,9 +1,9 @@
 -- What `normalise` writes of a log with squash is a log, of which `replay` reports the same, and of which the same is
 -- written.
-use Rattle.lsp_replay.proofs.Prelude.{Bool, List, None, Option, Some, [], ap, append-nil, append_assoc, arith, bytes_eq, false, length, refl, subst, sym, true, ℕ, ⊎_elim, ◌++◌, ◌+◌, ◌∙◌, ◌∷◌, ◌≡◌, ◌≢◌, cases_Bool, place_after, AreInRange, LimitsData, due_after, AreRecords, IsReadAs, IsRecord, Log, Record, is_line_due, line_of, record_bytes, together, Version, reading, whole, ChangeData, as_log, canonical_if, change_in, front_of, line_if, log_config, replaying, report, writes, all_of, RunOutput, written_first, Session, answered, bad, judge, opened, squashed, Settings, run_output_in, OpenSeries, Step, end_bytes, other_step, squash_step, squash_view, squashed_in, squashed_steps, LeavesAlike, SquashedLaw, changed, incoming_of}
+use Rattle.lsp_replay.proofs.Prelude.{Bool, List, None, Option, Some, [], ap, append-nil, append_assoc, arith, bytes_eq, false, length, refl, subst, sym, true, ℕ, ⊎_elim, ◌++◌, ◌+◌, ◌∙◌, ◌∷◌, ◌≡◌, ◌≢◌, cases_Bool, place_after, AreInRange, LimitsData, due_after, AreRecords, IsRecord, Log, Record, is_line_due, line_of, record_bytes, together, Version, reading, ChangeData, canonical_if, change_in, front_of, line_if, log_config, replaying, writes, all_of, RunOutput, written_first, Session, answered, bad, judge, opened, squashed, run_output_in, OpenSeries, Step, end_bytes, other_step, squash_step, squash_view, squashed_in, SquashedLaw, changed, incoming_of}
 use Rattle.lsp_log.proofs.LogLemmas.{due_now}
 use Rattle.lsp_replay.proofs.CourseLemmas.{IsReportedAs, ended_as, line_first, reads_back, reported_by, went_on}
-use Rattle.lsp_replay.proofs.Squash.SeriesLemmas.{squashed_is}
+use Rattle.lsp_replay.proofs.Squash.SeriesLemmas.{squashed_at}
 use Rattle.lsp_replay.proofs.Records.ChangeLemmas.{IsAccepted, IsOtherKind, IsChangeKind, kind_of, not_bad_of, was_accepted}
 use Rattle.lsp_replay.proofs.Records.JudgeLemmas.{judged_held}
 use Rattle.lsp_replay.proofs.Records.NumberedLemmas.{IsAlike, alike_self, judged_alike}
@@ -46,6 +46,12 @@ module _ (limits : LimitsData) (ranges : AreInRange limits) where
       → IsHeldState limits t.server → IsAfter limits.max_body at version due false (judge s r).session series t before
       → (squashed_in (judge s r).session series rs).stop ≡ None → IsSquashedAs limits.max_body at version due false
       (judge s r).session series rs t before) where
+    abbrev change : Option ChangeData
+    change = change_in (incoming_of (reading r.body))
+
+    abbrev IsWritten : Type 0
+    IsWritten = IsSquashedAs limits.max_body at version due due_in s series (r ∷ rs) t before
+
     e : IsEnded limits.max_body at version due due_in s series t before
     e = all_ended at version due due_in s series t before held_out is_after
 
@@ -61,7 +67,7 @@ module _ (limits : LimitsData) (ranges : AreInRange limits) where
         subst (λ (step : Step). (squashed_in (judge s r).session step.series rs).stop ≡ None) gives goes
 
     -- a record that is written as it is
-    module _ (kind : IsOtherKind s.server (change_in (incoming_of (reading r.body))) (judge s r).verdict) where
+    module _ (kind : IsOtherKind s.server change (judge s r).verdict) where
       abbrev q : Record
       q = record r { head = record r.head { place = place_after 0 next_at } }
 
@@ -71,17 +77,14 @@ module _ (limits : LimitsData) (ranges : AreInRange limits) where
       not_bad_last : (judge e.last r).verdict ≢ bad
       not_bad_last f = kind.0 (sym alike.0 ∙ f)
 
-      none_last : canonical_if e.last.server (change_in (incoming_of (reading r.body))) (judge e.last r).verdict ≡ None
-      none_last =
-          ap (λ (u : Session). canonical_if u.server (change_in (incoming_of (reading r.body)))
-          (judge e.last r).verdict) e.like.2
-          ∙ ap (canonical_if s.server (change_in (incoming_of (reading r.body)))) alike.0 ∙ kind.1
+      none_last : canonical_if e.last.server change (judge e.last r).verdict ≡ None
+      none_last = ap (λ (u : Session). canonical_if u.server change (judge e.last r).verdict) e.like.2
+          ∙ ap (canonical_if s.server change) alike.0 ∙ kind.1
 
       gives_other : squash_step s series r (judge s r) ≡ other_step r (front_of r.head) series
-      gives_other = step_other s.server r (front_of r.head) series (change_in (incoming_of (reading r.body)))
-          (judge s r).verdict kind.0 kind.1
+      gives_other = step_other s.server r (front_of r.head) series change (judge s r).verdict kind.0 kind.1
 
-      others : IsSquashedAs limits.max_body at version due due_in s series (r ∷ rs) t before
+      others : IsWritten
       others =
           let later : ℕ = at + length (together version (e.us ++ q ∷ []) []) in
           behind
@@ -93,8 +96,7 @@ module _ (limits : LimitsData) (ranges : AreInRange limits) where
             placed = refl;
             due = due_r;
           }) not_bad_last (end_bytes e.left ++ (front_of r.head ++ r.raw)) None
-          (step_other e.last.server q (front_of q.head) e.left (change_in (incoming_of (reading q.body)))
-          (judge e.last q).verdict not_bad_last none_last)))
+          (step_other e.last.server q (front_of q.head) e.left change (judge e.last q).verdict not_bad_last none_last)))
           (append-nil (end_bytes before ++ (end_bytes e.left ++ (front_of r.head ++ r.raw)))
           ∙ ap (λ z. end_bytes before ++ (z ++ (front_of r.head ++ r.raw))) e.same_bytes)
           later refl s series r rs None gives_other kind.0
@@ -103,7 +105,7 @@ module _ (limits : LimitsData) (ranges : AreInRange limits) where
           (refl, alike.1, due_more due e.us (q ∷ [])) (goes_by (other_step r (front_of r.head) series) gives_other))
 
     -- an accepted change
-    module _ (kind : IsChangeKind s.server (change_in (incoming_of (reading r.body))) (judge s r).verdict) where
+    module _ (kind : IsChangeKind s.server change (judge s r).verdict) where
       abbrev p : ChangeData
       p = kind.0
 
@@ -113,7 +115,7 @@ module _ (limits : LimitsData) (ranges : AreInRange limits) where
       not_bad : (judge s r).verdict ≢ bad
       not_bad f = let wrong : answered changed ≡ bad = sym kind.2 ∙ f in cc
 
-      begins : IsApart series p.uri → IsSquashedAs limits.max_body at version due due_in s series (r ∷ rs) t before
+      begins : IsApart series p.uri → IsWritten
       begins apart =
           let b : IsSeriesStep limits.max_body next_at version (due_after due e.us) s series r (end_bytes series) e.last
           e.left =
@@ -127,8 +129,7 @@ module _ (limits : LimitsData) (ranges : AreInRange limits) where
           (b.pending, refl) (goes_by _ b.writes))
 
       continues : (open_series : OpenSeries) → series ≡ Some open_series → bytes_eq p.uri open_series.squash.uri ≡ true
-          → IsPending limits.max_body at version due s open_series t before → due_in ≡ false
-          → IsSquashedAs limits.max_body at version due due_in s series (r ∷ rs) t before
+          → IsPending limits.max_body at version due s open_series t before → due_in ≡ false → IsWritten
       continues open_series is_series same pending not_due =
           let l : IsSeriesStep limits.max_body at version due s (Some open_series) r [] t before =
           longer_series limits ranges at version due s r p is.of_version received accepted kind.3 open_series t before
@@ -138,9 +139,7 @@ module _ (limits : LimitsData) (ranges : AreInRange limits) where
           s series r rs (Some l.next) writes not_bad
           (rest at due (Some l.next) t before held_out (l.pending, refl) (goes_by _ writes))
 
-    changes : (kind : IsChangeKind s.server (change_in (incoming_of (reading r.body))) (judge s r).verdict)
-        (o : Option OpenSeries) → series ≡ o
-        → IsSquashedAs limits.max_body at version due due_in s series (r ∷ rs) t before
+    changes : (kind : IsChangeKind s.server change (judge s r).verdict) (o : Option OpenSeries) → series ≡ o → IsWritten
     changes kind None is = begins kind (subst (λ (x : Option OpenSeries). IsApart x kind.0.uri) (sym is) tt)
     changes kind (Some open_series) is =
         ⊎_elim
@@ -152,15 +151,11 @@ module _ (limits : LimitsData) (ranges : AreInRange limits) where
         (subst (λ (x : Option OpenSeries). IsApart x kind.0.uri) (sym is) not))
         (cases_Bool (bytes_eq kind.0.uri open_series.squash.uri))
 
-    one_record : (squash_step s series r (judge s r)).end ≡ None
-        → IsSquashedAs limits.max_body at version due due_in s series (r ∷ rs) t before
+    one_record : (squash_step s series r (judge s r)).end ≡ None → IsWritten
     one_record none =
-        ⊎_elim (λ (kind : IsOtherKind s.server (change_in (incoming_of (reading r.body))) (judge s r).verdict). others
-        kind)
-        (λ (kind : IsChangeKind s.server (change_in (incoming_of (reading r.body))) (judge s r).verdict). changes kind
-        series refl)
-        (kind_of s.server r (front_of r.head) series (change_in (incoming_of (reading r.body))) (judge s r).verdict
-        none)
+        ⊎_elim (λ (kind : IsOtherKind s.server change (judge s r).verdict). others kind)
+        (λ (kind : IsChangeKind s.server change (judge s r).verdict). changes kind series refl)
+        (kind_of s.server r (front_of r.head) series change (judge s r).verdict none)
 
   squashed_log : (rs : List Record) (at place : ℕ) (version : Version) (due due_in : Bool) (s : Session)
       (series : Option OpenSeries) (t : Session) (before : Option OpenSeries) → IsHeldState limits s.server →
@@ -181,23 +176,14 @@ module _ (limits : LimitsData) (ranges : AreInRange limits) where
 
 -- ---- the bytes
 
--- what is to be shown, of any output
-record IsSquashedBy (f : Settings → List Record → RunOutput) (settings : Settings) (records : List Record)
-    (bytes : List ℕ) : Type 0 where
-  outcome : (f settings records).outcome ≡ (report settings records).outcome
-  leaves : LeavesAlike settings records bytes
-  continues : (f settings leaves.log.records).stop ≡ None
-  again : all_of (f settings) leaves.log ≡ bytes
-
-abbrev LawBy : (Settings → List Record → RunOutput) → Type 0
-LawBy f = (settings : Settings) → AreInRange settings.limits → (input : List ℕ) (log : Log)
-    → IsReadAs (as_log settings) input log → log.rest ≡ [] → (f settings log.records).stop ≡ None
-    → IsSquashedBy f settings log.records (all_of (f settings) log)
-
-steps_law : LawBy squashed_steps
-steps_law settings ranges input log reads whole goes = record {
-  outcome = (ended_as squash_view (λ series u r e. not_bad_of u.server r (front_of r.head) series
-      (change_in (incoming_of (reading r.body))) (judge u r).verdict e) (λ series u. refl) None s log.records goes).0;
+-- What `normalise` writes of a log with squash is a log, of which `replay` reports the same, and of which the same is
+-- written.
+pub squashed_law : SquashedLaw
+squashed_law settings ranges input log reads whole goes = record {
+  outcome = ap (λ (c : RunOutput). c.outcome) here
+      ∙ (ended_as squash_view (λ series u r e. not_bad_of u.server r (front_of r.head) series
+      (change_in (incoming_of (reading r.body))) (judge u r).verdict e) (λ series u. refl) None s log.records
+      steps_go).0;
   leaves = record {
     log = next;
     reads = reads_back settings log.version w.qs bytes w.run.are is;
@@ -213,12 +199,17 @@ steps_law settings ranges input log reads whole goes = record {
       ∙ ap (λ z. z ++ (end_bytes w.left ++ line_if (is_line_due log.version w.qs))) (append-nil w.out)
       ∙ sym (append_assoc w.out (end_bytes w.left) (line_if (is_line_due log.version w.qs)))
       ∙ ap (λ z. z ++ line_if (is_line_due log.version w.qs)) w.ends
-      ∙ ap (λ b. w.bytes ++ line_if b) (sym (due_now log.version w.qs) ∙ sym same_due)
-      ∙ sym (w.all (is_line_due log.version log.records));
+      ∙ ap (λ b. w.bytes ++ line_if b) (sym (due_now log.version w.qs) ∙ sym same_due) ∙ sym all;
 }
   where
     s : Session
     s = opened (log_config settings)
+
+    here : squashed settings log.records ≡ squashed_in s None log.records
+    here = squashed_at settings log.records
+
+    steps_go : (squashed_in s None log.records).stop ≡ None
+    steps_go = sym (ap (λ (c : RunOutput). c.stop) here) ∙ goes
 
     w : IsSquashedAs settings.limits.max_body (length (line_of log.version)) log.version (is_line_due log.version [])
         (is_line_due log.version []) s None log.records s None
@@ -226,37 +217,33 @@ steps_law settings ranges input log reads whole goes = record {
         squashed_log settings.limits ranges log.records (length (line_of log.version)) (length (line_of log.version))
         log.version (is_line_due log.version []) (is_line_due log.version []) s None s None
         (record { limit = refl; table = tt }) (record { limit = refl; table = tt }) (refl, alike_self s, refl)
-        reads.each goes
+        reads.each steps_go
 
     next : Log
     next = record { version = log.version; records = w.qs; rest = [] }
 
     bytes : List ℕ
-    bytes = all_of (squashed_steps settings) log
+    bytes = all_of (squashed settings) log
 
     same_due : is_line_due log.version log.records ≡ due_after (is_line_due log.version []) w.qs
     same_due = sym (due_now log.version log.records) ∙ w.same_due
 
+    all : bytes ≡ w.bytes ++ line_if (is_line_due log.version log.records)
+    all = ap (λ (c : RunOutput). c.out ++ c.last (is_line_due log.version log.records)) here
+        ∙ w.all (is_line_due log.version log.records)
+
     is : bytes ≡ line_of log.version ++ together log.version w.qs []
     is =
-        w.all (is_line_due log.version log.records) ∙ ap (λ b. w.bytes ++ line_if b) same_due
+        all ∙ ap (λ b. w.bytes ++ line_if b) same_due
         ∙ ap (λ z. w.bytes ++ z) (sym (append-nil (line_if (due_after (is_line_due log.version []) w.qs))))
         ∙ w.run.is [] ∙ ap (λ z. z ++ together log.version w.qs []) (line_first log.version)
 
     -- the same of what was written
-    course : squashed_in s None w.qs ≡ written_first w.out (squashed_in w.last w.left [])
-    course = ap (squashed_in s None) (sym (append-nil w.qs)) ∙ w.run.run_output []
+    course : squashed settings w.qs ≡ written_first w.out (squashed_in w.last w.left [])
+    course = squashed_at settings w.qs ∙ ap (squashed_in s None) (sym (append-nil w.qs)) ∙ w.run.run_output []
 
     replayed : run_output_in replaying s w.qs ≡ run_output_in replaying w.last []
     replayed = ap (run_output_in replaying s) (sym (append-nil w.qs)) ∙ w.run.replay []
 
     reported : IsReportedAs (run_output_in replaying s w.qs) (run_output_in replaying s log.records)
     reported = reported_by _ _ _ _ replayed refl w.reported
-
--- What `normalise` writes of a log with squash is a log, of which `replay` reports the same, and of which the same is
--- written.
-pub squashed_law : SquashedLaw
-squashed_law settings ranges input log reads whole goes =
-    let all : LawBy squashed = subst LawBy squashed_is steps_law in
-    let law = all settings ranges input log reads whole goes in
-    record { outcome = law.outcome; leaves = law.leaves; continues = law.continues; again = law.again }

@@ -1,5 +1,5 @@
 -- A change that begins a series, and one that goes on with the open series.
-use Rattle.lsp_replay.proofs.Prelude.{Bool, List, None, Option, Some, [], ap, append-nil, ap₂, bytes_eq, false, length, map, refl, subst, sym, true, ℕ, ◌++◌, ◌+◌, ◌∙◌, ◌∷◌, ◌≡◌, ◌≤◌, bytes_eq-Decides, chars, plain_text, frame, AreInRange, LimitsData, due_after, IsRecord, Record, mark_of, together, Sender, Version, ChangeData, DocumentItem, canonical_change_body, front_of, line_if, Session, judge, server_after, OpenSeries, end_bytes, joined_by, longer, squash_step, content_change_from_data, session_encoding, MayChange, change_parts, within_at, SquashData, squash_of, entry_at, IsWithin, units_in}
+use Rattle.lsp_replay.proofs.Prelude.{Bool, List, None, Option, Some, [], ap, append-nil, arith, bytes_eq, false, length, map, refl, subst, sym, true, ℕ, ◌++◌, ◌+◌, ◌∙◌, ◌∷◌, ◌≡◌, ◌≤◌, common_steps, bytes_eq-Decides, chars, plain_text, frame, AreInRange, LimitsData, due_after, IsRecord, Record, together, Version, ChangeData, DocumentItem, canonical_change_body, front_of, Session, judge, server_after, OpenSeries, end_bytes, joined_by, longer, squash_step, content_change_from_data, session_encoding, MayChange, change_parts, within_at, SquashData, squash_of, entry_at, IsWithin, units_in}
 use Rattle.lsp_replay.proofs.Squash.JoiningLemmas.{uri_at}
 use Rattle.lsp_replay.proofs.Squash.SingleLemmas.{IsSingle, is_single, single_record}
 use Rattle.lsp_replay.proofs.Records.ChangeLemmas.{IsAccepted, IsDone, is_done, proper_change}
@@ -69,13 +69,8 @@ module _ (limits : LimitsData) (ranges : AreInRange limits) (at : ℕ) (version 
 
     gives : squash_step t before q (judge t q) ≡ record { out = end_bytes before; end = None; series = Some begun }
     gives =
-        begun_step t before q single.again single.accepted single.done single.within its_entry found_out
-        (subst (IsApart before) (sym single.same_uri) apart)
-        ∙ ap₂ (λ (b : List ℕ) (k : SquashData). record {
-          out = end_bytes before;
-          end = None;
-          series = Some (record { front = front_of r.head; singles = front_of r.head ++ frame b; squash = k });
-        }) single.own same_squash
+        grind (arith, common_steps, (begun_step t before q single.again single.accepted single.done single.within its_entry
+        found_out (subst (IsApart before) (sym single.same_uri) apart)), single.own, same_squash)
 
     pub begun_series : IsSeriesStep limits.max_body at version due s series r (end_bytes series) t before
     begun_series = record {
@@ -98,8 +93,7 @@ module _ (limits : LimitsData) (ranges : AreInRange limits) (at : ℕ) (version 
               ∙ ap (λ server. numbered done_in.leaves.0 done_in.leaves.1 (record s { server = server })) left,
         );
         apart = subst (IsApart before) (sym (uri_at s.server.table p.uri its_entry may_in.is_open)) apart;
-        front = ap (λ b. line_if b ++ mark_of r.head.version r.head.side) same_due
-            ∙ ap₂ (λ (v : Version) (side : Sender). line_if due ++ mark_of v side) of_version a.side;
+        front = grind (arith, common_steps);
         us = q ∷ [];
         line = refl;
         last = (judge t q).session;
@@ -145,13 +139,8 @@ module _ (limits : LimitsData) (ranges : AreInRange limits) (at : ℕ) (version 
     gives_last : squash_step last (Some series) more_q (judge last more_q)
         ≡ record { out = []; end = None; series = Some next_series }
     gives_last =
-        longer_step last (Some series) more_q another.again another.accepted another.done another.within series refl
-        (ap (λ u. bytes_eq u series.squash.uri) another.same_uri ∙ same)
-        ∙ ap₂ (λ (b : List ℕ) (k : SquashData). record {
-          out = [];
-          end = None;
-          series = Some (record series { singles = series.singles ++ (front_of r.head ++ frame b); squash = k });
-        }) another.own joins_same
+        grind (arith, common_steps, (longer_step last (Some series) more_q another.again another.accepted another.done
+        another.within series refl (ap (λ u. bytes_eq u series.squash.uri) another.same_uri ∙ same)), another.own, joins_same)
 
     -- the records up to now, and this one
     all_singles : IsRun limits.max_body at version due t before (open_series.us ++ more_q ∷ []) next_series.singles

@@ -1,5 +1,5 @@
 -- What `normalise` writes of the records that stay: a log of which `replay` reports the same.
-use Rattle.lsp_replay.proofs.Prelude.{Bool, List, None, Option, [], ap, false, length, refl, subst, sym, true, ℕ, ◌++◌, ◌||◌, ◌∙◌, ◌≡◌, IfOk, Result, AreInRange, IsReadAs, Log, Record, is_line_due, line_of, together, Version, One, whole, RanOver, as_log, canonical_log, log_config, normalising, report, KeepsDocuments, Kept, WroteDocuments, documents, kept_records, nothing_selected, PortState, all_of, RunOutput, Session, opened, normalised_if, squashed, Settings, Outcome, squash_view, squashed_steps, IsCanonicalLog, IsSquashed, LeavesAlike, EngineFault}
+use Rattle.lsp_replay.proofs.Prelude.{Bool, List, None, Option, [], ap, false, length, refl, subst, sym, true, ℕ, ◌++◌, ◌||◌, ◌∙◌, ◌≡◌, IfOk, Result, AreInRange, IsReadAs, Log, Record, is_line_due, line_of, together, Version, One, RanOver, as_log, canonical_log, log_config, normalising, report, KeepsDocuments, Kept, WroteDocuments, documents, kept_records, nothing_selected, PortState, all_of, RunOutput, Session, opened, normalised_if, squashed, Settings, Outcome, squash_view, IsCanonicalLog, IsSquashed, LeavesAlike, EngineFault}
 use Rattle.lsp_log.proofs.LogLemmas.{due_now}
 use Rattle.lsp_replay.specs.laws.Documents.{DocumentsLaw, DocumentsStopAlike}
 use Rattle.lsp_replay.proofs.CourseLemmas.{IsReportedAs, reads_back}
@@ -7,7 +7,7 @@ use Rattle.lsp_replay.proofs.Stay.KeptLogLemmas.{IsKeptLog, each_placeless, kept
 use Rattle.lsp_replay.proofs.Canonical.NormalisedLemmas.{canonical_log_law}
 use Rattle.lsp_replay.proofs.Records.NumberedLemmas.{alike_self}
 use Rattle.lsp_replay.proofs.Squash.SquashedLemmas.{stops_alike}
-use Rattle.lsp_replay.proofs.Squash.SeriesLemmas.{squashed_is}
+use Rattle.lsp_replay.proofs.Squash.SeriesLemmas.{squashed_at}
 use Rattle.lsp_replay.proofs.Squash.SquashedLogLemmas.{squashed_law}
 use Rattle.lsp_replay.proofs.Runs.WroteLemmas.{IsNotOk, at_the_end, normal_not_ok}
 
@@ -26,15 +26,13 @@ documents_stop settings records =
 
 -- ---- where the records lie changes nothing
 
-abbrev LocatedBy : (Settings → List Record → RunOutput) → Type 0
-LocatedBy f = (settings : Settings) (rs : List Record) (at : ℕ) (version : Version) → (f settings rs).stop ≡ None
-    → f settings (located_all at version rs) ≡ f settings rs
-
-steps_located : LocatedBy squashed_steps
-steps_located settings = located_output squash_view squash_placeless None (opened (log_config settings))
-
-squashed_located : LocatedBy squashed
-squashed_located = subst LocatedBy squashed_is steps_located
+squashed_located : (settings : Settings) (rs : List Record) (at : ℕ) (version : Version)
+    → (squashed settings rs).stop ≡ None → squashed settings (located_all at version rs) ≡ squashed settings rs
+squashed_located settings rs at version on =
+    squashed_at settings (located_all at version rs)
+    ∙ located_output squash_view squash_placeless None (opened (log_config settings)) rs at version
+    (sym (ap (λ (c : RunOutput). c.stop) (squashed_at settings rs)) ∙ on)
+    ∙ sym (squashed_at settings rs)
 
 -- ---- the records that stay, as a log
 
@@ -61,10 +59,10 @@ module _ (settings : Settings) (ranges : AreInRange settings.limits) (input : Li
   abbrev bytes : List ℕ
   bytes = line_of log.version ++ together log.version ks []
 
-  abbrev kept_as_log : Log
-  kept_as_log = record { version = log.version; records = ks; rest = [] }
+  abbrev short_log : Log
+  short_log = record { version = log.version; records = ks; rest = [] }
 
-  kept_reads : IsReadAs (as_log settings) bytes kept_as_log
+  kept_reads : IsReadAs (as_log settings) bytes short_log
   kept_reads = reads_back settings log.version ks bytes (kept.are reads.each) refl
 
   abbrev due_at_end : Bool
@@ -75,7 +73,7 @@ module _ (settings : Settings) (ranges : AreInRange settings.limits) (input : Li
       ap (λ b. k.due || b) (sym (due_now log.version log.records)) ∙ kept.same_due reads.each
       ∙ sym (located_due log.version start due k.records) ∙ due_now log.version ks
 
-  all_same : (g : List Record → RunOutput) → g ks ≡ g k.records → all_of g kept_as_log ≡ (g k.records).out
+  all_same : (g : List Record → RunOutput) → g ks ≡ g k.records → all_of g short_log ≡ (g k.records).out
       ++ (g k.records).last due_at_end
   all_same g same =
       ap (λ (c : RunOutput). c.out ++ c.last (is_line_due log.version ks)) same
@@ -87,7 +85,7 @@ module _ (settings : Settings) (ranges : AreInRange settings.limits) (input : Li
 
     -- what an output of the records that stay is, by a law of that output
     leaves_by : (g : List Record → RunOutput) → g ks ≡ g k.records → (g ks).outcome ≡ (report settings ks).outcome
-        → LeavesAlike settings ks (all_of g kept_as_log)
+        → LeavesAlike settings ks (all_of g short_log)
         → KeepsDocuments settings log.records (g k.records).outcome ((g k.records).out ++ (g k.records).last due_at_end)
     leaves_by g same outcome leaves =
         let reports = sym (ap (λ (c : RunOutput). c.outcome) same) ∙ outcome in
@@ -121,13 +119,13 @@ module _ (settings : Settings) (ranges : AreInRange settings.limits) (input : Li
         ((normalised_if b settings k.records).out ++ (normalised_if b settings k.records).last due_at_end)
     keeps_if false on =
         let same = located_output normalising each_placeless tt s k.records start log.version on in
-        let law : IsCanonicalLog settings ks (all_of (canonical_log settings) kept_as_log) =
-        canonical_log_law settings ranges bytes kept_as_log kept_reads refl (ap (λ (c : RunOutput). c.stop) same ∙ on) in
+        let law : IsCanonicalLog settings ks (all_of (canonical_log settings) short_log) =
+        canonical_log_law settings ranges bytes short_log kept_reads refl (ap (λ (c : RunOutput). c.stop) same ∙ on) in
         leaves_by (canonical_log settings) same law.outcome (canonical_leaves _ law)
     keeps_if true on =
         let same = squashed_located settings k.records start log.version on in
-        let law : IsSquashed settings ks (all_of (squashed settings) kept_as_log) =
-        squashed_law settings ranges bytes kept_as_log kept_reads refl (ap (λ (c : RunOutput). c.stop) same ∙ on) in
+        let law : IsSquashed settings ks (all_of (squashed settings) short_log) =
+        squashed_law settings ranges bytes short_log kept_reads refl (ap (λ (c : RunOutput). c.stop) same ∙ on) in
         leaves_by (squashed settings) same law.outcome law.leaves
 
 pub documents_law : DocumentsLaw

@@ -1,11 +1,9 @@
 -- The records that stay, as a log of their own.
-use Rattle.lsp_replay.proofs.Prelude.{Bool, List, None, Option, Some, [], ap, ap₂, arith, false, length, refl, subst, sym, true, ℕ, ⊎_elim, ◌+◌, ◌||◌, ◌∙◌, ◌∷◌, ◌≡◌, ◌≢◌, cases_Bool, cond_both, common_steps, Err, Result, place_after, frame, due_after, AreRecords, Record, record_bytes, Version, reading, ChangeData, RecordOutput, View, canonical_change_body, canonical_if, change_in, followed_by, front_of, normalising, output_in, replaying, unless_bad, written, Kept, Selection, after_kept, after_left_out, is_due, kept_first, kept_in, record_stays, with_line, Session, Verdict, bad, judge, Outcome, run_output_in, IsChange, OpenSeries, Step, squash_step, squash_view, incoming_of, ServerData, EngineFault, BadLog}
+use Rattle.lsp_replay.proofs.Prelude.{Bool, List, None, Option, [], ap, ap₂, arith, false, length, refl, subst, sym, true, ℕ, ◌+◌, ◌||◌, ◌∙◌, ◌∷◌, ◌≡◌, ◌≢◌, cases_Bool, cond_both, common_steps, Result, place_after, due_after, AreRecords, Record, record_bytes, Version, reading, ChangeData, RecordOutput, View, canonical_if, change_in, followed_by, front_of, normalising, output_in, replaying, unless_bad, written, Kept, Selection, after_kept, after_left_out, is_due, kept_first, kept_in, record_stays, with_line, Session, Verdict, bad, judge, Outcome, run_output_in, OpenSeries, Step, squash_view, step_if, incoming_of, ServerData, EngineFault}
 use Rattle.lsp_replay.proofs.CourseLemmas.{IsReportedAs, none_due, passed, report_on, reported_by, reported_end, went_on}
-use Rattle.lsp_replay.proofs.Records.ChangeLemmas.{IsChangeKind, IsOtherKind, kind_of}
 use Rattle.lsp_replay.proofs.Stay.LeftOutLemmas.{IsHarmless, harmless, stays_alike}
 use Rattle.lsp_replay.proofs.Records.NumberedLemmas.{IsAlike, alike_both, judged_alike}
 use Rattle.lsp_replay.proofs.Squash.SquashedLemmas.{stop_on}
-use Rattle.lsp_replay.proofs.Squash.SquashingLemmas.{step_changed, step_other}
 
 -- ---- the records that stay, by whether the first does
 
@@ -31,22 +29,13 @@ single server r v =
     (canonical_if server (change_in (incoming_of (reading r.body))) v))
 
 -- The line of version 2 doesn't decide how a record ends the run.
-written_end : (max_body : ℕ) (r : Record) (front other : List ℕ) (c : Option (List ℕ))
-    → (written max_body r front c).end ≡ (written max_body r other c).end
-written_end max_body r front other None = refl
-written_end max_body r front other (Some body) = grind (arith, common_steps, cases_Bool)
-
 line_end : (server : ServerData) (c : Selection) (r : Record) (v : Verdict) → (single server (with_line c r) v).end
     ≡ (single server r v).end
-line_end server c r bad = refl
-line_end server c r v = written_end server.config.limits.max_body r (front_of (with_line c r).head)
-    (front_of r.head) (canonical_if server (change_in (incoming_of (reading r.body))) v)
+line_end server c r v = grind (arith, common_steps, cases_Bool)
 
 single_none : (server : ServerData) (r : Record) (v : Verdict) → v ≢ bad
     → canonical_if server (change_in (incoming_of (reading r.body))) v ≡ None → (single server r v).end ≡ None
-single_none server r bad not_bad none = absurd (not_bad refl)
-single_none server r _ not_bad none =
-    ap (λ c. (written server.config.limits.max_body r (front_of r.head) c).end) none
+single_none server r v not_bad none = grind (arith, common_steps)
 
 -- ---- records at other places
 
@@ -179,42 +168,20 @@ module _ {State : Type 0} (view : View State) (same : IsPlaceless view) where
       (output_in view n (judge s r).session (located_all later version rs))) here.0 here.1
       ∙ ap (followed_by given.out given.end) (located_output next (judge s r).session rs later version on.1)
 
-located_written : (max_body at : ℕ) (r : Record) (front : List ℕ) (c : Option (List ℕ))
-    → (written max_body r front c).end ≡ None → written max_body (located at r) front c ≡ written max_body r front c
-located_written max_body at r front None e = refl
-located_written max_body at r front (Some body) e = grind (arith, common_steps, cases_Bool)
-
 located_single : (server : ServerData) (at : ℕ) (r : Record) (v : Verdict) → (single server r v).end ≡ None
     → single server (located at r) v ≡ single server r v
-located_single server at r bad e = absurd (let wrong : Some (Err (BadLog r.head.place)) ≡ None = e in cc)
-located_single server at r v e = located_written server.config.limits.max_body at r (front_of r.head)
-    (canonical_if server (change_in (incoming_of (reading r.body))) v) e
+located_single server at r v e = grind (arith, common_steps, cases_Bool)
 
 pub each_placeless : IsPlaceless normalising
 each_placeless _ s r at e = (located_single s.server at r (judge s r).verdict e, refl)
 
-module _ (s : Session) (series : Option OpenSeries) (at : ℕ) (r : Record) where
-  abbrev change : Option ChangeData
-  change = change_in (incoming_of (reading r.body))
-
-  located_step : (squash_step s series r (judge s r)).end ≡ None → squash_step s series (located at r) (judge s r)
-      ≡ squash_step s series r (judge s r)
-  located_step e =
-      ⊎_elim
-      (λ (kind : IsOtherKind s.server change (judge s r).verdict).
-      step_other s.server (located at r) (front_of r.head) series change (judge s r).verdict kind.0 kind.1
-      ∙ sym (step_other s.server r (front_of r.head) series change (judge s r).verdict kind.0 kind.1))
-      (λ (kind : IsChangeKind s.server change (judge s r).verdict).
-      let is : IsChange s.server change (judge s r).verdict (frame (canonical_change_body s.server kind.0)) =
-      record { params = kind.0; is = kind.1; accepted = kind.2; framed = record { is = refl; within = kind.3 } } in
-      step_changed s.server (located at r) (front_of r.head) (frame (canonical_change_body s.server kind.0)) series
-      change
-      (judge s r).verdict is
-      ∙ sym (step_changed s.server r (front_of r.head) (frame (canonical_change_body s.server kind.0)) series change
-      (judge s r).verdict is))
-      (kind_of s.server r (front_of r.head) series change (judge s r).verdict e)
+located_step : (server : ServerData) (at : ℕ) (r : Record) (front : List ℕ) (series : Option OpenSeries)
+    (change : Option ChangeData) (v : Verdict) → (step_if server r front series change v).end ≡ None
+    → step_if server (located at r) front series change v ≡ step_if server r front series change v
+located_step server at r front series change v e = grind (arith, common_steps, cases_Bool)
 
 pub squash_placeless : IsPlaceless squash_view
 squash_placeless series s r at e =
-    let same = located_step s series at r e in
+    let same = located_step s.server at r (front_of r.head) series (change_in (incoming_of (reading r.body)))
+    (judge s r).verdict e in
     (ap (λ (step : Step). record { out = step.out; end = step.end }) same, ap (λ (step : Step). step.series) same)

@@ -1,5 +1,5 @@
 -- A record that is left out changes nothing of a session but its counts.
-use Rattle.lsp_replay.proofs.Prelude.{Bool, List, None, Option, Some, ap, false, is_some, refl, subst, sym, true, ℕ, ◌&&◌, ◌∙◌, ◌≡◌, ◌≢◌, cond_both, option_map, other, Record, Sender, Client, Server, Version, One, Two, IdData, Reading, reading, ChangeData, canonical_if, change_in, is_answer_to, message_stays, record_stays, Judged, Session, answered, bad, count_if, counted, encoding_for, encoding_in, expected_of, handled, is_change, is_early, is_ended, is_new, is_refused, is_running, judge, judge_client, judge_from, judge_server, judged, recorded, result_for, AnswerData, Sent, as_sent, IncomingData, incoming_of, other_notification, other_request, response, Phase, Down, Ended, New, Running, one_more, Data}
+use Rattle.lsp_replay.proofs.Prelude.{Bool, List, None, Option, Some, ap, arith, false, is_some, refl, subst, sym, true, ℕ, ◌&&◌, ◌≡◌, ◌≢◌, cases_Bool, common_steps, option_map, Record, Sender, Client, Server, Version, One, Two, IdData, Reading, reading, ChangeData, canonical_if, change_in, is_answer_to, message_stays, record_stays, Judged, Session, answered, bad, counted, encoding_for, encoding_in, expected_of, handled, is_change, is_early, is_ended, is_refused, is_running, judge, judge_client, judge_from, judge_server, judged, recorded, result_for, AnswerData, Sent, as_sent, IncomingData, incoming_of, other_notification, other_request, response, Phase, Down, Ended, New, Running, one_more, Data}
 use Rattle.lsp_server.specs.Step.{ServerData, step_in, step_on}
 use Rattle.std.proofs.lemmas.Bool.{or_parts}
 use Rattle.lsp_replay.proofs.Canonical.CanonicalLogLemmas.{heard_has_none}
@@ -34,10 +34,7 @@ idle server Ended (response id) e = absurd (let wrong : true ≡ false = e in cc
 idle server _ _ e = absurd (let wrong : true ≡ false = e in cc)
 
 early : (a b c : Bool) → c ≡ false → (a && b && c) ≡ false
-early a b true e = absurd (cc)
-early true true false e = refl
-early false false false e = refl
-early _ _ false e = refl
+early a b c e = grind (arith, common_steps, cases_Bool)
 
 module _ (s : Session) (version : Version) (m : IncomingData) (left_out : message_stays s.server.phase m ≡ false) where
   here : IsIdle s.server.phase s.server m
@@ -57,19 +54,7 @@ module _ (s : Session) (version : Version) (m : IncomingData) (left_out : messag
   is_handled = rw (here.0, not_early) refl
 
   is_quiet : judge_client s version m ≡ judged (answered answer) (record s { messages = one_more s.messages })
-  is_quiet =
-      is_handled ∙ ap (λ (server : ServerData). handled s version m server answer) here.1
-      ∙ ap (λ (e : Option IdData). judged (answered answer) (record s {
-        expected = e;
-        messages = one_more s.messages;
-        refusals = count_if (is_refused answer) s.refusals;
-      }))
-      (cond_both (is_new s.server.phase) (expected_of version m s.expected) s.expected (λ e. e ≡ s.expected)
-      (λ _. expects version) (λ _. refl))
-      ∙ ap (λ (b : Bool). judged (answered answer) (record s {
-        messages = one_more s.messages;
-        refusals = count_if b s.refusals;
-      })) here.2
+  is_quiet = grind (arith, common_steps, cases_Bool, is_handled, expects, here.1, here.2)
 
   client_harmless : IsHarmless s (change_in m) (judge_client s version m)
   client_harmless =
