@@ -6,6 +6,7 @@
 -- `Reports/TraceLawLemmas`.
 pub mod KnownLemmas
 mod Prelude
+pub mod CourseLemmas
 pub mod Runs
 pub mod Records
 pub mod Canonical

@@ -1,5 +1,5 @@
 -- The last text of a document, over one more record.
-use Rattle.lsp_replay.proofs.Prelude.{arith, cases_Bool, common_steps, ◌≡◌, ◌⊎◌, inl, inr, ℕ, Bool, true, false, List, [], ◌∷◌, ◌++◌, map, Option, Some, None, option_map, bytes_eq, refl, sym, ap, ◌∙◌, if◌then◌else◌, ℤ, bytes_eq-Decides, units_in, Encoding, ContentChange, reading, DocumentItem, CloseData, Phase, New, Running, Down, IncomingData, not_json, initialize, did_open, did_change, did_close, ServerData, step_in, result_step, content_change_from_data, session_encoding, Version, Session, judged, counted, judge_client, judge_server, encoding_for, last_text, last_text_in, BodyData, from_client, from_server, judge_read, closed_by, kept_after, text_at, text_closed}
+use Rattle.lsp_replay.proofs.Prelude.{Bool, List, None, Option, Some, [], ap, arith, bytes_eq, false, inl, inr, map, refl, sym, true, ℕ, ℤ, ◌++◌, ◌∙◌, ◌∷◌, ◌≡◌, ◌⊎◌, cases_Bool, common_steps, bytes_eq-Decides, option_map, ContentChange, Version, reading, CloseData, DocumentItem, last_text, last_text_in, Session, counted, encoding_for, judge_client, judge_server, judged, BodyData, from_client, from_server, judge_read, closed_by, kept_after, text_at, text_closed, IncomingData, did_change, did_close, did_open, initialize, not_json, ServerData, content_change_from_data, result_step, session_encoding, step_in, Phase, Down, New, Running, units_in, Encoding}
 use Rattle.lsp_store.specs.Table.{Refusal, entry_at, after_open, after_change, after_close, close_refusal, change_refusal, open_refusal, unless_refused}
 use Rattle.lsp_replay.proofs.Records.JudgeLemmas.{of_incoming}
 
@@ -8,16 +8,10 @@ use Rattle.lsp_replay.proofs.Records.JudgeLemmas.{of_incoming}
 abbrev Stays : List DocumentItem → List DocumentItem → List ℕ → Type 0
 Stays table next uri = entry_at next uri ≡ None → entry_at table uri ≡ None
 
-none_more : (b : Bool) (entry : DocumentItem) (found other : Option DocumentItem) → (other ≡ None → found ≡ None)
-    → (if b then Some entry else other) ≡ None → (if b then Some entry else found) ≡ None
-none_more true entry found other stays e = absurd (let wrong : Some entry ≡ None = e in cc)
-none_more false entry found other stays e = stays e
-
 stays_last : (table : List DocumentItem) (entry : DocumentItem) (uri : List ℕ) → Stays table (table ++ entry ∷ []) uri
 stays_last [] entry uri e = refl
 stays_last (x ∷ table) entry uri e =
-    none_more (bytes_eq uri x.uri) x (entry_at table uri) (entry_at (table ++ entry ∷ []) uri)
-    (stays_last table entry uri) e
+    grind (arith, common_steps, cases_Bool, (stays_last table entry uri))
 
 last_found : (table : List DocumentItem) (entry : DocumentItem) (uri : List ℕ) → bytes_eq uri entry.uri ≡ true
     → entry_at (table ++ entry ∷ []) uri ≡ None → ⊥

@@ -1,6 +1,5 @@
 -- The reason of a record, by the change that a running server received: a change that isn't received isn't refused.
-use Rattle.lsp_replay.proofs.Prelude.{cond_both, ◌≡◌, ◌⊎◌, inl, inr, Bool, List, ℕ, Option, Some, None, is_some, refl, sym, ap, ◌∙◌, subst, ⊎_elim, ⊤, ◌&&◌, is_none, IdData, reading, ChangeData, Phase, New, Running, Down, Ended, dropped, IncomingData, did_change, incoming_of, Head, Sender, Client, Server, Version, change_in, is_mention, is_strict_refusal, Session, Verdict, answered, recorded, bad, encoding_for, is_running, judge_client, judge_from, judge_server, body_read, judge_at, received_of}
-use Rattle.lsp_replay.proofs.Canonical.CanonicalLogLemmas.{heard_as}
+use Rattle.lsp_replay.proofs.Prelude.{List, None, Option, Some, ap, inl, inr, refl, subst, sym, ℕ, ⊎_elim, ◌&&◌, ◌∙◌, ◌≡◌, ◌⊎◌, cond_both, is_none, ⊤, Head, Sender, Client, Server, Version, IdData, reading, ChangeData, change_in, is_strict_refusal, Session, Verdict, answered, bad, encoding_for, is_running, judge_client, judge_from, judge_server, recorded, body_read, judge_at, received_of, dropped, IncomingData, did_change, incoming_of, Phase, Down, Ended, New, Running, Encoding, is_some, is_mention}
 use Rattle.lsp_replay.proofs.Records.JudgeLemmas.{asks_change}
 
 -- a verdict that has no reason, whatever was sent
@@ -10,9 +9,9 @@ IsQuiet bad = ⊤
 IsQuiet (answered dropped) = ⊤
 IsQuiet (answered answer) = ⊥
 
-heard_quiet : (verdict : Verdict) → (verdict ≡ recorded) ⊎ (verdict ≡ bad) → IsQuiet verdict
-heard_quiet verdict (inl e) = rw e tt
-heard_quiet verdict (inr e) = rw e tt
+heard_quiet : (s : Session) (announced : Option (Option Encoding)) → IsQuiet (judge_server s announced).verdict
+heard_quiet s (Some None) = tt
+heard_quiet s _ = tt
 
 -- a change is received, or its verdict has no reason
 module _ (s : Session) (version : Version) (p : ChangeData) where
@@ -34,9 +33,7 @@ module _ (s : Session) (body : List ℕ) where
       ⊎ IsQuiet (judge_from s version side body).verdict
 
   received_at : (version : Version) (side : Sender) → Received version side
-  received_at version Server =
-      inr (heard_quiet (judge_server s (encoding_for s.expected (reading body))).verdict
-      (heard_as s (encoding_for s.expected (reading body))))
+  received_at version Server = inr (heard_quiet s (encoding_for s.expected (reading body)))
   received_at version Client = by (change_in m) refl
     where
       state : (p : ChangeData) → m ≡ did_change (Some p)
