@@ -28,15 +28,14 @@ id_in-id_value : (id : IdData) → IsProperId id → id_in (values.id_value id) 
 id_in-id_value (whole (pos n)) h = ap (option_map whole) (as_i64-of_integer (pos n) h)
 id_in-id_value _ h = refl
 
-message_of-error_reply : (id : Option IdData) (error : ErrorCode) → IfSome id IsProperId
-    → message_of (values.error_reply_value id error) ≡ message (sent (spec.error_reply id error))
-message_of-error_reply (Some (whole n)) error h = rw (id_in-id_value (whole n) h) refl
-message_of-error_reply _ error h = refl
+id_found-id_or_null : (id : Option IdData) → IfSome id IsProperId → id_found (Some (values.id_or_null id)) ≡ id
+id_found-id_or_null None h = refl
+id_found-id_or_null (Some id) h = id_in-id_value id h
 
 message_of-value_of : (m : OutgoingData) → IsProper m → message_of (values.value_of m) ≡ message (sent m)
 message_of-value_of (spec.initialize_result (whole n) encoding kind) h = rw (id_in-id_value (whole n) h) refl
 message_of-value_of (spec.shutdown_result (whole n)) h = rw (id_in-id_value (whole n) h) refl
-message_of-value_of (spec.error_reply id error) h = message_of-error_reply id error h
+message_of-value_of (spec.error_reply id error) h = grind (arith, common_steps, id_found-id_or_null)
 message_of-value_of _ h = refl
 
 pub reading-body_of : (m : OutgoingData) → IsProper m → reading (spec.body_of m) ≡ message (sent m)
@@ -140,10 +139,6 @@ written_by None d = replied (id_found (get (codes "id") d)) (get (codes "error")
 
 abbrev written_as : Data → Option OutgoingData
 written_as d = written_by (text_in (get (codes "method") d)) d
-
-id_found-id_or_null : (id : Option IdData) → IfSome id IsProperId → id_found (Some (values.id_or_null id)) ≡ id
-id_found-id_or_null None h = refl
-id_found-id_or_null (Some id) h = id_in-id_value id h
 
 error_named-text : (e : ErrorCode) → error_named (spec.error_message e) ≡ Some e
 error_named-text ParseError = refl

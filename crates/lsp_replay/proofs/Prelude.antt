@@ -127,7 +127,7 @@ pub use Rattle.lsp_server.specs.declared.answer.Refusal.TheVariants.{Store}
 pub use Rattle.lsp_server.specs.declared.phase.Phase.{Phase}
 pub use Rattle.lsp_server.specs.declared.phase.Phase.TheVariants.{Down, Ended, New, Running}
 pub use Rattle.lsp_store.proofs.GreaterLemmas.{MayChange, change_parts}
-pub use Rattle.lsp_store.proofs.Messages.MessageLemmas.{Accepts, accepted_parts, body_within, is_read, is_settled}
+pub use Rattle.lsp_store.proofs.Messages.MessageLemmas.{Accepts, accepted_parts, is_read}
 pub use Rattle.lsp_store.proofs.Messages.ScalarLemmas.{canonical_texts, scalar-meaning, scalar-text}
 pub use Rattle.lsp_store.proofs.SquashLemmas.{after_is, squash_accepted}
 pub use Rattle.lsp_store.proofs.WithinLemmas.{within_at, within_change, within_close, within_end}

@@ -1,8 +1,7 @@
 -- What greater limits accept, and the canonical batch as a law.
-use Rattle.lsp_store.proofs.Prelude.{ℕ, ℤ, ◌≡◌, ◌≤◌, ◌<◌, false, nat_lt, nat_le, List, length, Option, Some, None, ap, ◌∙◌, arith, chars, le-ltb, ltb-false, lt-leb, leb-false, LimitsData, units_in, ContentChange, canonical_law, units_some, DocumentItem, opens, changes, closes, entry_at, is_taken, open_refusal, refusal_on, entry_refusal, change_refusal, after_close, GreaterLimitsLaw, CanonicalBatchLaw, AreWithin, common_steps, subst, sym, cases_Bool}
+use Rattle.lsp_store.proofs.Prelude.{ℕ, ℤ, ◌≡◌, ◌≤◌, ◌<◌, false, nat_lt, nat_le, List, length, Option, Some, None, ap, ◌∙◌, arith, chars, le-ltb, ltb-false, lt-leb, leb-false, LimitsData, units_in, ContentChange, canonical_law, units_some, DocumentItem, opens, changes, closes, entry_at, is_taken, open_refusal, refusal_on, entry_refusal, change_refusal, after_close, GreaterLimitsLaw, CanonicalBatchLaw, AreWithin, common_steps, cases_Bool}
 use Rattle.lsp_store.proofs.Tables.LenientLemmas.{still_new, still_free}
-use Rattle.lsp_store.proofs.Messages.MessageLemmas.{Accepts, accepted_parts, accepted_from, batch_at, settled_accepted, settled_leaves, accepts}
-use Rattle.lsp_store.specs.laws.Tables.{IsReplacedBy}
+use Rattle.lsp_store.proofs.Messages.MessageLemmas.{Accepts, accepted_parts, accepted_from, batch_at, settled_may, settled_leaves, accepts}
 
 -- a document may be opened
 pub record MayOpen (limits : LimitsData) (table : List DocumentItem) (entry : DocumentItem) : Type 0 where
@@ -72,11 +71,11 @@ canonical_batch_law small great encoding table uri version batch ranges within e
     let m = change_parts small units table uri version batch e in
     let laws = canonical_law units (units_some encoding) (chars m.entry.text) in
     let a = accepts small encoding table uri version m.entry m.is_open laws batch m.may in
-    subst (λ (b : List ContentChange). IsReplacedBy great (units_in encoding) table uri version batch b)
-    (sym (batch_at small encoding table uri version m.entry m.is_open laws batch a.items a.means)) (record {
+    rw (batch_at small encoding table uri version m.entry m.is_open laws batch a.items a.means) (record {
       accepted =
           change_from great units table uri version _ m.entry m.is_open
           (greater_entry small great units m.entry version _ within
-          (settled_accepted small encoding table uri version m.entry m.is_open laws batch m.may ranges.greatest_text));
+          (settled_may small encoding table uri version m.entry m.is_open laws batch m.may
+          (omega (arith, a.short, ranges.greatest_text))));
       leaves = settled_leaves small encoding table uri version m.entry m.is_open laws batch m.may;
     })

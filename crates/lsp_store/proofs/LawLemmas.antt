@@ -1,12 +1,11 @@
 -- What is true of the table of documents.
 -- ---- what an accepted command says of the table
-use Rattle.lsp_store.proofs.Prelude.{ℕ, ℤ, ◌≡◌, false, List, [], ◌∷◌, ◌++◌, length, map, IsUtf8, bytes_eq, encode_utf8_all, Some, None, refl, ap, ◌∙◌, arith, chars, cases_Bool, sum_by-cons, bytes_eq-Decides, encodes-chars, LimitsData, AreInRange, units_in, New, ContentChange, bytes_left, DocumentItem, Command, opens, changes, closes, batch_bytes, entry_at, entry_refusal, changed, after_change, after_close, table_after, table_from, AreTexts, whole_text, WholeTextLaw, UniqueLaw, TableLaw, LastLaw, IsWithin, AreUnique, AreAccepted, IsInOrder, AreWithin, common_steps, subst, sym}
+use Rattle.lsp_store.proofs.Prelude.{ℕ, ℤ, ◌≡◌, false, List, [], ◌∷◌, ◌++◌, length, map, IsUtf8, bytes_eq, encode_utf8_all, Some, None, refl, ap, ◌∙◌, arith, chars, cases_Bool, sum_by-cons, bytes_eq-Decides, encodes-chars, LimitsData, AreInRange, units_in, New, ContentChange, bytes_left, DocumentItem, Command, opens, changes, closes, batch_bytes, entry_at, entry_refusal, changed, after_change, after_close, table_after, table_from, AreTexts, WholeTextLaw, UniqueLaw, TableLaw, LastLaw, IsWithin, AreUnique, AreAccepted, IsInOrder, AreWithin, common_steps}
 use Rattle.lsp_edit.proofs.Parts.CutLemmas.{text_of-new}
 use Rattle.lsp_store.proofs.Tables.LenientLemmas.{still_new}
 use Rattle.lsp_store.proofs.Messages.MessageLemmas.{Accepts, accepted_parts, accepted_from, leaves_same}
 use Rattle.lsp_store.proofs.GreaterLemmas.{change_parts, change_from}
 use Rattle.lsp_store.proofs.WithinLemmas.{within_at, within_changed, within_law}
-use Rattle.lsp_store.specs.laws.Tables.{IsReplacedBy}
 
 -- a changed document is found where it was
 pub found_changed : (units : ℕ → ℕ) (table : List DocumentItem) (uri : List ℕ) (version : ℤ)
@@ -51,8 +50,7 @@ whole_text_law small great encoding table uri version batch ranges within kept t
     let m = change_parts small units table uri version batch e in
     let h = within_at small table uri m.entry kept m.is_open in
     let left = within_changed small units m.entry version batch texts h m.may in
-    subst (λ (b : List ContentChange). IsReplacedBy great (units_in encoding) table uri version batch b)
-    (sym (ap whole_text (found_changed units table uri version batch m.entry m.is_open))) (record {
+    rw (found_changed units table uri version batch m.entry m.is_open) (record {
       accepted =
           change_from great units table uri version _ m.entry m.is_open
           (accepted_from great units m.entry version _ (whole_accepts small great units m.entry version batch ranges

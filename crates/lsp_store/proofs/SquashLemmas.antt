@@ -1,5 +1,5 @@
 -- Batches of changes on one document, as one: what the fields that are kept are.
-use Rattle.lsp_store.proofs.Prelude.{ℕ, ℤ, ◌≡◌, ◌<◌, ◌≤◌, false, inr, lt-ltb, ltb-false, TooManyChanges, nat_lt, List, length, IsUtf8, encode_utf8_all, Option, None, Ok, refl, sym, ap, ap₂, ◌∙◌, subst, arith, le-ltb, encodes-chars, chars, LimitsData, units_in, Encoding, Item, text_within, bytes_left, ContentChange, meaning, canonical, bytes_after, meant_by, canonical_law, units_some, StoreFault, Stored, IsRefusal, body_refusal, change_body, Plan, StoreData, entry_under, IsPlanOf, IsPlanOn, HasReached, IsSquashAfter, SquashData, add_refusal, reached_entry, squash_after, squash_refusal, squash_under, DocumentItem, IsLeftToMeaning, Refusal, changed, entry_refusal, is_stale, common_steps}
+use Rattle.lsp_store.proofs.Prelude.{ℕ, ℤ, ◌≡◌, ◌<◌, ◌≤◌, false, inr, lt-ltb, ltb-false, TooManyChanges, nat_lt, List, length, IsUtf8, encode_utf8_all, None, Ok, refl, sym, ap, ap₂, ◌∙◌, arith, le-ltb, encodes-chars, chars, LimitsData, units_in, Encoding, Item, text_within, bytes_left, ContentChange, meaning, canonical, bytes_after, meant_by, canonical_law, units_some, IsRefusal, body_refusal, change_body, Plan, StoreData, IsPlanOf, IsPlanOn, HasReached, IsSquashAfter, SquashData, add_refusal, reached_entry, squash_after, squash_refusal, squash_under, DocumentItem, IsLeftToMeaning, changed, entry_refusal, is_stale, common_steps}
 use Rattle.lsp_edit.specs.Compose.{then_items}
 use Rattle.lsp_edit.specs.Joined.{IsJoined, IsReached, JoinedData}
 use Rattle.lsp_edit.proofs.Batches.ComposeLemmas.{then_means}
@@ -65,7 +65,7 @@ module _ (kept : SquashData) (entry : DocumentItem) (version : ℤ) (more : List
   left_to_meaning left = λ units. rw (← same_text, ← at.version) (left units)
 
 -- A batch more, by what is kept of the batches before it.
-joins_after : (uri : List ℕ) (limits : LimitsData) (encoding : Encoding) (joined next : JoinedData)
+pub joins_after : (uri : List ℕ) (limits : LimitsData) (encoding : Encoding) (joined next : JoinedData)
     (before version next_version : ℤ) (more : List ContentChange)
     → add_refusal (seen uri limits encoding joined before) version more ≡ None
     → IsJoined (units_in encoding) joined more next → next_version ≡ version
@@ -85,42 +85,6 @@ joins_after uri limits encoding joined next before version next_version more acc
       version = version;
     }
     next_is = grind (arith, common_steps, ap₂)
-
--- ---- a batch on a document that is changed with the batches
-
-module _ (uri : List ℕ) (limits : LimitsData) (encoding : Encoding) (joined : JoinedData) (before : ℤ)
-    (stored : Stored) (utf8 : IsUtf8 stored.text)
-    (at : (u : List ℕ) → HasReached (seen uri limits encoding joined before) (entry_under u stored)) (version : ℤ)
-    (more : List ContentChange) where
-  stored_refusal : add_refusal (seen uri limits encoding joined before) version more
-      ≡ entry_refusal limits (units_in encoding) (entry_under uri stored) version more
-  stored_refusal =
-      refusal_is (seen uri limits encoding joined before) (entry_under uri stored) version more utf8 (at uri)
-
-  pub change_refused : (fault : StoreFault)
-      → IsRefusal (entry_refusal limits (units_in encoding) (entry_under uri stored) version more) fault
-      → IsRefusal (add_refusal (seen uri limits encoding joined before) version more) fault
-  change_refused fault why = subst (λ (r : Option Refusal). IsRefusal r fault) (sym stored_refusal) why
-
-  pub change_accepted : entry_refusal limits (units_in encoding) (entry_under uri stored) version more ≡ None
-      → add_refusal (seen uri limits encoding joined before) version more ≡ None
-  change_accepted accepted = stored_refusal ∙ accepted
-
-  pub change_left : IsLeftToMeaning limits (entry_under uri stored) version more
-      → IsLeftToMeaning limits (reached_entry (seen uri limits encoding joined before)) version more
-  change_left left =
-      left_to_meaning (seen uri limits encoding joined before) (entry_under uri stored) version more utf8 (at uri) left
-
-  pub change_at : IsReached joined stored.text
-  change_at = record { utf8 = utf8; text_is = (at uri).text }
-
-  pub change_adds : entry_refusal limits (units_in encoding) (entry_under uri stored) version more ≡ None
-      → (next : JoinedData) (next_version : ℤ) → IsJoined (units_in encoding) joined more next → next_version ≡ version
-      → IsSquashAfter (seen uri limits encoding joined before) version more
-      (seen uri limits encoding next next_version)
-  change_adds accepted next next_version is version_is =
-      joins_after uri limits encoding joined next before version next_version more (stored_refusal ∙ accepted) is
-      version_is
 
 -- ---- a batch that was planned
 
@@ -173,6 +137,6 @@ pub plan_at : (uri : List ℕ) (limits : LimitsData) (encoding : Encoding) (join
     (store : StoreData) (plan : Plan) (on : IsPlanOn store plan) (text : List ℕ) → text ≡ on.entry.text
     → HasReached (seen uri limits encoding joined before) on.entry → IsReached joined text
 plan_at uri limits encoding joined before store plan on text same at = record {
-  utf8 = subst IsUtf8 (sym same) (on_utf8 on.entry.text plan.delta on.on);
+  utf8 = rw same (on_utf8 on.entry.text plan.delta on.on);
   text_is = ap chars same ∙ at.text;
 }

@@ -1,6 +1,5 @@
 -- A written frame has one body.
-use Rattle.lsp_store.proofs.Prelude.{ℕ, ◌≡◌, ◌+◌, ◌<◌, ◌^◌, List, [], length, ap, sym, ◌∙◌, subst, arith, append-nil, frame}
-use Rattle.lsp_frame.specs.Frame.{IsFrameOf}
+use Rattle.lsp_store.proofs.Prelude.{ℕ, ◌≡◌, ◌+◌, ◌<◌, ◌^◌, List, [], length, ap, arith, append-nil, frame}
 use Rattle.lsp_frame.proofs.LawLemmas.{one_frame_law}
 use Rattle.lsp_frame.proofs.WrittenLemmas.{frame_len, written_is_frame}
 
@@ -11,4 +10,4 @@ frame_one body other small e =
     let own = written_is_frame most body (omega arith) (omega (arith, frame_len body, small)) in
     let same = written_is_frame most other (omega arith) (omega (arith, frame_len other, small, ap length e)) in
     (one_frame_law most (frame body) [] body other own
-    (subst (λ (b : List ℕ). IsFrameOf most b other) (sym (append-nil (frame body) ∙ e)) same)).1
+    (rw (append-nil (frame body), e) same)).1

@@ -1,5 +1,5 @@
 -- The canonical message of a batch that is accepted on an open document.
-use Rattle.lsp_store.proofs.Prelude.{ℕ, ℤ, ◌≡◌, ◌<◌, ◌≤◌, ◌^◌, ◌↔◌, false, nat_lt, List, [], ◌∷◌, ◌++◌, length, map, sum_by, FitsSigned, IsUtf8, bytes_eq, string_bytes, encode_utf8_all, Option, Some, None, Result, Ok, Err, refl, sym, ap, ◌∙◌, subst, arith, inl, inr, cases_Bool, lt-ltb, le-ltb, ltb-false, or_parts, or_from, sum_by-le-sum_by, IsUtf8-string_bytes, encodes-chars, encodes_same, scalars-chars, len_utf8, chars, frame, LimitsData, utf8_bounds, utf16_bounds, utf32_bounds, units_in, Encoding, Utf8, Utf16, Utf32, Change, Item, text_of, ContentChange, Fault, meaning, canonical, content_change, IsCanonical, bytes_left, DocumentItem, IsProper, IsReadAsSent, IsReadBack, StoreFault, store_fault_of_encode, IsRefusal, IsLeftToMeaning, Refusal, edit, batch_bytes, greatest_batch, entry_at, entry_refusal, change_refusal, after_change, changed, is_stale, meaning_refusal, common_steps}
+use Rattle.lsp_store.proofs.Prelude.{ℕ, ℤ, ◌≡◌, ◌<◌, ◌≤◌, ◌^◌, ◌↔◌, false, nat_lt, List, [], ◌∷◌, ◌++◌, length, map, sum_by, FitsSigned, IsUtf8, bytes_eq, string_bytes, encode_utf8_all, Option, Some, None, Result, Ok, Err, refl, sym, ap, ◌∙◌, arith, inl, inr, cases_Bool, lt-ltb, le-ltb, ltb-false, or_parts, or_from, sum_by-le-sum_by, IsUtf8-string_bytes, encodes-chars, encodes_same, scalars-chars, len_utf8, chars, frame, LimitsData, utf8_bounds, utf16_bounds, utf32_bounds, units_in, Encoding, Utf8, Utf16, Utf32, Change, Item, text_of, ContentChange, Fault, meaning, canonical, content_change, IsCanonical, bytes_left, DocumentItem, IsProper, IsReadAsSent, IsReadBack, StoreFault, store_fault_of_encode, IsRefusal, IsLeftToMeaning, Refusal, edit, batch_bytes, greatest_batch, entry_at, entry_refusal, change_refusal, after_change, changed, is_stale, meaning_refusal, common_steps}
 use Rattle.std.specs.Int.{w32}
 use Rattle.lsp_frame.specs.Encode.{IsEncodeFault}
 use Rattle.lsp_frame.specs.declared.written.EncodeFault.{EncodeFault}
@@ -61,12 +61,6 @@ written_one (c ∷ batch) (d ∷ other) e =
     let same : c ≡ d = λ i. record { range = range i; text = text i } in
     rw (same, written_one batch other rest) refl
 written_one _ _ e = absurd (cc)
-
-message_one : (uri : List ℕ) (version : ℤ) (batch other : List ContentChange) → change_message uri version batch
-    ≡ change_message uri version other → batch ≡ other
-message_one uri version batch other same =
-    let params : changed_to uri version batch ≡ changed_to uri version other = cc in
-    written_one batch other (ap (λ (d : ChangeData). d.changes) params)
 
 units_few : (encoding : Encoding) (c : ℕ) → units_in encoding c ≤ len_utf8 c
 units_few Utf8 c = (utf8_bounds c).1
@@ -177,13 +171,10 @@ module _ (limits : LimitsData) (encoding : Encoding) (table : List DocumentItem)
     abbrev settled : List ContentChange
     settled = canonical units text accepts.items
 
-    settled_may : length (bytes_left entry.text accepts.items) ≤ 1073741824
+    pub settled_may : length (bytes_left entry.text accepts.items) ≤ 1073741824
         → entry_refusal limits units entry version settled ≡ None
     settled_may small = canonical_accepted limits units entry version batch accepts.items law accepts.newer
         (omega (arith, law.few, accepts.few)) accepts.short small
-
-    pub settled_accepted : limits.max_text ≤ 1073741824 → entry_refusal limits units entry version settled ≡ None
-    settled_accepted small = settled_may (omega (arith, accepts.short, small))
 
     settled_batch : canonical_batch units table uri settled ≡ canonical_batch units table uri batch
     settled_batch = batch_at settled accepts.items law.means ∙ sym (batch_at batch accepts.items accepts.means)
@@ -200,18 +191,12 @@ module _ (limits : LimitsData) (encoding : Encoding) (table : List DocumentItem)
         → body_refusal limits (canonical_body units table uri version batch) ≡ None
         → IsCanonicalOf limits units table uri version batch (canonical_batch units table uri batch)
     settles small within =
-        subst (λ (b : List ContentChange). IsCanonicalOf limits units table uri version batch b)
-        (sym (batch_at batch accepts.items accepts.means)) (record {
+        rw (batch_at batch accepts.items accepts.means) (record {
           accepted = rw (refusal_at, settled_may small)
               (ap (λ (b : List ContentChange). body_refusal limits (change_body uri version b)) settled_batch ∙ within);
           leaves = settled_leaves;
           same_frame = ap (λ (b : List ContentChange). frame (change_body uri version b)) settled_batch;
         })
-
-    pub is_settled : limits.max_text ≤ 1073741824
-        → body_refusal limits (canonical_body units table uri version batch) ≡ None
-        → IsCanonicalOf limits units table uri version batch (canonical_batch units table uri batch)
-    is_settled small within = settles (omega (arith, accepts.short, small)) within
 
   -- ---- of messages that the types hold
 
@@ -236,8 +221,9 @@ module _ (limits : LimitsData) (encoding : Encoding) (table : List DocumentItem)
         → batch ≡ other
     unfolding change_body
     one_batch batch other p q e =
-        message_one uri version batch other
-        (unique (change_message uri version batch) (change_message uri version other) p q e)
+        let same : change_message uri version batch ≡ change_message uri version other = unique _ _ p q e in
+        let params : changed_to uri version batch ≡ changed_to uri version other = cc in
+        written_one batch other (ap (λ (d : ChangeData). d.changes) params)
 
     pub exactly_alike : (batch other : List ContentChange) → AreTexts batch → AreTexts other
         → entry_refusal limits units entry version batch ≡ None → entry_refusal limits units entry version other ≡ None
@@ -290,7 +276,7 @@ module _ (limits : LimitsData) (encoding : Encoding) (table : List DocumentItem)
         let p = proper batch a.items texts a.means in
         let m : OutgoingData = change_message uri version (canonical units text a.items) in
         let changes = map written_content_change (canonical units text a.items) in
-        subst (λ (b : List ContentChange). IsReadAgain uri version b) (sym (batch_at batch a.items a.means)) (record {
+        rw (batch_at batch a.items a.means) (record {
           params = change_params (record { uri = uri; version = version; changes = changes });
           as_sent = read_as m p;
           back = read_back m p;

@@ -49,14 +49,6 @@ rest_none units bytes (c ∷ rest) x y left utf8 h all = absurd (omega (
   (utf8_bounds c).0,
 ))
 
-all_bytes : (units : ℕ → ℕ) (bytes rest : List ℕ) (x y left : ℕ) → IsUtf8 bytes → HasPassed units (chars bytes) rest x y
-    left → rest ≡ [] → length bytes ≡ x
-all_bytes units bytes rest x y left utf8 h none = omega (
-  arith,
-  passed_length units bytes rest x y left utf8 h,
-  ap (λ (cs : List ℕ). length (encode_utf8_all cs)) none,
-)
-
 too_few_more : (units : ℕ → ℕ) (rest back : List ℕ) (left : ℕ) → (rest ≡ [] → ⊥) → IsTooFew units rest left
     → IsTooFew units (rest ++ back) left
 too_few_more units [] back left some few = absurd (some refl)
@@ -88,7 +80,7 @@ module _ (units : ℕ → ℕ) (text chunk : List ℕ) (offset left x y count : 
   done : HasPassed units (chars text) (p.rest ++ back) (offset + x) y count
   done =
       passed_then units (chars text) (chars chunk) back p.rest offset left x y count
-      (subst (λ (rest : List ℕ). HasPassed units (chars text) rest offset left count) parts h) p.passed
+      (rw parts at h) p.passed
 
   pub chunk_few : x ≤ length chunk
   chunk_few = omega (arith, passed_length units chunk p.rest x y left chunk_utf8 p.passed)
@@ -99,7 +91,11 @@ module _ (units : ℕ → ℕ) (text chunk : List ℕ) (offset left x y count : 
     rest = p.rest ++ back;
     passed = done;
     few = too_few_more units p.rest back y
-        (λ none. absurd (omega (arith, all_bytes units chunk p.rest x y left chunk_utf8 p.passed none, less))) p.few;
+        (λ none. absurd (omega (
+          arith,
+          rw none at (passed_length units chunk p.rest x y left chunk_utf8 p.passed),
+          less,
+        ))) p.few;
   }
 
   -- Else the next chunk follows.
@@ -111,8 +107,7 @@ module _ (units : ℕ → ℕ) (text chunk : List ℕ) (offset left x y count : 
   chunk_passed all =
       subst (λ (n : ℕ). HasPassed units (chars text) (chars (drop (offset + n) text)) (offset + x) y count)
       (sym (chunk_whole all))
-      (subst (λ (rest : List ℕ). HasPassed units (chars text) (rest ++ back) (offset + x) y count)
-      (rest_none units chunk p.rest x y left chunk_utf8 p.passed all) done)
+      (rw (rest_none units chunk p.rest x y left chunk_utf8 p.passed all) at done)
 
   pub chunk_next : length chunk ≤ x → IsCharBoundary text (offset + x)
-  chunk_next all = subst (λ (n : ℕ). IsCharBoundary text (offset + n)) (sym (chunk_whole all)) next
+  chunk_next all = rw (chunk_whole all) next

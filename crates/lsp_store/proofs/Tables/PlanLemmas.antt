@@ -1,5 +1,5 @@
 -- What a plan is of, and what it makes of a store.
-use Rattle.lsp_store.proofs.Prelude.{◌≡◌, ◌≤◌, ℕ, ℤ, zero, suc, Bool, List, [], ◌∷◌, length, map, nat_lt, Option, Some, None, Result, Ok, Err, IfOk, OnOk, option_map, slice_get, position, String, string_bytes, bytes_eq, refl, sym, ap, ◌∙◌, subst, arith, cases_Bool, slice_get-map, bytes_eq-Decides, lookup, lookup_key, Global, set_value_at, LimitsData, Encoding, units_in, Item, ContentChange, meaning, canonical, IsDeltaOf, IsOn, bytes_after, delta_encoding, meant_by, DocumentItem, Plan, Stored, StoreData, Takes, entry_of, entry_under, IsPlanOf, IsPlanOn, after_plan, planned, planned_table, StoreFault, IsRefusal, body_refusal, canonical_batch, canonical_body, change_body, message_refusal, Refusal, after_change, changed, changes, entry_at, entry_refusal, common_steps}
+use Rattle.lsp_store.proofs.Prelude.{◌≡◌, ◌≤◌, ℕ, ℤ, zero, suc, Bool, List, [], ◌∷◌, length, map, nat_lt, Option, Some, None, Result, Ok, Err, IfOk, OnOk, option_map, slice_get, position, String, string_bytes, bytes_eq, refl, sym, ap, ◌∙◌, subst, arith, cases_Bool, slice_get-map, bytes_eq-Decides, lookup, lookup_key, Global, set_value_at, LimitsData, Encoding, units_in, Item, ContentChange, meaning, canonical, IsDeltaOf, IsOn, bytes_after, delta_encoding, meant_by, DocumentItem, Plan, Stored, StoreData, Takes, entry_of, entry_under, IsPlanOf, IsPlanOn, after_plan, planned, planned_table, StoreFault, IsRefusal, body_refusal, canonical_batch, canonical_body, change_body, message_refusal, after_change, changed, changes, entry_at, entry_refusal, common_steps}
 use Rattle.std.specs.List.{position_or_len}
 use Rattle.std.specs.Str.{IsUtf8, chars}
 use Rattle.lsp_edit.specs.declared.delta.Delta.{Delta}
@@ -133,10 +133,10 @@ module _ (limits : LimitsData) (es : List (String Global × Stored)) (kept : Sto
     plan_text = ap (λ (e : DocumentItem). e.text) same_entry
 
     pub plan_on : IsOn stored.text plan.delta
-    plan_on = subst (λ (e : DocumentItem). IsOn e.text plan.delta) same_entry p.on
+    plan_on = rw same_entry at p.on
 
     pub plan_short : length (bytes_after stored.text plan.delta) ≤ 1073741824
-    plan_short = subst (λ (e : DocumentItem). length (bytes_after e.text plan.delta) ≤ 1073741824) same_entry p.short
+    plan_short = rw same_entry at p.short
 
     pub plan_applied : (new : Stored)
         → ((uri : List ℕ) → entry_under uri new ≡ planned (entry_under uri stored) plan.version plan.delta)
@@ -147,9 +147,7 @@ module _ (limits : LimitsData) (es : List (String Global × Stored)) (kept : Sto
     pub plan_unchanged : (new : Stored) → ((uri : List ℕ) → entry_under uri new ≡ entry_under uri stored)
         → (next : List (String Global × Stored)) → next ≡ set_value_at es plan.index new → seen limits next ≡ kept
     plan_unchanged new is next set =
-        ap (seen limits) set
-        ∙ ap (λ (table : List DocumentItem). record (seen limits es) { table = table })
-        (put_unchanged es plan.index h.key stored new h.at is) ∙ view
+        rw (set, put_unchanged es plan.index h.key stored new h.at is) view
 
 -- ---- the message of a plan
 
@@ -182,15 +180,14 @@ module _ (kept : StoreData) (uri : List ℕ) (version : ℤ) (encoding : Encodin
     pub planned_body : (key : List ℕ) → q.on.entry.uri ≡ key → (given : ℤ) → given ≡ plan.version
         → change_body key given answered ≡ canonical_body (units_in encoding) kept.table uri version batch
     planned_body key key_is given given_is =
-        ap (λ (u : List ℕ). change_body u given answered) (sym key_is ∙ entry_uri kept.table uri q.on.entry q.is_open)
-        ∙ (ap (λ (v : ℤ). change_body uri v answered) (given_is ∙ q.version_is)
-        ∙ ap (λ (b : List ContentChange). change_body uri version b) (planned_is ∙ sym batch_there))
+        let uri_is = sym key_is ∙ entry_uri kept.table uri q.on.entry q.is_open in
+        rw (uri_is, given_is ∙ q.version_is, planned_is, batch_there) refl
 
   module _ (limits : LimitsData) (limits_is : limits ≡ kept.limits) (body : List ℕ)
       (body_is : body ≡ canonical_body (units_in encoding) kept.table uri version batch) where
     body_refused : body_refusal limits body
         ≡ body_refusal kept.limits (canonical_body (units_in encoding) kept.table uri version batch)
-    body_refused = ap (λ (l : LimitsData). body_refusal l body) limits_is ∙ ap (body_refusal kept.limits) body_is
+    body_refused = rw (limits_is, body_is) refl
 
     message_is : message_refusal kept.limits (units_in encoding) kept.table uri version batch ≡ body_refusal limits body
     message_is = grind (arith, common_steps, body_refused)
@@ -201,7 +198,7 @@ module _ (kept : StoreData) (uri : List ℕ) (version : ℤ) (encoding : Encodin
 
     pub planned_refused : (fault : StoreFault) → IsRefusal (body_refusal limits body) fault
         → IsRefusal (message_refusal kept.limits (units_in encoding) kept.table uri version batch) fault
-    planned_refused fault why = subst (λ (r : Option Refusal). IsRefusal r fault) (sym message_is) why
+    planned_refused fault why = rw message_is why
 
 -- A plan that was applied is its command.
 pub plan_takes : (kept new : StoreData) (uri : List ℕ) (version : ℤ) (encoding : Encoding) (batch : List ContentChange)

@@ -1,5 +1,5 @@
 -- What the calls of a store make of it.
-use Rattle.lsp_store.proofs.Prelude.{◌≡◌, ◌≤◌, ◌<◌, ◌+◌, ◌++◌, ℕ, ℤ, true, false, List, [], ◌∷◌, length, map, Some, None, option_map, is_some, String, string_bytes, refl, sym, ap, ◌∙◌, arith, inr, length-append, length-map, lookup, remove_entry, Global, LimitsData, Encoding, units_in, ContentChange, StoreFault, NotOpen, Stored, IsRefusal, DocumentItem, IsLeftToMeaning, entry_at, is_taken, open_refusal, entry_refusal, change_refusal, after_close, after_open, opens, changes, closes, ChangeMayAllocate, StoreData, Takes, IsRefused, entry_under, entry_of, common_steps}
+use Rattle.lsp_store.proofs.Prelude.{◌≡◌, ◌≤◌, ◌<◌, ◌+◌, ◌++◌, ℕ, ℤ, true, false, List, [], ◌∷◌, length, map, Some, None, option_map, is_some, String, string_bytes, refl, sym, ap, ◌∙◌, arith, inr, length-append, length-map, lookup, remove_entry, Global, LimitsData, Encoding, ContentChange, NotOpen, Stored, DocumentItem, entry_at, is_taken, open_refusal, after_close, after_open, opens, changes, closes, StoreData, Takes, IsRefused, entry_under, entry_of, common_steps}
 use Rattle.lsp_store.proofs.Tables.TableLemmas.{at_uri, entry_at-lookup, is_some-entry_at, table-opened, others_all, others_but_one, table-remove_entry}
 
 -- what callers see of the fields
@@ -29,22 +29,9 @@ module _ (limits : LimitsData) (es : List (String Global × Stored)) (uri : List
         → IsRefused (seen limits es) (changes uri version encoding batch) NotOpen
     change_absent absent = inr (rw (← get_none absent) refl)
 
-    module _ (stored : Stored) (found : Some stored ≡ lookup (at_uri uri) es) where
-      found_at : entry_at (map entry_of es) uri ≡ Some (entry_under uri stored)
-      found_at = entry_at-lookup uri es ∙ ap (option_map (entry_under uri)) (sym found)
-
-      pub change_refused : (fault : StoreFault)
-          → IsRefusal (entry_refusal limits (units_in encoding) (entry_under uri stored) version batch) fault
-          → IsRefused (seen limits es) (changes uri version encoding batch) fault
-      change_refused fault error = rw found_at error
-
-      pub change_accepted : entry_refusal limits (units_in encoding) (entry_under uri stored) version batch ≡ None
-          → change_refusal limits (units_in encoding) (map entry_of es) uri version batch ≡ None
-      change_accepted accepted = rw found_at accepted
-
-      pub change_left : IsLeftToMeaning limits (entry_under uri stored) version batch
-          → ChangeMayAllocate (seen limits es) uri version batch
-      change_left left = rw found_at left
+  pub found_at : (stored : Stored) → Some stored ≡ lookup (at_uri uri) es → entry_at (map entry_of es) uri
+      ≡ Some (entry_under uri stored)
+  found_at stored found = entry_at-lookup uri es ∙ ap (option_map (entry_under uri)) (sym found)
 
   -- ---- closing
 

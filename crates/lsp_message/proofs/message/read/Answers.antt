@@ -1,5 +1,5 @@
-use Rattle.lsp_message.proofs.Prelude.{◌≡◌, refl, false≢true, err_from_is_err_and, message_of, reading, view}
-use Rattle.lsp_message.proofs.Readings.{reading_of_value, reading_of_none, marked_no_json, ok_by_reading, err_by_reading, fault_by_error}
+use Rattle.lsp_message.proofs.Prelude.{◌≡◌, refl, arith, common_steps, false≢true, err_from_is_err_and, message_of, reading, view}
+use Rattle.lsp_message.proofs.Readings.{reading_of_value, reading_of_none, marked_no_json, fault_by_error}
 use Rattle.lsp_message.proofs.message.read.Goals as goal
 
 pub returns-then-begins_with_mark-clause-error : goal.returns-then-begins_with_mark-clause-error
@@ -22,11 +22,11 @@ returns-clause-ok c =
     let same = c.in-Ok.ensures.cases in
     let is : reading c.args.body.now ≡ message_of (view c.in_ok-value.value) =
     reading_of_value c.args.body.now _ same.1 (rw same.0 at c.in_ok-value.ensures.ok) in
-    ok_by_reading _ _ _ is c.message_of.ensures
+    grind (arith, common_steps, is, c.message_of.ensures)
 
 pub returns-clause-error : goal.returns-clause-error
 returns-clause-error c =
     let same = c.in-Ok.ensures.cases in
     let is : reading c.args.body.now ≡ message_of (view c.in_ok-value.value) =
     reading_of_value c.args.body.now _ same.1 (rw same.0 at c.in_ok-value.ensures.ok) in
-    err_by_reading _ _ _ is c.message_of.ensures
+    grind (arith, common_steps, is, c.message_of.ensures)

@@ -1,4 +1,4 @@
-use Rattle.lsp_store.proofs.Prelude.{◌∙◌, List, ℕ, refl, ap, sym, subst, string_bytes, rules, w32, to_z-of_z, IsOn, DocumentItem}
+use Rattle.lsp_store.proofs.Prelude.{◌∙◌, refl, ap, string_bytes, rules, w32, to_z-of_z, DocumentItem}
 use Rattle.lsp_store.proofs.SquashLemmas.{plan_added, plan_at, reached_under}
 use Rattle.lsp_store.proofs.squash.Batches.add_plan.Goals as goal
 
@@ -11,8 +11,7 @@ add_delta-requires-clause-reached c =
 
 pub add_delta-requires-clause-on : goal.add_delta-requires-clause-on
 add_delta-requires-clause-on c =
-    subst (λ (t : List ℕ). IsOn t c.args.plan.now.delta)
-    (sym (ap (λ (e : DocumentItem). e.text) (c.document.view_is ∙ c.planned_document-document.ensures c.requires.on)))
+    rw (ap (λ (e : DocumentItem). e.text) (c.document.view_is ∙ c.planned_document-document.ensures c.requires.on))
     c.requires.on.on
 
 pub returns-clause-added : goal.returns-clause-added

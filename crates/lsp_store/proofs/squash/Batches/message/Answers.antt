@@ -1,4 +1,4 @@
-use Rattle.lsp_store.proofs.Prelude.{◌≡◌, ◌≤◌, length, map, subst, IfErr, None, OnOk, Option, string_bytes, arith, length-map, rules, w32, to_z-of_z, content_change, IsRefusal, Refusal}
+use Rattle.lsp_store.proofs.Prelude.{◌≤◌, length, map, string_bytes, arith, length-map, rules, w32, to_z-of_z, content_change}
 use Rattle.lsp_store.proofs.SquashLemmas.{few_refusal, many_refused}
 use Rattle.lsp_store.proofs.squash.Batches.message.Goals as goal
 
@@ -12,16 +12,20 @@ pub returns-clause-accepted : goal.returns-clause-accepted
 returns-clause-accepted c =
     let few : length (map content_change c.in_ok-batch.batch.items) ≤ c.self.inside.limits.max_changes =
     omega (arith, length-map c.in_ok-batch.batch.items content_change) in
-    rw (← c.self.view_is) (subst (λ (r : Option Refusal). OnOk c.change_frame.result (r ≡ None))
-    (few_refusal (string_bytes c.self.inside.uri) c.self.inside.limits c.self.inside.encoding c.self.inside.joined
-    c.self.inside.version _ c.in_ok-batch.ensures few)
-    (rw (c.deref.ensures, to_z-of_z w32 c.self.inside.version (search rules)) at c.change_frame.ensures.within))
+    rw (
+      ← c.self.view_is,
+      ← few_refusal (string_bytes c.self.inside.uri) c.self.inside.limits c.self.inside.encoding
+          c.self.inside.joined c.self.inside.version _ c.in_ok-batch.ensures few,
+    )
+    (rw (c.deref.ensures, to_z-of_z w32 c.self.inside.version (search rules)) at c.change_frame.ensures.within)
 
 pub returns-clause-error : goal.returns-clause-error
 returns-clause-error c =
     let few : length (map content_change c.in_ok-batch.batch.items) ≤ c.self.inside.limits.max_changes =
     omega (arith, length-map c.in_ok-batch.batch.items content_change) in
-    rw (← c.self.view_is) (subst (λ (r : Option Refusal). IfErr c.change_frame.result (IsRefusal r))
-    (few_refusal (string_bytes c.self.inside.uri) c.self.inside.limits c.self.inside.encoding c.self.inside.joined
-    c.self.inside.version _ c.in_ok-batch.ensures few)
-    (rw (c.deref.ensures, to_z-of_z w32 c.self.inside.version (search rules)) at c.change_frame.ensures.error))
+    rw (
+      ← c.self.view_is,
+      ← few_refusal (string_bytes c.self.inside.uri) c.self.inside.limits c.self.inside.encoding
+          c.self.inside.joined c.self.inside.version _ c.in_ok-batch.ensures few,
+    )
+    (rw (c.deref.ensures, to_z-of_z w32 c.self.inside.version (search rules)) at c.change_frame.ensures.error)

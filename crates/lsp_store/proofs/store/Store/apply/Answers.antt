@@ -1,4 +1,4 @@
-use Rattle.lsp_store.proofs.Prelude.{◌≡◌, ℕ, List, ap, arith, refl, rules, string_bytes, w32, to_z, of_z, to_z-of_z, DocumentItem, entry_under}
+use Rattle.lsp_store.proofs.Prelude.{◌≡◌, arith, refl, rules, w32, to_z, of_z, to_z-of_z}
 use Rattle.lsp_frame.proofs.StreamLemmas.{on_err}
 use Rattle.lsp_store.proofs.Tables.PlanLemmas.{entry_there, plan_applied, plan_on, plan_short, plan_takes, plan_unchanged, put_length}
 use Rattle.lsp_store.proofs.store.Store.apply.Goals as goal
@@ -31,22 +31,15 @@ returns-in_err-apply-clause-unchanged c =
     on_err c.from_residual.result
     (plan_unchanged c.self.inside.limits c.self.inside.documents.entries c.args.self.now c.self.view_is c.args.plan
     c.requires.on c.in-Some.stored.now (entry_there _ _ _ c.in-Some.ensures.value) _
-    (λ uri. ap (λ (text : List ℕ). record (entry_under uri c.in-Some.stored.now) { text = text })
-    c.in_err-apply.ensures.unchanged) _ refl)
+    (λ uri. rw c.in_err-apply.ensures.unchanged refl) _ refl)
 
 pub returns-clause-applied : goal.returns-clause-applied
 returns-clause-applied c =
     let version : to_z w32 (of_z w32 c.args.plan.version) ≡ c.args.plan.version =
     to_z-of_z w32 c.args.plan.version (search rules) in
-    let entry_with : List ℕ → List ℕ → DocumentItem = λ uri text. record {
-      uri = uri;
-      language = string_bytes c.in-Some.stored.now.language;
-      version = c.args.plan.version;
-      text = text;
-    } in
     plan_applied c.self.inside.limits c.self.inside.documents.entries c.args.self.now c.self.view_is c.args.plan
     c.requires.on c.in-Some.stored.now (entry_there _ _ _ c.in-Some.ensures.value) _
-    (λ uri. rw version (ap (entry_with uri) c.in_ok-apply.ensures.changed)) _ refl
+    (λ uri. rw (version, c.in_ok-apply.ensures.changed) refl) _ refl
 
 pub returns-clause-taken : goal.returns-clause-taken
 returns-clause-taken c = λ uri version encoding batch q.

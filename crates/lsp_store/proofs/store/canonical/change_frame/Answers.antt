@@ -1,4 +1,4 @@
-use Rattle.lsp_store.proofs.Prelude.{◌≡◌, ◌∙◌, List, ℕ, map, ap, subst, w32, to_z-of_z, err_from_is_err_and, frame, content_change, store_fault_of_encode, IsRefusal, body_refusal, change_body}
+use Rattle.lsp_store.proofs.Prelude.{◌≡◌, ◌∙◌, map, ap, w32, to_z-of_z, err_from_is_err_and, frame, content_change, change_body}
 use Rattle.lsp_store.proofs.Messages.MessageLemmas.{encode_refused}
 use Rattle.lsp_store.proofs.store.canonical.change_frame.Goals as goal
 
@@ -16,6 +16,5 @@ returns-in_err-encode-clause-error c =
     c.in_ok-push_body.ensures.body) in
     let p = err_from_is_err_and c.from_residual-in_err-encode.result c.from_residual-in_err-encode.ensures.1 in
     rw (p.1, p.2)
-    (subst (λ (b : List ℕ). IsRefusal (body_refusal c.args.limits.now b)
-    (store_fault_of_encode c.in_err-encode.field-0.0))
-    body (encode_refused c.args.limits.now c.deref.result.now c.in_err-encode.field-0.0 c.in_err-encode.ensures.error))
+    (rw body at (encode_refused c.args.limits.now c.deref.result.now c.in_err-encode.field-0.0
+    c.in_err-encode.ensures.error))
