@@ -151,9 +151,6 @@ are_replaced units old items range new start stop utf8 new_utf8 found =
           ∙ bytes_put text new e.low e.high start stop new_utf8 e.start_is e.stop_is;
     }
 
-one_more_some : (changes : ℕ) → next_number changes ≡ 0 → ⊥
-one_more_some changes e = omega arith
-
 -- what callers see of the fields
 abbrev pub seen : List ℕ → List Part → ℕ → PlainData
 seen before parts changes = record { before = chars before; items = items_of (chars before) parts; changes = changes }
@@ -220,7 +217,7 @@ module _ (units : ℕ → ℕ) (before : List ℕ) (parts : List Part) (len chan
       long = long;
       room = fits;
       few = omega (arith, are.few);
-      fresh = λ e. absurd (one_more_some changes e);
+      fresh = λ e. absurd (omega arith);
     };
   }
 

@@ -1,5 +1,5 @@
 -- What a change of a range makes of the bytes of a text, and of its lines.
-use Rattle.lsp_edit.proofs.Prelude.{ℕ, ◌≡◌, ◌<◌, ◌≤◌, ◌⊎◌, List, ◌++◌, length, map, take, drop, refl, sym, ap, ◌∙◌, subst, encode_utf8_all, inl, inr, Some, Ok, Err, lt-ltb, le-ltb, encodes-chars, replace_range, Range, EditFault, Item, New, plain, text_of, Fault, continue_with, items_after, InsideStart, InsideStop, Reversed, meaning, ends_of, fault_at, places_at, alone, bytes_left, text_within, batch_fault_of, put_items, Result, put_between, ⊎_elim, index_of}
+use Rattle.lsp_edit.proofs.Prelude.{ℕ, ◌≡◌, ◌<◌, ◌≤◌, ◌⊎◌, List, ◌++◌, length, map, take, drop, refl, sym, ap, ◌∙◌, subst, encode_utf8_all, inl, inr, Some, Ok, Err, lt-ltb, le-ltb, encodes-chars, replace_range, Range, EditFault, Item, New, plain, text_of, Fault, continue_with, items_after, InsideStart, meaning, ends_of, fault_at, places_at, alone, bytes_left, text_within, batch_fault_of, put_items, Result, put_between, ⊎_elim, index_of}
 use Rattle.std.specs.Str.{IsCharBoundary, IsUtf8, chars}
 use Rattle.lsp_edit.specs.declared.indexed.fault.BatchFault.TheVariants.{Edit as EditOf, TooLong, NoMemory}
 use Rattle.lsp_edit.specs.declared.indexed.fault.BatchFault.{BatchFault}
@@ -9,8 +9,7 @@ use Rattle.lsp_edit.proofs.Composing.EditedLemmas.{plain_text}
 
 pub fault_edit : (number : ℕ) (why : Fault) → EditOf (fault_at number why) ≡ batch_fault_of (fault_at number why)
 fault_edit number InsideStart = refl
-fault_edit number InsideStop = refl
-fault_edit number Reversed = refl
+fault_edit number why = refl
 
 -- What holds of a text in which a new one replaces the bytes between the ends of a range.
 pub record IsInPlace (units : ℕ → ℕ) (before : List ℕ) (range : Range) (new : List ℕ) (start stop : ℕ) : Type 0 where
