@@ -3,5 +3,4 @@ pub mod AppliedLemmas
 pub mod EditedLemmas
 pub mod EndLemmas
 pub mod RoomLemmas
-pub mod SpannedLemmas
 pub mod ThenLemmas

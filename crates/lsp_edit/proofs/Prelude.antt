@@ -15,8 +15,7 @@ pub use Rattle.std.specs.Prelude.{Contains, IsOk, is_ok}
 pub use Rattle.std.specs.Slice.Iter.{chunks_rest, chunks_size}
 pub use Rattle.std.specs.Str.{IsUtf8, chars, is_utf8}
 pub use Rattle.lsp_buffer.proofs.Changes.ChangeLemmas.{replaced_length}
-pub use Rattle.lsp_edit.proofs.Composing.SpannedLemmas.{same_edited}
-pub use Rattle.lsp_edit.proofs.Rests.{next_is, rest_is, rest_none, split_between}
+pub use Rattle.lsp_edit.proofs.Rests.{next_is, rest_is, rest_none, same_edited, split_between}
 pub use Rattle.lsp_edit.specs.Batch.{ContentChange, Fault, InsideStart, InsideStop, Reversed, after_changes, changed_in, continue_with, ends_of, in_order, items_after, meaning, put_between}
 pub use Rattle.lsp_edit.specs.Canonical.{DoTheSame, Gap, canonical, change_of_gap, gap_texts, gaps, gaps_from, is_changed, kept, put_first}
 pub use Rattle.lsp_edit.specs.Compose.{item_through, then_items}

@@ -1,6 +1,7 @@
--- What is left of a list in a walk over it.
+-- What is left of a list in a walk over it, and what callers see of pieces.
 use Rattle.std.proofs.Common.{ℕ, ◌≡◌, ◌+◌, ◌-◌, ◌<◌, ◌≤◌, List, [], ◌∷◌, ◌++◌, length, map, take, drop, get_or, sym, ap, ◌∙◌, arith, drop-drop, take-append-drop}
 use Rattle.std.proofs.lemmas.List.{drop_more, drop_all}
+use Rattle.lsp_edit.specs.Edited.{PiecesData}
 
 pub next_is : {X : Type 0} (xs : List X) (i : ℕ) (x : X) → i < length xs → x ≡ get_or xs i x
     → drop i xs ≡ x ∷ drop (i + 1) xs
@@ -23,3 +24,7 @@ split_between {X} xs a b order =
     ap (λ (r : List X). take a xs ++ r)
     (ap (λ (r : List X). take (b - a) (drop a xs) ++ r) (sym back) ∙ take-append-drop (b - a) (drop a xs))
     ∙ take-append-drop a xs
+
+-- What callers see of pieces, without the parts.
+pub same_edited : {spanned other : PiecesData} → spanned ≡ other → spanned.edited ≡ other.edited
+same_edited same = ap (λ (s : PiecesData). s.edited) same

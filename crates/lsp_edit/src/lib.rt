@@ -5,8 +5,8 @@
 //!   applies a batch to a copy, `canonical` returns canonical batches, `fault` is why a batch is
 //!   refused. `ends` finds the byte offsets of a range.
 //! - `pieces`: `Pieces`, what became of an old text, in spans of it and of the changes' texts. Its
-//!   parts are `apply` (a change), `before` (the old text), `spans`, `span`, `row`, `replace`,
-//!   `through` and `canonical` (their canonical batch).
+//!   parts are `apply` (a change), `before` (the old text), `span`, `row`, `replace`, `through` and
+//!   `canonical` (their canonical batch).
 //! - `delta`: `Delta`, a batch that was resolved once on a text. Its text, length and canonical batch
 //!   are read from it, and its pieces are made of the offsets that it keeps.
 //! - `composed`: `compose`, which resolves a batch on a text in one string, by `Pieces` alone.

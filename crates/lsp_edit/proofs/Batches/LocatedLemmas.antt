@@ -1,12 +1,11 @@
 -- What text edits leave by indexes is what they leave once they are sorted by their byte offsets.
-use Rattle.lsp_edit.proofs.Prelude.{ℕ, suc, ◌≡◌, ◌+◌, ◌-◌, ◌<◌, ◌≤◌, zero, Bool, true, false, cond, ◌==◌, nat_lt, nat_le, List, [], ◌∷◌, ◌++◌, length, map, filter, flat_map, slice_index_or as get_or, Ok, refl, sym, ap, ap₂, ◌∙◌, subst, arith, ⊎_elim, inl, inr, append-nil, lt-ltb, le-ltb, ltb-false, ne_eqb, eq-eqb, Contains, AllByRecursion, IsPermutation, ties, chars, IsUtf8, cases_Bool, cases_eq, cases_lt, length-map, recursion_from_All, filter_agree, All-permutation, Contains-permutation, IsNonDecreasingBy-from_sort, IsPermutation-map, IsPermutation-sym, list_any-IsPermutation, IsPlace, place_of, numbers_from, place_rises, Placed, TextEdit, TextEditFault, ContentChange, meaning, canonical, Item, Old, New, Keeps, Part, AreParts, index_of, items_of, LocatedEdit, located, new_at, is_taken_out, left_at, items_left, ComesBefore, NoneOverlap, IsBatchOfEdits, EditsOverlap, located_of, Lies, ArePlaced, IsInOrder, AreApart, old_parts, parts_left, AreLeftByEdits, DoOverlap, common_steps}
+use Rattle.lsp_edit.proofs.Prelude.{ℕ, suc, ◌≡◌, ◌+◌, ◌-◌, ◌<◌, ◌≤◌, zero, Bool, true, false, cond, ◌==◌, nat_lt, nat_le, List, [], ◌∷◌, ◌++◌, length, map, filter, flat_map, slice_index_or as get_or, Ok, refl, sym, ap, ap₂, ◌∙◌, subst, arith, ⊎_elim, inl, inr, append-nil, lt-ltb, le-ltb, ltb-false, ne_eqb, eq-eqb, Contains, AllByRecursion, IsPermutation, ties, chars, IsUtf8, cases_Bool, cases_eq, cases_lt, length-map, recursion_from_All, filter_agree, All-permutation, Contains-permutation, IsNonDecreasingBy-from_sort, IsPermutation-map, IsPermutation-sym, list_any-IsPermutation, IsPlace, place_of, numbers_from, place_rises, Placed, TextEdit, TextEditFault, ContentChange, meaning, canonical, Item, Old, New, Keeps, Part, AreParts, index_of, items_of, LocatedEdit, located, new_at, is_taken_out, left_at, items_left, ComesBefore, NoneOverlap, IsBatchOfEdits, EditsOverlap, located_of, Lies, ArePlaced, IsInOrder, AreApart, old_parts, parts_left, AreLeftByEdits, DoOverlap, common_steps, flat_map-append}
 use Rattle.std.specs.List.{All, AllPairs}
 use Rattle.std.specs.Ordering.{is_lt, nat_cmp}
 use Rattle.std.proofs.lemmas.List.{get_or-map, get_or_default}
 use Rattle.std.proofs.lemmas.List.Kept.{AllPairs-filter}
 use Rattle.lsp_edit.proofs.Canonical.RebuiltLemmas.{canonical_makes}
 use Rattle.lsp_edit.proofs.Composing.EditedLemmas.{index_last}
-use Rattle.lsp_edit.proofs.Deltas.OwnedLemmas.{items_both}
 use Rattle.lsp_edit.proofs.Parts.IndexLemmas.{index_of-place, index_rises, index_first}
 use Rattle.lsp_edit.proofs.Parts.PutLemmas.{new_items}
 use Rattle.lsp_edit.proofs.Batches.TextEditLemmas.{no_edit, at_first, at_index, at_whole, at_within, left_are}
@@ -224,7 +223,7 @@ module _ (before : List ℕ) (utf8 : IsUtf8 before) where
       ≡ left_from (length (chars before)) (index_of (chars before) low) (all_of (chars before) ps)
   parts_by_indexes low [] all = grind (arith, common_steps, old_row, index_last)
   parts_by_indexes low (p ∷ ps) all =
-      grind (arith, common_steps, items_both, ap₂, old_row, new_items, (parts_by_indexes p.stop ps all.1))
+      grind (arith, common_steps, flat_map-append, ap₂, old_row, new_items, (parts_by_indexes p.stop ps all.1))
 
   module _ (units : ℕ → ℕ) (edits : List TextEdit) (parts : List Part)
       (left : AreLeftByEdits units before edits parts) where

@@ -1,5 +1,5 @@
 -- Two batches have equal canonical batches exactly if they do the same, and the canonical batch is its own.
-use Rattle.lsp_edit.proofs.Prelude.{ℕ, ◌≡◌, ◌≤◌, ◌↔◌, List, [], ◌∷◌, Result, Ok, refl, sym, ap, ap₂, ◌∙◌, Item, Old, New, ContentChange, Fault, meaning, kept, gap_texts, put_first, DoTheSame, canonical}
+use Rattle.lsp_edit.proofs.Prelude.{ℕ, ◌≡◌, ◌≤◌, ◌↔◌, List, [], ◌∷◌, Result, Ok, refl, sym, ap, ap₂, ◌∙◌, Item, Old, New, ContentChange, Fault, meaning, kept, gap_texts, put_first, DoTheSame, canonical, arith, common_steps}
 use Rattle.lsp_edit.proofs.Canonical.KeepsLemmas.{meaning_keeps}
 use Rattle.lsp_edit.proofs.Canonical.RebuiltLemmas.{canonical_makes}
 
@@ -20,17 +20,11 @@ new_first character items texts e =
 same_items : (items others : List Item) → kept items ≡ kept others → gap_texts items ≡ gap_texts others
     → items ≡ others
 same_items [] [] k t = refl
-same_items [] (Old j ∷ others) k t = absurd (cc)
-same_items [] (New d ∷ others) k t = absurd (new_first d others [] t)
-same_items (Old i ∷ items) [] k t = absurd (cc)
 same_items (Old i ∷ items) (Old j ∷ others) k t =
     let first : i ≡ j = cc in
     let same_kept : kept items ≡ kept others = cc in
     let same_texts : gap_texts items ≡ gap_texts others = cc in
     ap₂ (λ (n : ℕ) (more : List Item). Old n ∷ more) first (same_items items others same_kept same_texts)
-same_items (Old i ∷ items) (New d ∷ others) k t = absurd (new_first d others (gap_texts items) t)
-same_items (New c ∷ items) [] k t = absurd (new_first c items [] (sym t))
-same_items (New c ∷ items) (Old j ∷ others) k t = absurd (new_first c items (gap_texts others) (sym t))
 same_items (New c ∷ items) (New d ∷ others) k t =
     let s = some_text items in
     let o = some_text others in
@@ -38,6 +32,7 @@ same_items (New c ∷ items) (New d ∷ others) k t =
     let first : c ≡ d = cc in
     let same_texts : gap_texts items ≡ gap_texts others = cc (s.2, o.2) in
     ap₂ (λ (n : ℕ) (more : List Item). New n ∷ more) first (same_items items others k same_texts)
+same_items items others k t = absurd (grind (arith, common_steps, new_first))
 
 module _ (units : ℕ → ℕ) (some : (c : ℕ) → 1 ≤ units c) (old : List ℕ) where
   -- the canonical batch of what a batch means has the same meaning

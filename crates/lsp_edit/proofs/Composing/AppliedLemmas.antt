@@ -151,9 +151,6 @@ are_replaced units old items range new start stop utf8 new_utf8 found =
           ∙ bytes_put text new e.low e.high start stop new_utf8 e.start_is e.stop_is;
     }
 
-one_more_some : (changes : ℕ) → next_number changes ≡ 0 → ⊥
-one_more_some changes e = omega arith
-
 -- what callers see of the fields
 abbrev pub seen : List ℕ → List Part → ℕ → PlainData
 seen before parts changes = record { before = chars before; items = items_of (chars before) parts; changes = changes }
@@ -220,7 +217,7 @@ module _ (units : ℕ → ℕ) (before : List ℕ) (parts : List Part) (len chan
       long = long;
       room = fits;
       few = omega (arith, are.few);
-      fresh = λ e. absurd (one_more_some changes e);
+      fresh = λ e. absurd (omega arith);
     };
   }
 
@@ -242,57 +239,42 @@ module _ (units : ℕ → ℕ) (before : List ℕ) (parts : List Part) (len chan
 
   module _ (range : Range) (start stop : ℕ)
       (found : Ok (start, stop) ≡ places_at 0 now (ends_of units now range)) where
-    r : AreReplaced units (chars before) had range new start stop
-    r = are_replaced units (chars before) had range new start stop
-        (subst IsUtf8 now_bytes (parts_utf8 before old_utf8 parts are.are)) utf8 found
-
-    cut : (index place : ℕ) → index ≤ length had → place_of now index ≡ place → AreCut parts place
-    cut index place within is = subst (AreCut parts) is (cut_parts before old_utf8 parts index are.are within).cut
-
-    in_text : stop ≤ len
-    in_text = omega (arith, r.at_stop.0, are.long, ap length now_bytes)
-
-    both : (items_of (chars before) (replaced_parts parts start stop new)
-        ≡ take r.ends.low had ++ (map New (chars new) ++ drop r.ends.high had))
-        × AreParts before (replaced_parts parts start stop new)
-    both =
-        rw (r.ends.start_is, r.ends.stop_is) at
-        (replaced_items before old_utf8 parts r.ends.low r.ends.high new are.are (is_utf8-from_IsUtf8 new utf8)
-        r.ends.order r.within)
-
-    -- the bytes of the text with those between the places replaced
-    range_bytes : bytes_of before (replaced_parts parts start stop new)
-        ≡ replace_range (bytes_of before parts) start stop new
-    range_bytes =
-        parts_bytes before old_utf8 (replaced_parts parts start stop new) both.1
-        ∙ (ap (bytes_left before) both.0 ∙ (r.bytes ∙ ap (λ (bs : List ℕ). replace_range bs start stop new)
-        (sym now_bytes)))
-
-    long : len - (stop - start) + length new ≡ length (bytes_of before (replaced_parts parts start stop new))
-    long = grind (arith, common_steps, range_bytes, in_text, (r.order), replaced_length)
-
     is_ranged : IsRanged units range before parts len changes new start stop
-    is_ranged = record {
-      start_cut = cut r.ends.low start (omega (arith, r.ends.order, r.within)) r.ends.start_is;
-      stop_cut = cut r.ends.high stop r.within r.ends.stop_is;
-      order = r.order;
-      within = in_text;
-      ordered = are_ordered before old_utf8 parts are.are;
-      bytes = range_bytes;
-      start_at = λ bytes same. rw (same, now_bytes) r.at_start;
-      stop_at = λ bytes same. rw (same, now_bytes) r.at_stop;
-      short = λ bytes same. rw (same, ← range_bytes, ← long) (omega (arith, in_text, r.order));
-      next = λ spans made few.
-          next_of (record { range = Some range; text = chars new }) (replaced_parts parts start stop new)
-          (len - (stop - start) + length new)
-          (r.made ∙ ap (λ (i : List Item). Ok i) (sym both.0))
-          both.1
-          (replaced_apart parts start stop new are.apart)
-          long
-          (omega (arith, in_text, r.order))
-          (replaced_few parts start stop new r.order)
-          (omega (arith, few, ap length made, length-map spans part_of));
-    }
+    is_ranged =
+        let r = are_replaced units (chars before) had range new start stop
+        (subst IsUtf8 now_bytes (parts_utf8 before old_utf8 parts are.are)) utf8 found in
+        let cut : (index place : ℕ) → index ≤ length had → place_of now index ≡ place → AreCut parts place
+        = λ index place within is. subst (AreCut parts) is (cut_parts before old_utf8 parts index are.are within).cut in
+        let in_text : stop ≤ len = omega (arith, r.at_stop.0, are.long, ap length now_bytes) in
+        let both = rw (r.ends.start_is, r.ends.stop_is) at
+        (replaced_items before old_utf8 parts r.ends.low r.ends.high new are.are (is_utf8-from_IsUtf8 new utf8)
+        r.ends.order r.within) in
+        let range_bytes = parts_bytes before old_utf8 (replaced_parts parts start stop new) both.1
+        ∙ (ap (bytes_left before) both.0 ∙ (r.bytes ∙ ap (λ (bs : List ℕ). replace_range bs start stop new)
+        (sym now_bytes))) in
+        let long : len - (stop - start) + length new ≡ length (bytes_of before (replaced_parts parts start stop new)) =
+        grind (arith, common_steps, range_bytes, in_text, (r.order), replaced_length) in
+        record {
+          start_cut = cut r.ends.low start (omega (arith, r.ends.order, r.within)) r.ends.start_is;
+          stop_cut = cut r.ends.high stop r.within r.ends.stop_is;
+          order = r.order;
+          within = in_text;
+          ordered = are_ordered before old_utf8 parts are.are;
+          bytes = range_bytes;
+          start_at = λ bytes same. rw (same, now_bytes) r.at_start;
+          stop_at = λ bytes same. rw (same, now_bytes) r.at_stop;
+          short = λ bytes same. rw (same, ← range_bytes, ← long) (omega (arith, in_text, r.order));
+          next = λ spans made few.
+              next_of (record { range = Some range; text = chars new }) (replaced_parts parts start stop new)
+              (len - (stop - start) + length new)
+              (r.made ∙ ap (λ (i : List Item). Ok i) (sym both.0))
+              both.1
+              (replaced_apart parts start stop new are.apart)
+              long
+              (omega (arith, in_text, r.order))
+              (replaced_few parts start stop new r.order)
+              (omega (arith, few, ap length made, length-map spans part_of));
+        }
 
 pub room_told : (before : List ℕ) (parts : List Part) (len changes more : ℕ) (edited : PlainData)
     → ArePieces before parts len changes → seen before parts changes ≡ edited → length (edited_bytes edited) + more

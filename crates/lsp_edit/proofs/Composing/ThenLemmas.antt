@@ -22,23 +22,15 @@ module _ {before mid : List ℕ} {parts more : List Part} {len changes more_len 
   pub both : AreComposed before mid parts more
   both = composed (pieces_kept are) (pieces_kept were) over
 
-  text : text_of (chars before) (items_of (chars before) (through_parts parts more))
-      ≡ text_of (chars mid) (items_of (chars mid) more)
-  text =
-      ap (text_of (chars before)) both.items
-      ∙ (text_of-then (chars before) (items_of (chars before) parts) (items_of (chars mid) more)
-      ∙ ap (λ (t : List ℕ). text_of t (items_of (chars mid) more)) (sym over))
-
-  fresh : changes ≡ 0 → more_changes ≡ 0 → items_of (chars before) (through_parts parts more) ≡ plain (chars before)
-  fresh none no_more =
-      both.items ∙ (ap (then_items (items_of (chars before) parts)) (were.fresh no_more ∙ ap plain over)
-      ∙ (then-plain (chars before) (items_of (chars before) parts) ∙ are.fresh none))
-
   module _ (spans : List Span) (is : parts_of spans ≡ through_parts parts more)
       (small : length spans < 18446744073709551616) (count : ℕ) (counted : count ≡ both_counts changes more_changes)
     where
       pub then_holds : ArePieces before (parts_of spans) more_len count
       then_holds =
+          let text =
+          ap (text_of (chars before)) both.items
+          ∙ (text_of-then (chars before) (items_of (chars before) parts) (items_of (chars mid) more)
+          ∙ ap (λ (t : List ℕ). text_of t (items_of (chars mid) more)) (sym over)) in
           let fits : length (through_parts parts more) < 18446744073709551616 =
           omega (arith, small, ap length is, length-map spans part_of) in
           rw is (record {
@@ -52,7 +44,9 @@ module _ {before mid : List ℕ} {parts more : List Part} {len changes more_len 
                 ∙ sym (parts_bytes before both.kept.utf8 (through_parts parts more) both.kept.are)));
             room = were.room;
             few = grind (arith, common_steps, through_few, both.order, both.through, fits);
-            fresh = λ e. fresh (omega (arith, counted)) (omega (arith, counted));
+            fresh = λ e. both.items ∙ (ap (then_items (items_of (chars before) parts))
+                (were.fresh (omega (arith, counted)) ∙ ap plain over)
+                ∙ (then-plain (chars before) (items_of (chars before) parts) ∙ are.fresh (omega (arith, counted))));
           })
 
       pub then_told : seen before (parts_of spans) count ≡ record {

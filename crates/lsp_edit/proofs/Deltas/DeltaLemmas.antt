@@ -1,9 +1,10 @@
 -- What was resolved once, read again.
-use Rattle.lsp_edit.proofs.Prelude.{ℕ, ◌≡◌, ◌+◌, ◌<◌, ◌≤◌, List, ◌∷◌, length, map, drop, refl, sym, ap, ap₂, ◌∙◌, subst, arith, encode_utf8_all, nat_lt, Some, Result, Ok, Err, cases_Bool, cases_lt, ltb-false, drop_all, Encoding, units_in, Change, EditFault, Item, plain, text_of, ContentChange, Fault, items_after, ends_of, meaning, canonical, AreEndsIn, AreEndsOf, IsDeltaOf, IsLeft, IsOn, IsPut, bytes_after, delta_encoding, meant_by, put_items, Applied, PlainData, content_change, edited_bytes, edited_text, places_at, IsCanonicalBatch, alone, bytes_left, text_within, HasRange, common_steps, rest_is}
+use Rattle.lsp_edit.proofs.Prelude.{ℕ, ◌≡◌, ◌+◌, ◌<◌, ◌≤◌, List, ◌∷◌, length, map, drop, sym, ap, ap₂, ◌∙◌, subst, arith, encode_utf8_all, nat_lt, Some, Result, Ok, Err, cases_Bool, cases_lt, ltb-false, drop_all, Encoding, units_in, Change, EditFault, Item, plain, text_of, ContentChange, Fault, items_after, ends_of, meaning, canonical, AreEndsIn, AreEndsOf, IsDeltaOf, IsLeft, IsOn, IsPut, bytes_after, delta_encoding, meant_by, put_items, Applied, PlainData, content_change, edited_bytes, edited_text, places_at, IsCanonicalBatch, alone, bytes_left, text_within, HasRange, common_steps, rest_is, Keeps}
 use Rattle.std.specs.Str.{IsUtf8, chars}
 use Rattle.lsp_edit.specs.declared.delta.Delta.{Delta}
 use Rattle.lsp_edit.specs.declared.delta.Delta.TheVariants.{Put, Left}
 use Rattle.lsp_edit.proofs.Batches.LawLemmas.{canonical_law, units_some}
+use Rattle.lsp_edit.proofs.Canonical.KeepsLemmas.{meaning_keeps}
 use Rattle.lsp_edit.proofs.Composing.EditedLemmas.{first_bytes, plain_text}
 use Rattle.lsp_edit.proofs.Composing.RoomLemmas.{applying_begins, Applying, applying_on}
 use Rattle.lsp_edit.proofs.Deltas.InPlaceLemmas.{IsInPlace, in_place, range_means}
@@ -68,24 +69,15 @@ pieces_bytes before (Left left) edited on same means =
     let is : edited.items ≡ on.items = cc in
     ap₂ (λ (old : List ℕ) (made : List Item). encode_utf8_all (text_of old made)) same is ∙ sym on.is
 
--- A delta means what some batch means.
-pub record HasBatch (before : List ℕ) (delta : Delta) : Type 0 where
-  pub units : ℕ → ℕ
-  pub batch : List ContentChange
-  pub means : meaning units (chars before) batch ≡ meant_by before delta
-
-pub has_batch : (before : List ℕ) (delta : Delta) → IsOn before delta → HasBatch before delta
-has_batch before (Put put) on = record {
-  units = units_in put.encoding;
-  batch = alone on.range put.new.now;
-  means = range_means (units_in put.encoding) before on.utf8 on.range put.new.now on.new_utf8 put.start put.stop
-      on.places;
-}
-has_batch before (Left left) on = record {
-  units = units_in left.encoding;
-  batch = map content_change left.changes.now;
-  means = refl;
-}
+-- What a delta means keeps each CRLF of the text whole.
+pub delta_keeps : (before : List ℕ) (delta : Delta) (items : List Item) → IsOn before delta
+    → meant_by before delta ≡ Ok items → Keeps (chars before) 0 items
+delta_keeps before (Put put) items on means =
+    meaning_keeps (chars before) (units_in put.encoding) (alone on.range put.new.now) items
+    (range_means (units_in put.encoding) before on.utf8 on.range put.new.now on.new_utf8 put.start put.stop on.places
+    ∙ means)
+delta_keeps before (Left left) items on means =
+    meaning_keeps (chars before) (units_in left.encoding) (map content_change left.changes.now) items means
 
 -- A delta is of a text in UTF-8.
 on_utf8 : (before : List ℕ) (delta : Delta) → IsOn before delta → IsUtf8 before

@@ -4,9 +4,9 @@ use Rattle.lsp_edit.specs.declared.delta.Delta.{Delta}
 use Rattle.lsp_edit.proofs.Batches.ComposeLemmas.{text_of-then}
 use Rattle.lsp_edit.proofs.Parts.CutPartsLemmas.{parts_bytes, parts_utf8}
 use Rattle.lsp_edit.proofs.Composing.EditedLemmas.{plain_text, whole_is}
-use Rattle.lsp_edit.proofs.Canonical.KeepsLemmas.{meaning_keeps, plain_keeps}
+use Rattle.lsp_edit.proofs.Canonical.KeepsLemmas.{plain_keeps}
 use Rattle.lsp_edit.proofs.Parts.ThroughLemmas.{AreComposed, composed}
-use Rattle.lsp_edit.proofs.Deltas.DeltaLemmas.{HasBatch, has_batch}
+use Rattle.lsp_edit.proofs.Deltas.DeltaLemmas.{delta_keeps}
 use Rattle.lsp_edit.proofs.Deltas.OwnedLemmas.{items_over-append, all_both}
 
 -- what callers see of the fields
@@ -63,9 +63,6 @@ module _ (before : List ℕ) (layers : List Layer)
   reached_then : chars reached ≡ text_of (chars before) items_then
   reached_then = at.text_is ∙ sym (ap joined_text view)
 
-  some : HasBatch reached delta
-  some = has_batch reached delta on
-
   more_over : IsOver (chars before) items_then (layer_parts layer)
   more_over = record {
     middle = reached;
@@ -73,8 +70,7 @@ module _ (before : List ℕ) (layers : List Layer)
     kept = record {
       utf8 = at.utf8;
       are = is.are;
-      keeps = meaning_keeps (chars reached) some.units some.batch (items_of (chars reached) (layer_parts layer))
-          (some.means ∙ is.means);
+      keeps = delta_keeps reached delta (items_of (chars reached) (layer_parts layer)) on is.means;
     };
   }
 

@@ -1,5 +1,5 @@
 -- Spans that own their texts, and rows of them over one another.
-use Rattle.lsp_edit.proofs.Prelude.{ℕ, ◌≡◌, ◌-◌, ◌≤◌, List, [], ◌∷◌, ◌++◌, length, map, take, slice_index_or as get_or, refl, sym, ap, ap₂, ◌∙◌, subst, arith, append_assoc, append-nil, encode_utf8_all, Result, chars, IsUtf8, drop_more, drop_all, map-append, take-append-drop, flat_map-append, encodes-chars, chars-append, IsUtf8-append, IsUtf8-from_is_utf8, is_utf8-from_IsUtf8, Layer, Item, New, text_of, Fault, then_items, AllOver, layer_parts, IsOver, items_over, owned_parts, AreSameItems, IsLayer, PlainData, Means, before_bytes, Keeps, Part, OldPart, NewPart, AreParts, Ascend, items_in, items_of, new_parts, AreThrough, through_parts, common_steps, rest_is}
+use Rattle.lsp_edit.proofs.Prelude.{ℕ, ◌≡◌, ◌-◌, ◌≤◌, List, [], ◌∷◌, ◌++◌, length, map, take, slice_index_or as get_or, refl, sym, ap, ap₂, ◌∙◌, subst, arith, append_assoc, append-nil, encode_utf8_all, Result, chars, IsUtf8, drop_more, drop_all, map-append, take-append-drop, flat_map-append, encodes-chars, chars-append, IsUtf8-append, IsUtf8-from_is_utf8, is_utf8-from_IsUtf8, Layer, Item, New, text_of, Fault, then_items, AllOver, layer_parts, IsOver, items_over, owned_parts, AreSameItems, IsLayer, PlainData, Means, before_bytes, Keeps, Part, OldPart, NewPart, AreParts, Ascend, items_of, new_parts, AreThrough, through_parts, common_steps, rest_is}
 use Rattle.lsp_edit.specs.declared.joined.layer.OwnedSpan.{OwnedSpan}
 use Rattle.lsp_edit.specs.declared.joined.layer.OwnedSpan.TheVariants.{Old as OldSpan}
 use Rattle.lsp_edit.proofs.Batches.ComposeLemmas.{text_of-then, then_associative}
@@ -12,10 +12,6 @@ pub are_split : (old : List ℕ) (parts more : List Part) → AreParts old (part
     × AreParts old more
 are_split old [] more are = (tt, are)
 are_split old (part ∷ parts) more are = let ih = are_split old parts more are.1 in ((are.0, ih.0), ih.1)
-
-pub items_both : (old : List ℕ) (parts more : List Part) → items_of (chars old) (parts ++ more)
-    ≡ items_of (chars old) parts ++ items_of (chars old) more
-items_both old parts more = flat_map-append (items_in (chars old)) parts more
 
 -- ---- texts that are copied, neighbours as one
 
@@ -45,10 +41,10 @@ same_new whole done text bytes rest utf8 same old are =
     let letters = ap (map New) (chars-append text bytes utf8) ∙ map-append New (chars text) (chars bytes) in
     let ends : items_of (chars old) (new_parts (text ++ bytes) ++ rest)
     ≡ items_of (chars old) (new_parts text ++ (NewPart bytes ∷ rest))
-    = grind (arith, common_steps, items_both, append_assoc) in (
+    = grind (arith, common_steps, flat_map-append, append_assoc) in (
       are_both old done (new_parts (text ++ bytes) ++ rest) outer.0 (are_both old (new_parts (text ++ bytes)) rest
           both.1 inner.1.1),
-      grind (arith, common_steps, items_both),
+      grind (arith, common_steps, flat_map-append),
     )
 
 pub same_ends : (whole done : List Part) (text : List ℕ) → AreSameItems (done ++ (new_parts text ++ [])) whole

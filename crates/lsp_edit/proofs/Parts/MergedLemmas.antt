@@ -4,14 +4,11 @@ use Rattle.lsp_edit.proofs.Prelude.{arith, common_steps, ℕ, ◌≡◌, ◌-◌
 -- A part apart from the first of others is apart from what begins where that one does.
 apart_front : (part next : Part) (count : ℕ) → touch part next ≡ false → touch part (front_part next count) ≡ false
 apart_front (OldPart from to) (OldPart next end) count e = e
-apart_front (OldPart from to) (NewPart bytes) count e = refl
-apart_front (NewPart bytes) next count e = refl
+apart_front part next count e = e
 
 apart_back : (part : Part) (count : ℕ) (parts : List Part) → IsApart part parts → IsApart (back_part part count) parts
-apart_back part count [] e = tt
 apart_back (OldPart from to) count (OldPart next end ∷ parts) e = e
-apart_back (OldPart from to) count (NewPart bytes ∷ parts) e = refl
-apart_back (NewPart bytes) count (part ∷ parts) e = refl
+apart_back part count parts e = e
 
 apart_fronts : (part : Part) (parts : List Part) (place : ℕ) → IsApart part parts
     → IsApart part (front_parts parts place)
@@ -50,27 +47,22 @@ backs_apart (part ∷ parts) place none =
 -- What stands behind a part is as far from what it was joined to.
 apart_joined : (from next end : ℕ) (parts : List Part) → IsApart (OldPart next end) parts
     → IsApart (OldPart from end) parts
-apart_joined from next end [] e = tt
 apart_joined from next end (OldPart low high ∷ parts) e = e
-apart_joined from next end (NewPart bytes ∷ parts) e = refl
+apart_joined from next end parts e = e
 
 -- Two parts, joined where they touch, with others behind them.
 joined_apart : (first part : Part) (parts : List Part) → IsApart part parts → NoneTouch parts
     → NoneTouch (joined first part ++ parts)
 joined_apart (OldPart from to) (OldPart next end) parts e none =
     grind (arith, common_steps, cases_Bool, (apart_joined from next end parts e))
-joined_apart (OldPart from to) (NewPart bytes) parts e none = (refl, (e, none))
-joined_apart (NewPart bytes) part parts e none = (refl, (e, none))
+joined_apart first part parts e none = (refl, (e, none))
 
 -- What a part is put behind begins where it began.
 joined_begins : (before first part : Part) (parts : List Part) → touch before first ≡ false
     → IsApart before (joined first part ++ parts)
 joined_begins (OldPart low high) (OldPart from to) (OldPart next end) parts e = grind (arith, common_steps, cases_Bool)
-joined_begins (OldPart low high) (OldPart from to) (NewPart bytes) parts e = e
-joined_begins (OldPart low high) (NewPart bytes) part parts e = refl
 joined_begins (NewPart bytes) (OldPart from to) (OldPart next end) parts e = grind (arith, common_steps, cases_Bool)
-joined_begins (NewPart bytes) (OldPart from to) (NewPart more) parts e = refl
-joined_begins (NewPart bytes) (NewPart more) part parts e = refl
+joined_begins before first part parts e = e
 
 put_begins : (before first : Part) (rest : List Part) (part : Part) (parts : List Part) → touch before first ≡ false
     → IsApart before (put_part (first ∷ rest) part ++ parts)

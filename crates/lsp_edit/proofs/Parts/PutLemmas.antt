@@ -28,8 +28,7 @@ cut_adds (part ∷ parts) start stop order =
 
 joined_few : (first part : Part) → length (joined first part) ≤ 2
 joined_few (OldPart from to) (OldPart next end) = grind (arith, common_steps, cases_Bool)
-joined_few (OldPart from to) (NewPart bytes) = omega arith
-joined_few (NewPart bytes) part = omega arith
+joined_few first part = omega arith
 
 put_one_more : (parts : List Part) (part : Part) → length (put_part parts part) ≤ suc (length parts)
 put_one_more [] part = omega arith

@@ -1,4 +1,7 @@
 //! A change of pieces: its places in the current text, and the spans after it.
+//!
+//! The current text is built when the second change with a range is resolved. No clause says when
+//! it is made anew: that is a cost. Where memory runs out it is dropped, which callers don't see.
 
 ghost use Rattle.std.specs.Prelude.{◌≡◌, ◌≢◌, ◌+◌, ◌≤◌, ℕ, IfErr, IfOk, OnErr, OnOk, Ok, Err, IsOk, MatchOption, MatchResult, Some, None, length, string_len};
 ghost use Rattle.std.specs.Str.{chars};

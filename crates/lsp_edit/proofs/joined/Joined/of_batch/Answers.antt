@@ -1,4 +1,4 @@
-use Rattle.lsp_edit.proofs.Prelude.{◌≡◌, ◌+◌, ℕ, List, Ok, map, sum_by, string_len, sym, ap, ◌∙◌, arith, chunks_rest, chars, map-append, sum_by-append, units_in, Change, ContentChange, meaning, content_change, text_within}
+use Rattle.lsp_edit.proofs.Prelude.{ℕ, List, Ok, map, sum_by, string_len, sym, ap, ◌∙◌, arith, chunks_rest, map-append, sum_by-append, units_in, Change, ContentChange, content_change, text_within}
 use Rattle.lsp_edit.proofs.Deltas.SeriesLemmas.{series_next}
 use Rattle.lsp_edit.proofs.joined.Joined.of_batch.Goals as goal
 
@@ -6,14 +6,10 @@ pub loop-series-preserved : goal.loop-series-preserved
 loop-series-preserved c =
     let steps = c.in-Some.ensures.steps in
     let f = (λ (change : Change). string_len change.text) in
-    let sum : sum_by f (chunks_rest c.loop-series.series-iterator) ≡ sum_by f c.in-Some.series.now
-    + sum_by f (chunks_rest c.next.new.self)
-    = ap (sum_by f) steps.1.0 ∙ sum_by-append f c.in-Some.series.now (chunks_rest c.next.new.self) in
+    let sum = ap (sum_by f) steps.1.0 ∙ sum_by-append f c.in-Some.series.now (chunks_rest c.next.new.self) in
     let series : List ContentChange = map content_change c.in-Some.series.now in
     let means = c.in_ok-delta.ensures.ok.means in
-    let left : text_within 1073741824 c.loop-series.reached (meaning (units_in c.args.encoding)
-    (chars c.loop-series.reached) series) ≡ Ok c.change.new.reached
-    = c.in_ok-delta.ensures.ok.is ∙ ap (λ (bytes : List ℕ). Ok bytes) (sym c.in_ok-change.ensures.changed) in (
+    let left = c.in_ok-delta.ensures.ok.is ∙ ap (λ (bytes : List ℕ). Ok bytes) (sym c.in_ok-change.ensures.changed) in (
       omega (arith, steps.0, c.loop-series.invariant.0),
       omega (arith, sum, c.loop-series.invariant.1),
       series_next (units_in c.args.encoding) c.args.before.now (map content_change c.args.changes.now)

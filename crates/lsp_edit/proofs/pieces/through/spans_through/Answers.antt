@@ -1,4 +1,4 @@
-use Rattle.lsp_edit.proofs.Prelude.{rest_is, ◌≡◌, ◌-◌, length, take, drop, ap, arith, drop-drop, length-drop, OldPart, NewPart, parts_of, part_of}
+use Rattle.lsp_edit.proofs.Prelude.{rest_is, ap, arith, drop-drop, length-drop, OldPart, NewPart, parts_of, part_of}
 use Rattle.lsp_edit.proofs.Parts.PassedLemmas.{walk_new, walk_old}
 use Rattle.lsp_edit.proofs.Parts.PassingLemmas.{rest_all}
 use Rattle.lsp_edit.proofs.pieces.through.spans_through.Goals.{in-Old+in_ok-count-in-Old, in-New+in_ok-put-in-New}
@@ -8,8 +8,7 @@ pub loop-span-preserved : goal.loop-span-preserved
 loop-span-preserved c =
     elim c.match-span.branch [
       | in-Old+in_ok-count-in-Old w ↦
-          let rest : take (length c.args.first.now - c.loop-span.begun) (drop c.loop-span.begun c.args.first.now)
-          ≡ drop c.loop-span.begun c.args.first.now = rest_all c.args.first.now c.loop-span.begun in
+          let rest = rest_all c.args.first.now c.loop-span.begun in
           let made = rw rest at w.in_ok-count-in-Old.ensures.pushed in
           let passed = rw rest at w.in_ok-count-in-Old.ensures.passed in
           let within = rw rest at w.in_ok-count-in-Old.ensures.within in

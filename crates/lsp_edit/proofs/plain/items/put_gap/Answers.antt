@@ -1,14 +1,10 @@
-use Rattle.lsp_edit.proofs.Prelude.{IsUtf8-string_bytes, List, arith, cases_lt, chars_from_encodes, eqb-false, false, inl, inr, length, sym, units_in, ℕ, ⊎_elim, ◌<◌, ◌==◌, ◌≡◌, ◌≤◌, ◌⊎◌, refl}
+use Rattle.lsp_edit.proofs.Prelude.{IsUtf8-string_bytes, List, arith, cases_lt, chars_from_encodes, eqb-false, false, inl, inr, length, sym, units_in, ℕ, ◌<◌, ◌==◌, ◌≡◌, ◌⊎◌, refl, common_steps}
 use Rattle.lsp_edit.proofs.Canonical.WalkLemmas.{gap_one, gap_some}
 use Rattle.lsp_edit.proofs.plain.items.put_gap.Goals.{then-low-high-via-then-low-high, then-low-high-via-else-low-high+then-not-is_empty}
 use Rattle.lsp_edit.proofs.plain.items.put_gap.Goals as goal
 
 some_left : (text : List ℕ) → false ≡ (length text == 0) → 0 < length text
-some_left text e =
-    ⊎_elim
-    (λ (l : 0 < length text). l)
-    (λ (l : length text ≤ 0). absurd (eqb-false (length text) 0 (sym e) (omega arith)))
-    (cases_lt 0 (length text))
+some_left text e = grind (arith, common_steps, eqb-false, cases_lt)
 
 pub returns-in_ok-push : goal.returns-in_ok-push
 returns-in_ok-push c =
