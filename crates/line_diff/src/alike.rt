@@ -1,7 +1,7 @@
 //! Texts that differ by line ends, the last line end and a byte order mark alone.
 
 ghost use Rattle.std.specs.Prelude.{◌≡◌, IfOk, false};
-ghost use Rattle.line_diff.specs.Alike.{are_alike, ends_with_byte, first_end, has_last_end, has_mark};
+ghost use Rattle.line_diff.specs.Alike.{are_alike, first_end, has_last_end, has_mark};
 ghost use Rattle.line_diff.specs.Alike.{have_same_ends, have_same_marks, without_last_end, with_feeds, without_last_byte, without_mark};
 
 use crate::owners::common_front;
@@ -35,18 +35,11 @@ fn without_mark(text: &[u8]) -> &[u8]
     if has_mark(text) { &text[3..] } else { text }
 }
 
-/// Returns whether a text ends with this byte.
-fn ends_with_byte(last: u8, text: &[u8]) -> bool
-    ensures { result ≡ ends_with_byte last text.now }
-{
-    text.ends_with(&[last])
-}
-
 /// Returns a text without this byte at its end, if it has it there.
 fn without_last_byte(last: u8, text: &[u8]) -> &[u8]
     ensures { result.now ≡ without_last_byte last text.now }
 {
-    if ends_with_byte(last, text) {
+    if text.ends_with(&[last]) {
         &text[..text.len() - 1]
     } else {
         text
@@ -57,7 +50,7 @@ fn without_last_byte(last: u8, text: &[u8]) -> &[u8]
 pub fn has_last_end(text: &[u8]) -> bool
     ensures { result ≡ has_last_end text.now }
 {
-    ends_with_byte(b'\n', text) || ends_with_byte(b'\r', text)
+    text.ends_with(b"\n") || text.ends_with(b"\r")
 }
 
 /// Returns the index of the first line end of a text that another one has in another form. Where
@@ -67,7 +60,7 @@ pub fn first_end(text: &[u8], other: &[u8]) -> usize
     ensures { result ≡ first_end text.now other.now }
 {
     let front = common_front(text, other);
-    if ends_with_byte(b'\r', &text[..front]) && other[front..].starts_with(b"\n") {
+    if text[..front].ends_with(b"\r") && other[front..].starts_with(b"\n") {
         front - 1
     } else {
         front

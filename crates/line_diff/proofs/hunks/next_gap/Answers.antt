@@ -1,7 +1,6 @@
 use Rattle.line_diff.proofs.Prelude.{◌≡◌, ◌+◌, ◌-◌, ℕ, suc, ap, map, arith, length-map, first_found, gap_at, common_steps}
 use Rattle.line_diff.specs.Hunks.{gap_of, next_gap}
-use Rattle.line_diff.proofs.FirstLemmas.{equal_within}
-use Rattle.line_diff.proofs.GapLemmas.{found_here, found_later}
+use Rattle.line_diff.proofs.GapLemmas.{found_later}
 use Rattle.line_diff.proofs.hunks.next_gap.Goals as goal
 
 pub loop-sum-init : goal.loop-sum-init
