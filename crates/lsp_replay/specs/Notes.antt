@@ -181,25 +181,21 @@ saved_notes (Some entry) (Some saved) = if bytes_eq entry.text saved then [] els
     OtherSaved (differing_line 1 entry.text saved) ∷ []
 saved_notes entry saved = []
 
--- The notes of a notification with this method that isn't about the documents. Of a `didSave` of
--- an open document with the text "abc" the text "abc" has none, "abX" has one.
-abbrev pub saving_notes : List DocumentItem → List ℕ → Option Data → List Note
-saving_notes table method params = if is_save method then
-    saved_notes (option_and_then (entry_at table) (saved_uri params)) (saved_text params) else []
-
 -- What the notes of changes go by, in the encoding of the session.
 abbrev pub terms_in : ServerData → Bool → List (Option ℕ) → Terms
 terms_in s ranged lengths =
     record { units = units_in (session_encoding s); lengths = lengths; ranged = ranged }
 
 -- What there is to note of a message on the documents before it, unless it is refused, by the
--- `rangeLength` of its changes or its params. `ranged`: did the server ask for ranges?
+-- `rangeLength` of its changes or its params. `ranged`: did the server ask for ranges? Of a
+-- `didSave` of an open document with the text "abc" the text "abc" has none, "abX" has one.
 abbrev pub notes_on : ServerData → Bool → List (Option ℕ) → Option Data → IncomingData → List Note
 notes_on s ranged lengths params (did_open (Some p))
     = opening_notes (entry_at s.table p.uri) p.text
 notes_on s ranged lengths params (did_change (Some p))
     = changing_notes (terms_in s ranged lengths) p (entry_at s.table p.uri)
-notes_on s ranged lengths params (other_notification method) = saving_notes s.table method params
+notes_on s ranged lengths params (other_notification method) = if is_save method then
+    saved_notes (option_and_then (entry_at s.table) (saved_uri params)) (saved_text params) else []
 notes_on s ranged lengths params m = []
 
 -- Notes, if a message is accepted, or ignored by a running server. A refused one has its reason.

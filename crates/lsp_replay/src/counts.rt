@@ -2,7 +2,7 @@
 
 ghost use Rattle.std.specs.Prelude.{◌≡◌, IfOk, OnOk, option_map};
 ghost use Rattle.lsp_server.specs.Seen.{answer_view};
-ghost use Rattle.lsp_replay.specs.Counts.{answer_code, counted_code, counts_after, dropped_word, is_frequent, is_habit};
+ghost use Rattle.lsp_replay.specs.Counts.{answer_code, counted_code, counts_after, dropped_word, is_habit};
 ghost use Rattle.lsp_replay.specs.Counts.{nothing_counted, rare_notes, tallied_notes};
 ghost use Rattle.lsp_replay.specs.inside.Verdicts.{verdict_view};
 
@@ -84,10 +84,8 @@ impl Counts {
     fn is_habit(&self, note: Note) -> bool
         ensures { result ≡ is_habit self.now note }
     {
-        is_frequent(
-            self.changed,
-            count_of(self.noted.as_slice(), note_kind(note)),
-        )
+        let count = count_of(self.noted.as_slice(), note_kind(note));
+        count != 0 && self.changed / HABIT_RATE <= count
     }
 
     /// Returns the notes whose kinds are no habits.
@@ -102,14 +100,6 @@ impl Counts {
         }
         Ok(rare)
     }
-}
-
-/// Returns whether a kind of note that came so often is a habit, where so many records changed
-/// documents.
-fn is_frequent(changed: u64, count: u64) -> bool
-    ensures { result ≡ is_frequent changed count }
-{
-    count != 0 && changed / HABIT_RATE <= count
 }
 
 /// Returns the word of a record that was dropped.

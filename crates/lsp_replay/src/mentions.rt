@@ -48,12 +48,6 @@ impl Mention {
     {
         self.uri.as_str() == uri
     }
-
-    fn number(&self) -> u64
-        ensures { result ≡ self.now.number }
-    {
-        self.number
-    }
 }
 
 /// The documents that were opened, closed or refused last, the newest first.
@@ -87,7 +81,7 @@ impl Mentions {
         ensures { result ≡ last_record uri.now self.now.newest.items }
     {
         let index = index_of(self.newest.as_slice(), uri)?;
-        Some(self.newest[index].number())
+        Some(self.newest[index].number)
     }
 
     /// Puts the document with this URI first, with the number of a record.

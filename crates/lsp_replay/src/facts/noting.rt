@@ -1,6 +1,6 @@
 //! What is suspicious of a message on the documents before it.
 
-ghost use Rattle.std.specs.Prelude.{◌≡◌, ◌++◌, IfOk, OnOk, option_map, List, string_bytes, true, ℕ};
+ghost use Rattle.std.specs.Prelude.{◌≡◌, IfOk, option_map, List, string_bytes, true, ℕ};
 ghost use Rattle.serde_json.specs.View.{view};
 ghost use Rattle.lsp_message.specs.Lengths.{is_save};
 ghost use Rattle.lsp_message.specs.Message.{reading};
@@ -9,7 +9,7 @@ ghost use Rattle.lsp_server.specs.Seen.{incoming_view};
 ghost use Rattle.lsp_store.specs.Table.{entry_at};
 ghost use Rattle.lsp_replay.specs.Explained.{saved_in};
 ghost use Rattle.lsp_replay.specs.Notes.{changing_notes, notes_if, notes_on, opening_notes};
-ghost use Rattle.lsp_replay.specs.Notes.{return_notes, terms_in, version_notes};
+ghost use Rattle.lsp_replay.specs.Notes.{terms_in};
 ghost use Rattle.lsp_replay.specs.inside.Bodies.{body_view};
 ghost use Rattle.lsp_replay.specs.inside.Facts.{IsAbout};
 ghost use Rattle.lsp_replay.specs.inside.Reads.{IsNotedOf};
@@ -113,19 +113,11 @@ fn opening_notes(
     if server.store().get(&params.uri).is_some() {
         notes.push(Note::OpenAlready)?;
     }
-    push_return_note(&mut notes, &params.text)?;
-    Ok(notes)
-}
-
-/// Notes a text in which a carriage return ends a line by itself, and a line feed another.
-fn push_return_note(notes: &mut Vec<Note>, text: &str) -> Result<(), AllocError>
-    ensures { OnOk result (notes.new.items ≡ notes.old.items ++ return_notes text.now) }
-{
-    let bytes = text.as_bytes();
+    let bytes = params.text.as_bytes();
     if has_lone_return(bytes) && has_feed(bytes) {
         notes.push(Note::LoneReturn)?;
     }
-    Ok(())
+    Ok(notes)
 }
 
 /// Notes what is suspicious of a change, if its document is open.
@@ -150,7 +142,11 @@ fn changing_notes(
         lengths,
         ranged,
     };
-    push_version_note(&mut notes, params.version, document.version())?;
+    let sent = params.version;
+    let current = document.version();
+    if sent <= current {
+        notes.push(Note::OldVersion { sent, current })?;
+    }
     push_batch_notes(alloc, &mut notes, document.text(), &terms, &params.changes)?;
     Ok(notes)
 }
@@ -166,14 +162,4 @@ pub(super) fn notes_if(mut notes: Vec<Note>, verdict: &Verdict) -> Vec<Note>
             notes
         }
     }
-}
-
-/// Notes a version that isn't greater than the current one.
-fn push_version_note(notes: &mut Vec<Note>, sent: i32, current: i32) -> Result<(), AllocError>
-    ensures { OnOk result (notes.new.items ≡ notes.old.items ++ version_notes sent current) }
-{
-    if sent <= current {
-        notes.push(Note::OldVersion { sent, current })?;
-    }
-    Ok(())
 }
