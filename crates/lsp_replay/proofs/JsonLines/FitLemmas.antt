@@ -1,7 +1,6 @@
 -- The numbers of a session fit their types: counts 64 bits, versions 32 bits. A canonical message is JSON.
-use Rattle.lsp_replay.proofs.Prelude.{◌≡◌, ℕ, ℤ, suc, ◌^◌, ◌<◌, ◌≤◌, Bool, true, false, List, [], ◌∷◌, ◌++◌, length, map, Option, Some, None, refl, sym, ap, ◌∙◌, subst, arith, take, bytes_eq, FitsSigned, IsUtf8, ⊤, codes, if◌then◌else◌, option_and_then, option_map, option_map_or, is_utf8, cases_Bool, ltb-false, IsUtf8-from_is_utf8, Json, IsUtf8-are_ascii, Data, null, number, string, Members, get, get_member, read, LimitsData, AreInRange, units_in, ContentChange, IdData, MessageData, OutcomeData, Reading, id_in, json_of, message_of, reading, ChangeData, CloseData, close_by, close_of, DocumentItem, change_of, document_in, open_by, open_of, version_in, text_in, value_of, IsProperId, AllWithin, Refusal, after_change, after_close, after_open, change_refusal, close_refusal, entry_at, open_refusal, unless_refused, changed, refused, Phase, New, Running, Down, IncomingData, not_json, not_a_message, response, initialize, shutdown, other_request, exit, did_open, did_change, did_close, other_notification, incoming_of, ServerData, content_change_from_data, result_step, session_encoding, step_in, Sender, Client, Server, Version, Record, canonical_change_body, canonical_if, canonical_of_record, change_in, Known, known_after, last_in, uri_of, Mention, is_mention, last_for, last_record, mentioned, most_mentions, without, Session, Verdict, answered, encoding_for, has_changed, is_change, judge, judge_from, id_of, is_json, method_of, within, common_steps}
+use Rattle.lsp_replay.proofs.Prelude.{◌≡◌, ℕ, ℤ, suc, ◌^◌, ◌<◌, ◌≤◌, Bool, true, false, List, [], ◌∷◌, ◌++◌, length, map, Option, Some, None, refl, sym, ap, ◌∙◌, subst, arith, take, bytes_eq, FitsSigned, IsUtf8, ⊤, if◌then◌else◌, option_and_then, option_map_or, is_utf8, cases_Bool, ltb-false, IsUtf8-from_is_utf8, Json, IsUtf8-are_ascii, Data, read, LimitsData, AreInRange, units_in, ContentChange, json_of, message_of, reading, DocumentItem, value_of, IsProperId, AllWithin, after_change, after_close, after_open, entry_at, refused, Phase, IncomingData, not_json, not_a_message, response, initialize, shutdown, other_request, did_open, did_change, did_close, other_notification, incoming_of, ServerData, content_change_from_data, session_encoding, step_in, Sender, Client, Server, Version, Record, canonical_of_record, Known, known_after, last_in, uri_of, Mention, is_mention, last_for, last_record, mentioned, most_mentions, without, Session, Verdict, answered, encoding_for, has_changed, is_change, judge, judge_from, id_of, is_json, method_of, within, common_steps}
 use Rattle.std.specs.Int.{w32}
-use Rattle.lsp_message.specs.Agreement.{offers_of}
 use Rattle.lsp_message.proofs.BodyLemmas.{body_is}
 use Rattle.lsp_store.specs.Message.{change_body, change_message}
 use Rattle.lsp_replay.proofs.JsonLines.PlainLemmas.{visible_compact}
