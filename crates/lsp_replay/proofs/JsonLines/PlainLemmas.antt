@@ -1,5 +1,5 @@
 -- Texts that need no escape in a JSON string, and texts without line breaks.
-use Rattle.lsp_replay.proofs.Prelude.{◌≡◌, ◌⊎◌, inl, inr, cases_lt, ℕ, ℤ, pos, negsuc, zero, suc, ◌/◌, ◌%◌, ◌<◌, ◌≤◌, Bool, true, false, cond, ◌&&◌, ◌||◌, ◌==◌, List, [], ◌∷◌, ◌++◌, decimal, refl, sym, ap, ◌∙◌, arith, IsUtf8, if◌then◌else◌, nat_le, nat_lt, digit_char, list_all, and_from, and_parts, cases_Bool, eqb-false, eqb-true, le-leb, le-ltb, lt-ltb, ltb-false, ltb-true, ne_eqb, or_cases, list_all-append, are_ascii, IsUtf8-are_ascii, escape_byte_plain, comma_if, compact_text, items_text, members_text, number_text, common_steps}
+use Rattle.lsp_replay.proofs.Prelude.{◌≡◌, inl, inr, ℕ, ℤ, pos, negsuc, zero, suc, ◌/◌, ◌%◌, ◌<◌, ◌≤◌, Bool, true, false, cond, ◌&&◌, ◌||◌, ◌==◌, List, [], ◌∷◌, ◌++◌, decimal, refl, sym, ap, ◌∙◌, arith, IsUtf8, if◌then◌else◌, nat_lt, digit_char, list_all, and_from, and_parts, cases_Bool, eqb-false, eqb-true, le-ltb, lt-ltb, ltb-false, ltb-true, ne_eqb, or_cases, list_all-append, are_ascii, IsUtf8-are_ascii, escape_byte_plain, comma_if, compact_text, items_text, members_text, number_text, common_steps}
 use Rattle.std.specs.Fmt.{digit_glyph, digits, digits_onto, signed_decimal}
 use Rattle.std.proofs.Math.Nat.{mod-lt}
 use Rattle.json.specs.Run.{is_plain}

@@ -1,5 +1,5 @@
 -- A JSON string behind its opening quotation mark: where it ends, and what it is read as, whatever comes after it.
-use Rattle.lsp_replay.proofs.Prelude.{◌≡◌, ◌⊎◌, inl, inr, ℕ, zero, suc, ◌+◌, ◌<◌, ◌≤◌, Bool, true, false, cond, ◌&&◌, ◌||◌, ◌==◌, List, [], ◌∷◌, ◌++◌, length, drop, take, get_or, Option, Some, None, option_and_then, refl, sym, ap, ◌∙◌, subst, arith, append_assoc, append-nil, length-append, take_at, drop_at, nat_le, nat_lt, list_all, list_all-append, ⊤, IsUtf8, IsUtf8-append, IsUtf8-encode, IsUtf8-take, IsUtf8-drop, IsCharBoundary-before_ascii, IsCharBoundary-after_ascii, IsUtf8-are_ascii, are_ascii, is_digit, digit_value, encode_utf8, and_from, and_parts, cases_Bool, cases_eq, cases_lt, cond_both, eqb-true, leb-true, le-leb, le-ltb, lt-ltb, ltb-true, ne_eqb, nat_tests, is_operator, is_space, one_line, common_steps}
+use Rattle.lsp_replay.proofs.Prelude.{◌≡◌, ◌⊎◌, inl, inr, ℕ, zero, suc, ◌+◌, ◌<◌, ◌≤◌, Bool, true, false, cond, ◌&&◌, ◌==◌, List, [], ◌∷◌, ◌++◌, length, drop, get_or, Option, Some, None, option_and_then, refl, sym, ap, ◌∙◌, subst, arith, append_assoc, append-nil, length-append, take_at, drop_at, nat_le, nat_lt, list_all, list_all-append, ⊤, IsUtf8, IsUtf8-append, IsUtf8-encode, IsUtf8-take, IsUtf8-drop, IsCharBoundary-before_ascii, IsCharBoundary-after_ascii, IsUtf8-are_ascii, is_digit, digit_value, encode_utf8, and_from, and_parts, cases_Bool, cases_eq, cases_lt, cond_both, eqb-true, leb-true, le-leb, le-ltb, lt-ltb, ltb-true, ne_eqb, nat_tests, is_operator, is_space, one_line, common_steps}
 use Rattle.std.proofs.lemmas.List.{get_or_at}
 use Rattle.std.proofs.lemmas.Option.{none-some, option_and_then_some, same_Some}
 use Rattle.std.proofs.Math.Utf8.{scalar}
@@ -312,7 +312,8 @@ string_byte x xs s again h = by (cases_eq x 34) (cases_eq x 92) (cases_lt x 32)
   where
     goes_on : Step (x ∷ xs) → IsString (x ∷ xs) s
     goes_on k =
-        let tail = prepended k.bytes (content plain k.rest) s (sym (k.reads k.rest) ∙ ap (content plain) (sym k.is) ∙ h) in
+        let tail = prepended k.bytes (content plain k.rest) s
+        (sym (k.reads k.rest) ∙ ap (content plain) (sym k.is) ∙ h) in
         let more = again k.rest tail.0 k.shorter tail.1 in
         let front = λ (ys : List ℕ). append_assoc k.front more.front (34 ∷ ys) in
         subst (IsString (x ∷ xs)) tail.2 (record {

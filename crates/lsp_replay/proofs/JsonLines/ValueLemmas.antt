@@ -1,5 +1,5 @@
 -- Values and members of an object, as they are written one after another.
-use Rattle.lsp_replay.proofs.Prelude.{cond_both, eqb-true, or_cases, ◌≡◌, ◌⊎◌, inl, inr, ℕ, suc, ℤ, ◌^◌, ◌<◌, ◌≤◌, FitsSigned, Bool, true, false, ◌||◌, ◌==◌, List, [], ◌∷◌, ◌++◌, Option, Some, None, option_and_then, refl, sym, ap, ap₂, ◌∙◌, subst, arith, append_assoc, append-nil, decimal, IsUtf8, length, get_or, signed_decimal, w64, ⊤, codes, if◌then◌else◌, and_parts, cases_Bool, cases_lt, IsUtf8-append, IsUtf8-encode, IsUtf8-nil, encode_ascii, inside_one, Token, ends_word, depth, members_depth, json_tokens, items_tokens, members_tokens, HasNumbers, IsUtf8-are_ascii, IsUtf8-quoted, are_ascii, Data, number, unsigned, negative, string, max_depth, of_json, read, compact_text, outline, print-outline, IsJsonLine, member_if, member, one_line, common_steps}
+use Rattle.lsp_replay.proofs.Prelude.{cond_both, eqb-true, or_cases, ◌≡◌, inl, inr, ℕ, suc, ℤ, ◌^◌, ◌<◌, ◌≤◌, FitsSigned, Bool, true, false, ◌||◌, ◌==◌, List, [], ◌∷◌, ◌++◌, Option, Some, None, option_and_then, refl, sym, ap, ap₂, ◌∙◌, subst, arith, append_assoc, append-nil, decimal, IsUtf8, length, signed_decimal, w64, ⊤, codes, cases_Bool, IsUtf8-append, Token, ends_word, depth, members_depth, json_tokens, items_tokens, members_tokens, HasNumbers, IsUtf8-are_ascii, IsUtf8-quoted, are_ascii, Data, number, unsigned, negative, string, max_depth, of_json, read, compact_text, outline, print-outline, IsJsonLine, member_if, member, one_line, common_steps}
 use Rattle.json.specs.Json.{Json, Items, Members, document, if_last, value}
 use Rattle.json.specs.Lex.{token, comma, colon, string_token, lex, between, fresh, after_value, begins_colon, punctuate, tokens}
 use Rattle.json.specs.Print.{ends, escape, quoted, ArePrintable}
@@ -13,7 +13,7 @@ use Rattle.json.proofs.Unique.Spelling.{value-json_tokens_back}
 use Rattle.std.proofs.lemmas.Option.{none-some, option_and_then_some, same_Some}
 use Rattle.lsp_replay.proofs.JsonLines.StringLemmas.{are_visible, cut_ascii, one_visible, stays_text, visible-append}
 use Rattle.lsp_replay.proofs.JsonLines.PlainLemmas.{IsPlain, quoted_plain, visible_compact, visible_quoted, plain_decimal, plain_signed, utf8_plain}
-use Rattle.lsp_replay.proofs.JsonLines.WithinLemmas.{Alike, alike, ended, place}
+use Rattle.lsp_replay.proofs.JsonLines.WithinLemmas.{alike, ended, place}
 use Rattle.json.specs.Json as json
 
 -- ---- the last token of a value
@@ -234,7 +234,8 @@ pub a_member : (name bytes rest : List ℕ) (j : Json) (ms : Members) → are_as
 unfolding lex punctuate
 a_member name bytes rest j ms ascii value more =
     let same = front_then 44 name (bytes ++ rest) in
-    let lexed : lex between (front_of 44 name ++ (bytes ++ rest)) ≡ comma ∷ token (Token.string name) ∷ colon ∷ lex between (bytes ++ rest) =
+    let lexed : lex between (front_of 44 name ++ (bytes ++ rest))
+    ≡ comma ∷ token (Token.string name) ∷ colon ∷ lex between (bytes ++ rest) =
     ap (lex between) same ∙ ap (λ ls. comma ∷ ls) (lex-name name (bytes ++ rest)) in
     let value_shallow = value.shallow in
     let more_shallow = more.shallow in

@@ -1,5 +1,5 @@
 -- JSON within a longer text: on one line its tokens are there what they are alone. Its strings are UTF-8 where it is.
-use Rattle.lsp_replay.proofs.Prelude.{⊎_elim, ◌≡◌, ◌⊎◌, inl, inr, ℕ, zero, suc, ◌<◌, ◌≤◌, Bool, true, false, cond, ◌||◌, ◌==◌, List, [], ◌∷◌, ◌++◌, length, Option, Some, None, refl, sym, ap, ap₂, ◌∙◌, subst, arith, append_assoc, length-append, fold, IsUtf8, ⊤, cases_Bool, eqb-true, or_cases, one_line, common_steps}
+use Rattle.lsp_replay.proofs.Prelude.{⊎_elim, ◌≡◌, ◌⊎◌, inl, inr, ℕ, zero, suc, ◌<◌, Bool, true, false, cond, ◌||◌, ◌==◌, List, [], ◌∷◌, ◌++◌, length, Option, Some, None, refl, sym, ap, ap₂, ◌∙◌, subst, arith, append_assoc, length-append, fold, IsUtf8, ⊤, cases_Bool, eqb-true, or_cases, one_line, common_steps}
 use Rattle.json.specs.Token.{Token, begin_object, end_object, begin_array, end_array, key, string, number, boolean, null, bad}
 use Rattle.json.specs.Text.{content, plain}
 use Rattle.std.proofs.lemmas.Option.{none-some}
@@ -7,7 +7,7 @@ use Rattle.json.specs.Word.{after_number, ends_word, is_operator, is_space, word
 use Rattle.json.specs.Lex.{Class, quote, backslash, operator, space, other, class, Lexeme, token, comma, colon, operator_lexeme, string_token, Mode, between, in_string, in_word, lex, lex_byte, Place, fresh, after_value, after_comma, after_key, begins_colon, may_begin, may_close, if_allowed, place_token, punctuate, tokens}
 use Rattle.json.specs.Print.{ends, token_text, IsPrintable, ArePrintable}
 use Rattle.json.proofs.Printed.Numbers.{lex-number, in_word-ended}
-use Rattle.lsp_replay.proofs.JsonLines.StringLemmas.{IsString, are_visible, cut_ascii, stays_text, string_is}
+use Rattle.lsp_replay.proofs.JsonLines.StringLemmas.{cut_ascii, stays_text, string_is}
 use Rattle.lsp_replay.proofs.JsonLines.WordLemmas.{Word, is_word, word_is}
 
 -- ---- tokens whose texts are UTF-8
@@ -224,7 +224,8 @@ module _ (r : List ℕ) (word_ends : ends_word r ≡ true) (no_colon : begins_co
   allowed : (b : Bool) (p : Place) (t u : Token) (q : Place) (ls : List Lexeme)
       → ((ks : List Lexeme) → begins_colon ks ≡ begins_colon ls
       → punctuate p (token t ∷ ks) ≡ if_allowed b u (λ n. punctuate n ks) q)
-      → ends u ≡ after q → (HasText t → HasText u) → (IsPrintable u → IsPrintable t) → (is_word t ≡ true → q ≡ after_value)
+      → ends u ≡ after q → (HasText t → HasText u) → (IsPrintable u → IsPrintable t)
+      → (is_word t ≡ true → q ≡ after_value)
       → ArePrintable (if_allowed b u (λ n. punctuate n ls) q) → Placed p (token t) ls
   unfolding ArePrintable
   allowed true p t u q ls is e same back word h = record {
@@ -262,7 +263,8 @@ module _ (r : List ℕ) (word_ends : ends_word r ≡ true) (no_colon : begins_co
   placed p (token (key s)) ls h = no_bad h
   placed p (token bad) ls h = no_bad h
   placed p (token (string s)) ls h = string_placed p s ls (begins_colon ls) refl h
-  placed p (token t) ls h = allowed (may_begin p) p t t after_value ls (λ ks e. refl) refl (λ u. u) (λ i. i) (λ w. refl) h
+  placed p (token t) ls h =
+      allowed (may_begin p) p t t after_value ls (λ ks e. refl) refl (λ u. u) (λ i. i) (λ w. refl) h
   placed after_value comma ls h = record {
     given = [];
     next = after_comma;
@@ -356,8 +358,8 @@ module _ (r : List ℕ) (word_ends : ends_word r ≡ true) (no_colon : begins_co
 
   break_is_space : (x : ℕ) → is_break x ≡ true → class x ≡ space
   break_is_space x e =
-      ⊎_elim (λ (h : (x == 10) ≡ true). ap class (eqb-true x 10 h)) (λ (h : (x == 13) ≡ true). ap class (eqb-true x 13 h))
-      (or_cases (x == 10) (x == 13) e)
+      ⊎_elim (λ (h : (x == 10) ≡ true). ap class (eqb-true x 10 h))
+      (λ (h : (x == 13) ≡ true). ap class (eqb-true x 13 h)) (or_cases (x == 10) (x == 13) e)
 
   good_string : (o : Option (List ℕ)) → IsPrintable (string_token o) → (s : List ℕ) × (o ≡ Some s)
   good_string None h = absurd h
@@ -385,7 +387,8 @@ module _ (r : List ℕ) (word_ends : ends_word r ≡ true) (no_colon : begins_co
       by (inr d) backslash e = no_bad (good backslash e)
       by (inr d) operator e = goes_on (an_operator x xs e d)
       by (inr d) quote e =
-          let found = good_string (content plain xs) (first (string_token (content plain xs)) in_string (good quote e)) in
+          let o : Option (List ℕ) = content plain xs in
+          let found = good_string o (first (string_token o) in_string (good quote e)) in
           goes_on (subst (λ y. Chunk (y ∷ xs)) (sym (class_is_quote x e)) (a_string xs found.0 found.1))
       by (inr d) other e = goes_on (a_word (x ∷ xs) (first (word (x ∷ xs)) in_word (good other e)))
 

@@ -1,5 +1,5 @@
 -- A number, `true`, `false` or `null` at the front of a text. No line break is in it.
-use Rattle.lsp_replay.proofs.Prelude.{⊎_elim, ◌≡◌, ℕ, suc, ◌+◌, ◌≤◌, Bool, true, false, cond, ◌&&◌, ◌||◌, ◌==◌, List, [], ◌∷◌, ◌++◌, length, drop, Option, Some, None, option_and_then, refl, sym, ap, ◌∙◌, subst, arith, length-append, take_at, nat_eq, is_ascii_digit, prefix_len, starts_with, and_parts, cases_Bool, cond_both, eqb-true, leb-true, or_cases, Decides-eqb, starts_is, IsPrintable, token_text, common_steps}
+use Rattle.lsp_replay.proofs.Prelude.{⊎_elim, ◌≡◌, ℕ, suc, ◌+◌, ◌≤◌, Bool, true, false, cond, ◌&&◌, ◌||◌, ◌==◌, List, [], ◌∷◌, ◌++◌, length, drop, Option, Some, None, option_and_then, refl, sym, ap, subst, arith, length-append, take_at, nat_eq, is_ascii_digit, prefix_len, starts_with, and_parts, cases_Bool, cond_both, eqb-true, leb-true, or_cases, Decides-eqb, starts_is, IsPrintable, token_text, common_steps}
 use Rattle.json.specs.Token.{Token, number, boolean, null, bad}
 use Rattle.json.specs.Word.{after_digits, after_exponent, after_fraction, after_minus, after_number, after_sign, after_whole, ends_word, head, literal, number_before, word}
 use Rattle.lsp_replay.proofs.JsonLines.StringLemmas.{are_visible, one_visible}

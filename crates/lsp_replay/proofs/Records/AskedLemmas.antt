@@ -1,8 +1,8 @@
 -- What a body asks is as the types hold it: its texts are UTF-8, and its numbers fit.
-use Rattle.lsp_replay.proofs.Prelude.{◌≡◌, ℕ, ℤ, pos, negsuc, ◌<◌, ◌^◌, Bool, true, false, ◌||◌, List, [], ◌∷◌, map, Option, Some, None, option_map, option_and_then, FitsSigned, IsUtf8, bytes_eq, codes, refl, arith, ⊤, if◌then◌else◌, nat_lt, int_lt, option_map_or, match_ordering, is_utf8, Ordering, Less, Equal, Greater, cond_both, ltb-true, nat_tests, IsUtf8-from_is_utf8, scalars-chars, get_member, get, as_object, as_str, as_array, as_i64, read, member_at, text_in, array_in, each_of, whole_in, IdData, whole, text, OutcomeData, Reading, MessageData, id_in, json_of, message_of, reading, CloseData, close_by, close_of, DocumentItem, ContentChangeData, ChangeData, open_of, open_by, change_of, change_by, document_in, document_and_changes, content_change_in, version_in, version_from, IsProperId, IncomingData, not_json, not_a_message, response, initialize, shutdown, other_request, exit, did_open, did_change, did_close, other_notification, incoming_by, incoming_of, content_change_from_data, AreTexts, common_steps}
+use Rattle.lsp_replay.proofs.Prelude.{◌≡◌, ℕ, ℤ, pos, negsuc, ◌<◌, ◌^◌, Bool, true, false, ◌||◌, List, map, Option, Some, None, option_map, option_and_then, FitsSigned, IsUtf8, bytes_eq, codes, refl, arith, ⊤, if◌then◌else◌, nat_lt, int_lt, option_map_or, is_utf8, cond_both, ltb-true, nat_tests, IsUtf8-from_is_utf8, scalars-chars, get_member, get, as_object, as_str, as_array, as_i64, read, member_at, text_in, array_in, each_of, whole_in, IdData, whole, OutcomeData, Reading, MessageData, id_in, json_of, message_of, reading, CloseData, close_by, close_of, DocumentItem, ContentChangeData, ChangeData, open_of, open_by, change_of, change_by, document_in, document_and_changes, content_change_in, version_in, version_from, IsProperId, IncomingData, not_a_message, response, initialize, shutdown, other_request, did_open, did_change, did_close, other_notification, incoming_by, incoming_of, content_change_from_data, AreTexts, common_steps}
 use Rattle.std.specs.Int.{w32}
 use Rattle.std.specs.Str.{all_scalars, chars}
-use Rattle.serde_json.specs.Data.{Num, unsigned, negative, float, Data, null, boolean, number, string, array, object, Items, no_items, item, Members, no_members, member}
+use Rattle.serde_json.specs.Data.{Num, unsigned, negative, float, Data, null, number, string, array, object, Items, no_items, item, Members, no_members, member}
 use Rattle.lsp_replay.proofs.Records.ReadLemmas.{OnSome, held_ordered, on_any, on_map, on_then, NumFits, IsHeld, ItemsAreHeld, MembersAreHeld, read_held}
 use Rattle.lsp_message.specs.Message as msg
 

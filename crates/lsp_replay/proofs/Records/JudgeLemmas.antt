@@ -1,8 +1,8 @@
 -- What becomes of a record is told by its body, its side and its log's version; the canonical body of an accepted
 -- change is judged as the
 -- change was.
-use Rattle.lsp_replay.proofs.Prelude.{◌≡◌, ℕ, ◌≤◌, Bool, true, false, List, length, Option, Some, None, refl, sym, ap, ◌∙◌, subst, arith, if◌then◌else◌, LimitsData, AreInRange, Encoding, IdData, reading, ChangeData, AnswerData, Sent, reply, changed, dropped, ignored, already_ended, refused, exits, as_sent, IncomingData, not_json, not_a_message, response, initialize, shutdown, other_request, exit, did_open, did_change, did_close, other_notification, incoming_of, Version, One, Two, Sender, Client, Server, Head, Record, Session, Verdict, answered, recorded, bad, Judged, judged, judge, judge_from, judge_client, judge_server, encoding_for, handled, is_ended, is_early, expected_of, one_more, change_in, canonical_if, canonical_of_record, canonical_change_body, judge_at, common_steps}
-use Rattle.lsp_server.specs.Step.{ServerData, Step, step_on, with_encoding}
+use Rattle.lsp_replay.proofs.Prelude.{◌≡◌, ℕ, ◌≤◌, List, length, Option, Some, None, refl, sym, ap, ◌∙◌, subst, arith, LimitsData, AreInRange, Encoding, IdData, reading, ChangeData, AnswerData, Sent, changed, as_sent, IncomingData, did_change, incoming_of, Version, One, Two, Sender, Client, Server, Head, Record, Session, Verdict, answered, recorded, bad, Judged, judged, judge, judge_from, judge_client, judge_server, encoding_for, handled, expected_of, one_more, change_in, canonical_if, canonical_of_record, canonical_change_body, judge_at, common_steps}
+use Rattle.lsp_server.specs.Step.{ServerData, step_on, with_encoding}
 use Rattle.lsp_replay.proofs.Canonical.CanonicalLogLemmas.{accepted, heard_has_none}
 use Rattle.lsp_replay.proofs.Records.AskedLemmas.{IsProperIncoming, asked_proper}
 use Rattle.lsp_replay.proofs.Records.StateLemmas.{IsHeldState, step_on_held}

@@ -1,5 +1,5 @@
 -- The table of documents with another text and version of one of them.
-use Rattle.lsp_replay.proofs.Prelude.{◌≡◌, ℕ, ℤ, true, false, List, [], ◌∷◌, Some, None, bytes_eq, refl, if◌then◌else◌, chars, ContentChange, meaning, DocumentItem, after_change, entry_at, meant_text, arith, common_steps}
+use Rattle.lsp_replay.proofs.Prelude.{◌≡◌, ℕ, ℤ, List, [], ◌∷◌, Some, None, bytes_eq, refl, if◌then◌else◌, chars, ContentChange, meaning, DocumentItem, after_change, entry_at, meant_text, arith, common_steps}
 
 abbrev pub put : List DocumentItem → List ℕ → ℤ → List ℕ → List DocumentItem
 put [] uri version text = []

@@ -179,7 +179,8 @@ module _ {s new : Session} {series : Option SquashData} {head : Head} {body : Li
     open_by server p leaves (Continues canonical batches) joined = rw leaves joined.2
     open_by server p leaves (Begins canonical ended batches) joined = rw leaves joined.4
 
-    seen_by : (a : Option ChangeData) → accepted_of s head body ≡ a → IsShown (after ≡ before) HasJoined s new a → IsSeen
+    seen_by : (a : Option ChangeData) → accepted_of s head body ≡ a → IsShown (after ≡ before) HasJoined s new a
+        → IsSeen
     seen_by None none same =
         let fresh : after ≡ record { batches = series; writing = None } = same ∙ begins in
         record {
