@@ -121,7 +121,8 @@ impl<'a> Passed<'a> {
             map content_change changes.items ≡ changes_in self.entry) }
         ensures edits { IfOk result (λ changes.
             map replacement_by changes.items ≡ replacements_in self.entry) }
-        ensures len { IfOk result (λ changes. sum_by (λ change. string_len change.text) changes.items
+        ensures len { IfOk result (λ changes.
+            sum_by (λ change. string_len change.text) changes.items
             ≡ len_of self.entry.edits.now) }
     {
         let mut changes = Vec::new(alloc);

@@ -1,76 +1,49 @@
 -- The lines of the input.
-use Rattle.lsp_simulate.proofs.Prelude.{◌≡◌, ◌<◌, ◌≤◌, ℕ, zero, suc, ◌+◌, ◌-◌, Bool, true, false, List, [], ◌∷◌, ◌++◌, length, get_or, take, drop, refl, sym, ap, ◌∙◌, arith, append_assoc, Option, None, Some, IfSome, drop-drop, drop-take, length-take, take-append-drop, take_all, IsAtEnd, prepend_known, Spends, line_count, lines_from, Passed, is_begun}
-use Rattle.std.proofs.Common.{eqb-true}
-use Rattle.std.proofs.Math.Seq.{drop-cons}
+use Rattle.lsp_simulate.proofs.Prelude.{◌≡◌, ◌<◌, ◌≤◌, ℕ, zero, suc, ◌+◌, ◌-◌, Bool, true, false, List, [], ◌∷◌, ◌++◌, length, get_or, take, drop, refl, ap, ◌∙◌, arith, append-nil, Option, None, Some, IfSome, drop-drop, drop-take, length-take, IsAtEnd, prepend_known, Spends, line_count, lines_from, Passed, is_begun}
 use Rattle.memchr.specs.Find.{IsFirstByte, is_byte}
 
 -- ---- the lines of bytes one after another
-
-abbrev begun_by : Bool → List ℕ → Bool
-begun_by begun [] = begun
-begun_by begun (byte ∷ bytes) = true
-
-begun_true : (bytes : List ℕ) → begun_by true bytes ≡ true
-begun_true [] = refl
-begun_true (byte ∷ bytes) = refl
-
-begun_false : (bytes : List ℕ) → begun_by false bytes ≡ is_begun bytes
-begun_false [] = refl
-begun_false (byte ∷ bytes) = refl
-
-begun_append : (line bytes : List ℕ) → begun_by (is_begun line) bytes ≡ is_begun (line ++ bytes)
-begun_append [] bytes = begun_false bytes
-begun_append (byte ∷ line) bytes = begun_true bytes
-
--- There is no line end among these bytes.
-abbrev IsPlain : List ℕ → Type 0
-IsPlain [] = Unit {0}
-IsPlain (byte ∷ bytes) = (is_byte 10 byte ≡ false) × IsPlain bytes
-
-count_plain : (begun : Bool) (bytes more : List ℕ) → IsPlain bytes
-    → lines_from begun (bytes ++ more) ≡ lines_from (begun_by begun bytes) more
-count_plain begun [] more plain = refl
-count_plain begun (byte ∷ bytes) more plain =
-    rw plain.0 (count_plain true bytes more plain.1 ∙ ap (λ b. lines_from b more) (begun_true bytes))
 
 not_true : (b : Bool) → (b ≡ true → ⊥) → b ≡ false
 not_true true never = absurd (never refl)
 not_true false never = refl
 
-plain_before : (bytes : List ℕ) (n : ℕ) → ((k : ℕ) → k < n → is_byte 10 (get_or bytes k 0) ≡ true → ⊥)
-    → n ≤ length bytes → IsPlain (take n bytes)
-plain_before [] zero none within = tt
-plain_before [] (suc n) none within = absurd (omega arith)
-plain_before (byte ∷ bytes) zero none within = tt
-plain_before (byte ∷ bytes) (suc n) none within = (
-  not_true (is_byte 10 byte) (none 0 (omega arith)),
-  plain_before bytes n (λ k below. none (suc k) (omega arith)) (omega arith),
-)
+first_at : (begun : Bool) (bytes more : List ℕ) (at : ℕ) → at < length bytes
+    → ((k : ℕ) → k < at → is_byte 10 (get_or bytes k 0) ≡ false) → is_byte 10 (get_or bytes at 0) ≡ true
+    → lines_from begun (bytes ++ more) ≡ 1 + lines_from false (drop (suc at) bytes ++ more)
+first_at begun [] more at within none hit = absurd (omega arith)
+first_at begun (byte ∷ bytes) more zero within none hit =
+    let here : is_byte 10 byte ≡ true = hit in rw here refl
+first_at begun (byte ∷ bytes) more (suc at) within none hit =
+    let here : is_byte 10 byte ≡ false = none 0 (omega arith) in
+    rw here (first_at true bytes more at (omega arith) (λ k below. none (suc k) (omega arith)) hit)
+
+none_in : (bytes more : List ℕ) → ((k : ℕ) → k < length bytes → is_byte 10 (get_or bytes k 0) ≡ false)
+    → lines_from true (bytes ++ more) ≡ lines_from true more
+none_in [] more none = refl
+none_in (byte ∷ bytes) more none =
+    let here : is_byte 10 byte ≡ false = none 0 (omega arith) in
+    rw here (none_in bytes more (λ k below. none (suc k) (omega arith)))
+
+begun_last : (line : List ℕ) (byte : ℕ) (bytes : List ℕ) → is_begun (line ++ byte ∷ bytes) ≡ true
+begun_last [] byte bytes = refl
+begun_last (first ∷ line) byte bytes = refl
 
 -- ---- what `memchr` found
 
 pub first_line : (begun : Bool) (bytes more : List ℕ) (at : ℕ) → IsFirstByte (is_byte 10) bytes (Some at)
     → lines_from begun (bytes ++ more) ≡ 1 + lines_from false (drop (suc at) bytes ++ more)
 first_line begun bytes more at first =
-    let within : at < length bytes = first.0.high in
-    let front = take at bytes in
-    let back = drop (suc at) bytes in
-    let there : get_or bytes at 0 ≡ 10 = eqb-true (get_or bytes at 0) 10 first.1 in
-    let plain : IsPlain front = plain_before bytes at (λ k below. first.0.before k (omega arith) below) (omega arith) in
-    let cut : bytes ≡ front ++ (10 ∷ back) =
-    sym (take-append-drop at bytes)
-    ∙ ap (λ z. front ++ z) (drop-cons bytes at 0 within ∙ ap (λ z. z ∷ back) there) in
-    ap (λ z. lines_from begun (z ++ more)) cut ∙ ap (λ z. lines_from begun z) (append_assoc front (10 ∷ back) more)
-    ∙ count_plain begun front (10 ∷ (back ++ more)) plain
+    first_at begun bytes more at first.0.high
+    (λ k below. not_true (is_byte 10 (get_or bytes k 0)) (first.0.before k (omega arith) below)) first.1
 
 pub no_line : (line bytes more : List ℕ) → IsFirstByte (is_byte 10) bytes None
     → lines_from (is_begun line) (bytes ++ more) ≡ lines_from (is_begun (line ++ bytes)) more
-no_line line bytes more none =
-    let all : take (length bytes) bytes ≡ bytes = take_all (length bytes) bytes (omega arith) in
-    let plain : IsPlain (take (length bytes) bytes) =
-    plain_before bytes (length bytes) (λ k below. none k (omega arith) below) (omega arith) in
-    count_plain (is_begun line) bytes more (rw all at plain)
-    ∙ ap (λ b. lines_from b more) (begun_append line bytes)
+no_line line [] more none = rw (append-nil line) refl
+no_line line (byte ∷ bytes) more none =
+    let here : is_byte 10 byte ≡ false = not_true (is_byte 10 byte) (none 0 (omega arith) (omega arith)) in
+    rw (here, begun_last line byte bytes) (none_in bytes more (λ k below.
+    not_true (is_byte 10 (get_or bytes k 0)) (none (suc k) (omega arith) (omega arith))))
 
 -- What is left of a piece after a line and its end.
 pub after_line : (from to len : ℕ) (bytes : List ℕ) → len < length (take (to - from) (drop from bytes))

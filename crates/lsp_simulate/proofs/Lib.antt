@@ -1,6 +1,6 @@
 -- Where to begin: all is in `SessionLemmas`. The loop of `simulate` starts by `begun` and goes on by `stepped`, a line
--- for each step. A session ends by `ended`, and after a fault by `stopped`, `unread`, `unwritten` or `not_ended`, or
--- by `refused` before its first step. The lines at its end are `end_after` and `some_documents`.
+-- for each step. A session ends by `ended`, and after a fault by `out_of_memory`, `stopped`, `unread`, `unwritten` or
+-- `end_cut`, or by `refused` before its first step.
 pub mod InputLemmas
 pub mod LineLemmas
 pub mod OptionLemmas
@@ -8,3 +8,4 @@ mod Prelude
 pub mod ProgramLemmas
 pub mod ReadLemmas
 pub mod SessionLemmas
+mod WordLemmas

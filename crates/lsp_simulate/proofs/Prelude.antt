@@ -22,7 +22,7 @@ pub use Rattle.lsp_simulate.specs.declared.command_line.Setting.{Setting}
 pub use Rattle.lsp_simulate.specs.declared.run.RunFault.{RunFault}
 pub use Rattle.lsp_simulate.specs.declared.run.RunFault.TheVariants.{BadEvent, NoMemory, Read, Write}
 pub use Rattle.lsp_simulate.specs.inside.Lines.{Passed, is_begun, lines_in, rest, size, unused}
-pub use Rattle.lsp_simulate.specs.inside.Session.{AreUnderWay, IsStepLine, IsUnderWay, WroteLines, last_number, read_fault}
+pub use Rattle.lsp_simulate.specs.inside.Session.{IsStepLine, IsUnderWay, read_fault}
 pub use Rattle.lsp_stream.specs.Ports.{ReaderState, Rose, WriterState, ports}
 pub use Rattle.lsp_stream.specs.Turns.{AppendsFront, Spends, StaysWell, WritesWithin}
 pub use Rattle.lsp_stream.specs.declared.fault.EngineFault.{EngineFault}

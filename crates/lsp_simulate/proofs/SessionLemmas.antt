@@ -1,10 +1,10 @@
 -- A session that is written line by line.
 -- ---- whole lines
-use Rattle.lsp_simulate.proofs.Prelude.{◌≡◌, ◌≤◌, ◌⊎◌, ◌↔◌, inl, inr, ℕ, ◌+◌, true, false, List, [], ◌∷◌, ◌++◌, length, codes, Option, Result, Ok, Err, refl, sym, ap, ◌∙◌, subst, arith, append_assoc, Appends-nil, Appends-trans, IfSome, length-append, Appends, IsAtEnd, EngineFault, ReaderState, Rose, WriterState, ports, AppendsFront, Spends, WritesWithin, allowed_turns, front_after, front_before, spends_more, stopped_after, DocumentItem, PairData, IsFitting, are_within, can_choose_utf16, new_pair, Setting, RunFault, Read, Write, NoMemory, BadEvent, run_fault, AppendsLines, AreSteps, AreWholeLines, IsSettingRefused, PairStep, RanSteps, ReadLines, WroteSession, WroteSteps, document_lines, end_document, end_lines, line_count, next_line_number, pair_setting, step_line, step_lines, waiting_line, Passed, AreUnderWay, IsStepLine, IsUnderWay, WroteLines, last_number, read_fault}
+use Rattle.lsp_simulate.proofs.Prelude.{◌≡◌, ◌≤◌, ◌⊎◌, ◌↔◌, inl, inr, ℕ, ◌+◌, true, false, List, [], ◌∷◌, ◌++◌, length, Option, Result, Ok, Err, refl, sym, ap, ◌∙◌, subst, arith, Appends-nil, Appends-trans, IfSome, length-append, Appends, IsAtEnd, EngineFault, ReaderState, Rose, WriterState, ports, AppendsFront, Spends, WritesWithin, allowed_turns, front_after, front_before, spends_more, stopped_after, PairData, IsFitting, are_within, can_choose_utf16, new_pair, Setting, RunFault, Read, Write, NoMemory, BadEvent, run_fault, AreSteps, IsSettingRefused, PairStep, RanSteps, ReadLines, WroteSession, WroteSteps, end_lines, line_count, next_line_number, pair_setting, step_line, step_lines, Passed, IsStepLine, IsUnderWay, read_fault}
 use Rattle.lsp_pair.specs.declared.setting.PairFault.{PairFault}
 use Rattle.lsp_pair.specs.declared.setting.PairFault.TheVariants.{NotUtf16, LimitsTooSmall}
 use Rattle.lsp_simulate.proofs.InputLemmas.{all_passed, at_least, fewer, none_spent, passed_more}
-use Rattle.lsp_simulate.proofs.LineLemmas.{lines-append, whole_steps, whole_document, whole_documents, whole_waiting, lines_after, wrote_after, wrote_before, write_fault, steps_more, last_more, lines_more, next_last}
+use Rattle.lsp_simulate.proofs.LineLemmas.{whole_steps, write_fault, steps_more, lines_more}
 use Rattle.lsp_stream.specs.declared.fault.EngineFault.TheVariants as engine
 
 pub begun : (setting : Setting) (input later : Option (List ℕ)) (before : WriterState) (left : ℕ) (pair : PairData)
@@ -31,10 +31,9 @@ module _ (setting : Setting) (reader now : ReaderState) (before mid : WriterStat
   line_more : (after : PairData) (line : List ℕ) (step : IsStepLine pair after next line)
       → step_lines 0 way.steps ++ line ≡ step_lines 0 (way.steps ++ made pair after next line step ∷ [])
   line_more after line step =
-      let last : next ≡ next_line_number (last_number 0 way.steps) = counted ∙ ap next_line_number way.last in
-      let is : line ≡ step_line (next_line_number (last_number 0 way.steps)) step.happened =
-      step.is ∙ ap (λ n. step_line n step.happened) last in
-      ap (λ z. step_lines 0 way.steps ++ z) is ∙ sym (lines_more 0 way.steps (made pair after next line step))
+      let last : next ≡ next_line_number (0 + length way.steps) = omega (arith, counted, way.last) in
+      ap (λ z. step_lines 0 way.steps ++ z) step.is
+      ∙ sym (lines_more 0 way.steps (made pair after next line step) next last)
 
   are_more : (after : PairData) (line : List ℕ) (step : IsStepLine pair after next line)
       → AreSteps (new_pair (pair_setting setting)) (way.steps ++ made pair after next line step ∷ []) after
@@ -54,7 +53,7 @@ module _ (setting : Setting) (reader now : ReaderState) (before mid : WriterStat
     fits = way.fits;
     steps = way.steps ++ made pair after next line step ∷ [];
     are_steps = are_more after line step;
-    last = counted ∙ ap next_line_number way.last ∙ sym (last_more 0 way.steps (made pair after next line step));
+    last = omega (arith, counted, way.last, length-append way.steps (made pair after next line step ∷ []));
     taken = taken_more (made pair after next line step);
     written = subst (λ (z : List ℕ). Appends before.written new.written z) (line_more after line step)
         (Appends-trans before.written mid.written new.written (step_lines 0 way.steps) line way.written wrote);
@@ -110,7 +109,7 @@ module _ (setting : Setting) (reader now : ReaderState) (before mid : WriterStat
   some_read : IfSome reader.left (λ input. length way.steps ≤ line_count input)
   some_read = at_least reader.left rest (length way.steps) way.taken
 
-  out_of_memory : RanSteps setting (Err NoMemory) (ports reader before) (ports now mid)
+  pub out_of_memory : RanSteps setting (Err NoMemory) (ports reader before) (ports now mid)
   out_of_memory =
       ran (Err NoMemory) mid some_read
       (step_lines 0 way.steps, end_lines pair, refl, whole_steps 0 way.steps, way.written)
@@ -120,12 +119,11 @@ module _ (setting : Setting) (reader now : ReaderState) (before mid : WriterStat
       → WroteSession setting (Err fault) (ports reader before) (ports now mid)
   stopped next later fault counted one (inl is) = rw is out_of_memory
   stopped next later fault counted one (inr is) =
-      let all : 0 + length way.steps ≡ length way.steps = omega arith in
       let more : Passed reader.left (length way.steps + 1) false later =
       passed_more reader.left rest later (length way.steps) 1 (length way.steps + 1) way.taken one refl in
       rw is (ran (Err (BadEvent next)) mid
       (fewer reader.left later (length way.steps) (length way.steps + 1) more (omega arith))
-      (counted ∙ ap next_line_number way.last ∙ next_last 0 way.steps ∙ ap next_line_number all, way.written))
+      (counted ∙ way.last, way.written))
 
   pub unread : (fault : EngineFault)
       → (fault ≡ engine.NoMemory) ⊎ ((fault ≡ engine.Read) ⊎ (fault ≡ engine.TooManyTurns))
@@ -146,85 +144,14 @@ module _ (setting : Setting) (reader now : ReaderState) (before mid : WriterStat
       (Appends-trans before.written mid.written after.written (step_lines 0 way.steps) (end_lines pair) way.written
       wrote)
 
-  pub not_ended : (after : WriterState) (right : ℕ) (fault : EngineFault) (given : RunFault) → given ≡ run_fault fault
-      → WroteLines (Err fault) (end_lines pair) mid.written after.written
-      → WritesWithin {A = Unit {0}} left right mid after (Err fault)
+  -- The lines of the end were cut short.
+  pub end_cut : (after : WriterState) (right : ℕ) (text : List ℕ) (fault : EngineFault) (given : RunFault)
+      → given ≡ run_fault fault → text ≡ end_lines pair → (fault ≡ engine.Write) ⊎ (fault ≡ engine.TooManyTurns)
+      → AppendsFront mid.written after.written text → WritesWithin {A = Unit {0}} left right mid after (Err fault)
       → WroteSession setting (Err given) (ports reader before) (ports now after)
-  not_ended after right fault given is (inl some) calls =
-      rw (is ∙ ap run_fault some.0)
-      (ran (Err NoMemory) after some_read
-      (lines_after before.written mid.written after.written (step_lines 0 way.steps) (end_lines pair) way.written
-      (whole_steps 0 way.steps) some.1))
-  not_ended after right fault given is (inr some) calls =
-      rw (write_fault fault given is some.0)
+  end_cut after right text fault given is same why some calls = rw (write_fault fault given is why)
       (ran (Err Write) after some_read (
         front_after before.written mid.written after.written (step_lines 0 way.steps) (end_lines pair) way.written
-            some.1,
-        (fault, stopped_after before mid after left right fault way.spent calls some.0),
+            (subst (λ (z : List ℕ). AppendsFront mid.written after.written z) same some),
+        (fault, stopped_after before mid after left right fault way.spent calls why),
       ))
-
--- ---- documents
-
--- The lines before a document, its own, and those after it are all of them.
-document_rest : (end : List ℕ) (all : List DocumentItem) (old mid : Option (List ℕ)) (left after : List DocumentItem)
-    (item : DocumentItem) (line : List ℕ) (way : AreUnderWay end all old mid left) → left ≡ item ∷ after
-    → line ≡ end_document end item → way.lines ++ (line ++ document_lines end after) ≡ document_lines end all
-document_rest end all old mid left after item line way first is =
-    ap (λ z. way.lines ++ (z ++ document_lines end after)) is
-    ∙ ap (λ z. way.lines ++ document_lines end z) (sym first) ∙ way.rest
-
-pub one_document : (end : List ℕ) (all : List DocumentItem) (old mid new : Option (List ℕ))
-    (left after : List DocumentItem) (item : DocumentItem) (line : List ℕ) → AreUnderWay end all old mid left
-    → left ≡ item ∷ after → line ≡ end_document end item → Appends mid new line → AreUnderWay end all old new after
-one_document end all old mid new left after item line way first is wrote = record {
-  lines = way.lines ++ line;
-  whole = lines-append way.lines line way.whole (subst AreWholeLines (sym is) (whole_document end item));
-  written = Appends-trans old mid new way.lines line way.written wrote;
-  rest = append_assoc way.lines line (document_lines end after)
-      ∙ document_rest end all old mid left after item line way first is;
-}
-
-pub some_documents : (end : List ℕ) (all : List DocumentItem) (old new : Option (List ℕ)) (left : List DocumentItem)
-    → AreUnderWay end all old new left → AppendsLines old new (document_lines end all)
-some_documents end all old new left way = (way.lines, document_lines end left, sym way.rest, way.whole, way.written)
-
-pub cut_document : (end : List ℕ) (all : List DocumentItem) (old mid new : Option (List ℕ))
-    (left after : List DocumentItem) (item : DocumentItem) (line : List ℕ) → AreUnderWay end all old mid left
-    → left ≡ item ∷ after → line ≡ end_document end item → AppendsFront mid new line
-    → AppendsFront old new (document_lines end all)
-cut_document end all old mid new left after item line way first is some =
-    subst (λ (z : List ℕ). AppendsFront old new z)
-    (document_rest end all old mid left after item line way first is)
-    (front_after old mid new way.lines (line ++ document_lines end after) way.written
-    (front_before mid new line (document_lines end after) some))
-
--- ---- how a pair ends
-
-abbrev pub waits : PairData → List ℕ
-waits pair = waiting_line (length pair.to_server) (length pair.to_client)
-
-abbrev clients : PairData → List ℕ
-clients pair = document_lines (codes "client") pair.client.table
-
-abbrev servers : PairData → List ℕ
-servers pair = document_lines (codes "server") pair.server.table
-
-pub end_cut : (pair : PairData) (old new : Option (List ℕ)) → AppendsFront old new (waits pair)
-    → AppendsFront old new (end_lines pair)
-end_cut pair old new some = front_before old new (waits pair) (clients pair ++ servers pair) some
-
-pub end_between : (pair : PairData) (fault : EngineFault) (old mid new : Option (List ℕ)) → Appends old mid (waits pair)
-    → WroteLines (Err fault) (clients pair) mid new → WroteLines (Err fault) (end_lines pair) old new
-end_between pair fault old mid new wrote some =
-    wrote_after (Err fault) old mid new (waits pair) (clients pair ++ servers pair) wrote
-    (whole_waiting (length pair.to_server) (length pair.to_client))
-    (wrote_before fault mid new (clients pair) (servers pair) some)
-
-pub end_after : (pair : PairData) (result : Result (Unit {0}) EngineFault) (old first second new : Option (List ℕ))
-    → Appends old first (waits pair) → Appends first second (clients pair)
-    → WroteLines result (servers pair) second new → WroteLines result (end_lines pair) old new
-end_after pair result old first second new wrote between more =
-    wrote_after result old first new (waits pair) (clients pair ++ servers pair) wrote
-    (whole_waiting (length pair.to_server) (length pair.to_client))
-    (wrote_after result first second new (clients pair) (servers pair) between
-    (whole_documents (codes "client") pair.client.table) more)

@@ -17,41 +17,13 @@ pub fn event_of(alloc: Global, line: &[u8]) -> Result<Event, ParamsFault> {
         Err(error) if error.is_memory() => return Err(ParamsFault::NoMemory),
         Err(_) => return Err(ParamsFault::InvalidParams),
     };
-    let kind = kind_of(&value).ok_or(ParamsFault::InvalidParams)?;
-    event_in(alloc, kind, value)
+    event_in(alloc, value)
 }
 
-/// The kinds of events.
-#[derive(Clone, Copy, Debug, PartialEq, Eq)]
-enum Kind {
-    Start,
-    Open,
-    Edit,
-    Close,
-    Shutdown,
-    Exit,
-    ToServer,
-    ToClient,
-}
-
-fn kind_of(value: &Value) -> Option<Kind> {
-    match value.get("event")?.as_str()? {
-        "start" => Some(Kind::Start),
-        "open" => Some(Kind::Open),
-        "edit" => Some(Kind::Edit),
-        "close" => Some(Kind::Close),
-        "shutdown" => Some(Kind::Shutdown),
-        "exit" => Some(Kind::Exit),
-        "toServer" => Some(Kind::ToServer),
-        "toClient" => Some(Kind::ToClient),
-        _ => None,
-    }
-}
-
-fn event_in(alloc: Global, kind: Kind, value: Value) -> Result<Event, ParamsFault> {
-    match kind {
-        Kind::Start => Ok(Event::Start),
-        Kind::Open => {
+fn event_in(alloc: Global, value: Value) -> Result<Event, ParamsFault> {
+    match value.get("event").and_then(|kind| kind.as_str()) {
+        Some("start") => Ok(Event::Start),
+        Some("open") => {
             let params = params_open(alloc, Some(value))?;
             Ok(Event::Open {
                 uri: params.uri,
@@ -60,7 +32,7 @@ fn event_in(alloc: Global, kind: Kind, value: Value) -> Result<Event, ParamsFaul
                 text: params.text,
             })
         }
-        Kind::Edit => {
+        Some("edit") => {
             let params = params_change(alloc, Some(value))?;
             Ok(Event::Edit {
                 uri: params.uri,
@@ -68,13 +40,14 @@ fn event_in(alloc: Global, kind: Kind, value: Value) -> Result<Event, ParamsFaul
                 changes: params.changes,
             })
         }
-        Kind::Close => {
+        Some("close") => {
             let params = params_close(alloc, Some(value))?;
             Ok(Event::Close { uri: params.uri })
         }
-        Kind::Shutdown => Ok(Event::Shutdown),
-        Kind::Exit => Ok(Event::Exit),
-        Kind::ToServer => Ok(Event::ToServer),
-        Kind::ToClient => Ok(Event::ToClient),
+        Some("shutdown") => Ok(Event::Shutdown),
+        Some("exit") => Ok(Event::Exit),
+        Some("toServer") => Ok(Event::ToServer),
+        Some("toClient") => Ok(Event::ToClient),
+        _ => Err(ParamsFault::InvalidParams),
     }
 }

@@ -1,84 +1,86 @@
 //! The words for what happened in a session.
 
-ghost use Rattle.std.specs.Prelude.{◌≡◌, OnOk};
-ghost use Rattle.std.specs.Io.KnownBytes.{Appends};
-ghost use Rattle.lsp_simulate.specs.Words.{did_words, happened_words, heard_words, refused_words};
-ghost use Rattle.lsp_simulate.specs.Words.{phase_name, reason_name, refusal_words, reply_words};
+ghost use Rattle.std.specs.Prelude.{◌≡◌, ◌++◌, OnOk};
+ghost use Rattle.lsp_simulate.specs.Words.{did_words, happened_words, heard_words, phase_name};
+ghost use Rattle.lsp_simulate.specs.Words.{reason_name, refusal_words, refused_words, reply_words};
 
+use itoa::Buffer;
 use lsp_client::{ClientFault, Phase, Reason};
 use lsp_message::ErrorCode;
 use lsp_pair::{Did, Happened, Heard};
 use lsp_server::Refusal;
-use std::io::{self, Write};
+use std::alloc::AllocError;
 
-/// Writes the words for what happened.
-pub fn write_happened<W: Write>(output: &mut W, happened: Happened) -> io::Result<()>
-    ensures { OnOk result
-        (Appends (W.contents output.old) (W.contents output.new) (happened_words happened)) }
+/// Appends words, and then others.
+pub fn push_words(line: &mut Vec<u8>, words: &str, more: &str) -> Result<(), AllocError>
+    ensures { OnOk result (line.new.items ≡ line.old.items ++ (words.now ++ more.now)) }
+{
+    line.extend_from_slice(words.as_bytes())?;
+    line.extend_from_slice(more.as_bytes())
+}
+
+/// Appends the words for what happened.
+pub fn push_happened(line: &mut Vec<u8>, happened: Happened) -> Result<(), AllocError>
+    ensures { OnOk result (line.new.items ≡ line.old.items ++ happened_words happened) }
 {
     match happened {
-        Happened::Sent => write!(output, "sent"),
-        Happened::Refused(fault) => write_refused(output, fault),
-        Happened::Server(did) => write_did(output, did),
-        Happened::Client(heard) => write_heard(output, heard),
-        Happened::Nothing => write!(output, "nothing"),
+        Happened::Sent => line.extend_from_slice(b"sent"),
+        Happened::Refused(fault) => push_refused(line, fault),
+        Happened::Server(did) => push_did(line, did),
+        Happened::Client(heard) => push_heard(line, heard),
+        Happened::Nothing => line.extend_from_slice(b"nothing"),
     }
 }
 
-fn write_refused<W: Write>(output: &mut W, fault: ClientFault) -> io::Result<()>
-    ensures { OnOk result
-        (Appends (W.contents output.old) (W.contents output.new) (refused_words fault)) }
+fn push_refused(line: &mut Vec<u8>, fault: ClientFault) -> Result<(), AllocError>
+    ensures { OnOk result (line.new.items ≡ line.old.items ++ refused_words fault) }
 {
     match fault {
-        ClientFault::WrongPhase { phase } => write!(output, "refused C1 {}", phase_word(phase)),
-        ClientFault::Store(fault) => write!(output, "refused {}", fault.code()),
-        ClientFault::NoMemory => write!(output, "refused C3"),
+        ClientFault::WrongPhase { phase } => push_words(line, "refused C1 ", phase_word(phase)),
+        ClientFault::Store(fault) => push_words(line, "refused ", fault.code()),
+        ClientFault::NoMemory => line.extend_from_slice(b"refused C3"),
     }
 }
 
-fn write_did<W: Write>(output: &mut W, did: Did) -> io::Result<()>
-    ensures { OnOk result
-        (Appends (W.contents output.old) (W.contents output.new) (did_words did)) }
+fn push_did(line: &mut Vec<u8>, did: Did) -> Result<(), AllocError>
+    ensures { OnOk result (line.new.items ≡ line.old.items ++ did_words did) }
 {
     match did {
-        Did::Reply(error) => write_reply(output, error),
-        Did::Changed => write!(output, "server changed"),
-        Did::Dropped => write!(output, "server dropped"),
-        Did::Ignored => write!(output, "server ignored"),
-        Did::Refused(refusal) => write_refusal(output, refusal),
-        Did::Exit(status) => write!(output, "server exit {status}"),
+        Did::Reply(error) => push_reply(line, error),
+        Did::Changed => line.extend_from_slice(b"server changed"),
+        Did::Dropped => line.extend_from_slice(b"server dropped"),
+        Did::Ignored => line.extend_from_slice(b"server ignored"),
+        Did::Refused(refusal) => push_refusal(line, refusal),
+        Did::Exit(status) => push_words(line, "server exit ", Buffer::new().format(status)),
     }
 }
 
-fn write_reply<W: Write>(output: &mut W, error: Option<ErrorCode>) -> io::Result<()>
-    ensures { OnOk result
-        (Appends (W.contents output.old) (W.contents output.new) (reply_words error)) }
+fn push_reply(line: &mut Vec<u8>, error: Option<ErrorCode>) -> Result<(), AllocError>
+    ensures { OnOk result (line.new.items ≡ line.old.items ++ reply_words error) }
 {
     match error {
-        None => write!(output, "server reply"),
-        Some(code) => write!(output, "server error {}", code.number()),
+        None => line.extend_from_slice(b"server reply"),
+        Some(code) => push_words(line, "server error ", Buffer::new().format(code.number())),
     }
 }
 
-fn write_refusal<W: Write>(output: &mut W, refusal: Refusal) -> io::Result<()>
-    ensures { OnOk result
-        (Appends (W.contents output.old) (W.contents output.new) (refusal_words refusal)) }
+fn push_refusal(line: &mut Vec<u8>, refusal: Refusal) -> Result<(), AllocError>
+    ensures { OnOk result (line.new.items ≡ line.old.items ++ refusal_words refusal) }
 {
     match refusal {
-        Refusal::InvalidParams => write!(output, "server refused M4"),
-        Refusal::Store(fault) => write!(output, "server refused {}", fault.code()),
+        Refusal::InvalidParams => line.extend_from_slice(b"server refused M4"),
+        Refusal::Store(fault) => push_words(line, "server refused ", fault.code()),
     }
 }
 
-fn write_heard<W: Write>(output: &mut W, heard: Heard) -> io::Result<()>
-    ensures { OnOk result
-        (Appends (W.contents output.old) (W.contents output.new) (heard_words heard)) }
+fn push_heard(line: &mut Vec<u8>, heard: Heard) -> Result<(), AllocError>
+    ensures { OnOk result (line.new.items ≡ line.old.items ++ heard_words heard) }
 {
     match heard {
-        Heard::Send => write!(output, "client send"),
-        Heard::Noted => write!(output, "client noted"),
-        Heard::Ignored => write!(output, "client ignored"),
-        Heard::BadServer(reason) => write!(output, "client bad-server {}", reason_word(reason)),
+        Heard::Send => line.extend_from_slice(b"client send"),
+        Heard::Noted => line.extend_from_slice(b"client noted"),
+        Heard::Ignored => line.extend_from_slice(b"client ignored"),
+        Heard::BadServer(reason) => push_words(line, "client bad-server ", reason_word(reason)),
     }
 }
 

@@ -66,7 +66,8 @@ fn edited(
     passed: Passed<'_>,
 ) -> Result<Vec<u8>, ClientFault>
     ensures ok { let order = edits uri.now version (changes_in passed.entry) in
-        IfOk result (λ frame. IsSent (call_result client.old (orders order)) frame.items client.new) }
+        IfOk result (λ frame.
+        IsSent (call_result client.old (orders order)) frame.items client.new) }
     ensures unchanged { OnErr result (client.new ≡ client.old) }
     ensures error { let order = edits uri.now version (changes_in passed.entry) in
         IfErr result (IsFaultOf (call_result client.old (orders order))) }

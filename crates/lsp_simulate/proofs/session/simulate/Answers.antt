@@ -1,6 +1,6 @@
-use Rattle.lsp_simulate.proofs.Prelude.{ℕ, List, Option, false, is_some, ap, subst, Vec, Global, err_from_is_err_and, Appends, AppendsFront, Spends, allowed_turns, rose_after, spends_more, Passed, lines_in, rest, unused}
+use Rattle.lsp_simulate.proofs.Prelude.{ℕ, List, Option, false, is_some, ap, ◌∙◌, subst, Vec, Global, err_from_is_err_and, Appends, AppendsFront, Spends, allowed_turns, rose_after, spends_more, Passed, lines_in, rest, unused}
 use Rattle.lsp_simulate.proofs.InputLemmas.{none_spent, nothing_taken}
-use Rattle.lsp_simulate.proofs.SessionLemmas.{begun, ended, not_ended, stepped, stopped, unread, unwritten}
+use Rattle.lsp_simulate.proofs.SessionLemmas.{begun, end_cut, ended, out_of_memory, stepped, stopped, unread, unwritten}
 use Rattle.lsp_simulate.proofs.session.simulate.Goals as goal
 
 pub events-init : goal.events-init
@@ -58,14 +58,24 @@ events-preserved g c =
       reads = spends_more _ _ _ _ _ _ c.events.invariant.reads c.next.ensures.spent;
     }
 
-pub returns-in_err-write_end-in-Ok-None : goal.returns-in_err-write_end-in-Ok-None
-returns-in_err-write_end-in-Ok-None g c =
-    let p = err_from_is_err_and c.from_residual-in_err-write_end-in-Ok-None.result
-    c.from_residual-in_err-write_end-in-Ok-None.ensures.1 in
+pub returns-in_err-text-in-Ok-None : goal.returns-in_err-text-in-Ok-None
+returns-in_err-text-in-Ok-None g c =
+    let p = err_from_is_err_and c.from_residual-in_err-text-in-Ok-None.result
+    c.from_residual-in_err-text-in-Ok-None.ensures.1 in
+    rw (p.1, p.2)
+    (out_of_memory _ (g.R.Source.seen c.args.input.now) (g.R.Source.seen c.next.new.input) _ _ _ _ _ _
+    c.events.invariant.way)
+
+pub returns-in_err-write_given-in-Ok-None : goal.returns-in_err-write_given-in-Ok-None
+returns-in_err-write_given-in-Ok-None g c =
+    let p = err_from_is_err_and c.from_residual-in_err-write_given-in-Ok-None.result
+    c.from_residual-in_err-write_given-in-Ok-None.ensures.1 in
     rw p.1
-    (not_ended _ (g.R.Source.seen c.args.input.now) (g.R.Source.seen c.next.new.input) _ _ _ _ _ _
-    c.events.invariant.way (g.W.Sink.seen c.write_end.new.output) _ _ _ p.2 c.in_err-write_end-in-Ok-None.ensures.wrote
-    c.in_err-write_end-in-Ok-None.ensures.calls)
+    (end_cut _ (g.R.Source.seen c.args.input.now) (g.R.Source.seen c.next.new.input) _ _ _ _ _ _
+    c.events.invariant.way (g.W.Sink.seen c.write_given-in-Ok-None.new.writer) _ _ _ _ p.2
+    (c.deref-in-Ok-None.ensures.value ∙ c.in_ok-text-in-Ok-None.ensures)
+    c.in_err-write_given-in-Ok-None.ensures.error c.in_err-write_given-in-Ok-None.ensures.front
+    c.in_err-write_given-in-Ok-None.ensures.calls)
 
 pub returns-in-Ok-None : goal.returns-in-Ok-None
 returns-in-Ok-None g c =
@@ -73,9 +83,12 @@ returns-in-Ok-None g c =
     let after = rest c.next.new.self (g.R.Source.seen c.next.new.input) in
     let none = subst (λ (line : Option (Vec ℕ Global)). Passed there (lines_in line) false after)
     c.in-Ok-None.field-0-is c.in-Ok-None.ensures.taken in
+    let mid = g.W.Sink.seen c.events.output in
+    let new = g.W.Sink.seen c.write_given-in-Ok-None.new.writer in
     let end = c.in-Ok-None.ensures.end (ap (λ (line : Option (Vec ℕ Global)). is_some line) c.in-Ok-None.field-0-is) in
     ended _ (g.R.Source.seen c.args.input.now) (g.R.Source.seen c.next.new.input) _ _ _ _ _ _ c.events.invariant.way
-    after (g.W.Sink.seen c.write_end.new.output) end.0 none end.1 c.in_ok-write_end-in-Ok-None.ensures.wrote
+    after new end.0 none end.1 (subst (λ (z : List ℕ). Appends mid.written new.written z)
+    (c.deref-in-Ok-None.ensures.value ∙ c.in_ok-text-in-Ok-None.ensures) c.in_ok-write_given-in-Ok-None.ensures.wrote)
 
 pub returns-in-Err : goal.returns-in-Err
 returns-in-Err g c =
