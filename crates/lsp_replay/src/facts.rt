@@ -6,7 +6,7 @@
 ghost use Rattle.std.specs.Prelude.{◌≡◌, ◌≢◌, ◌⊎◌, IfErr, IfOk, OnOk, option_map, true};
 ghost use Rattle.lsp_log.specs.Splitting.{record_of};
 ghost use Rattle.lsp_message.specs.Seen.{change_view};
-ghost use Rattle.lsp_replay.specs.Lines.{has_notes, is_new_name, is_not_open, is_open_already};
+ghost use Rattle.lsp_replay.specs.Lines.{is_new_name, is_not_open, is_open_already};
 ghost use Rattle.lsp_replay.specs.Lines.{is_renamed, is_stale_refusal, is_strict_refusal, known_after};
 ghost use Rattle.lsp_replay.specs.Lines.{last_in, nothing_known};
 ghost use Rattle.lsp_replay.specs.Mentions.{is_mention, last_for};
@@ -258,13 +258,6 @@ fn is_mention(is_change: bool, verdict: &Verdict) -> bool
         Verdict::Answered(Answer::Refused(_)) => true,
         _ => false,
     }
-}
-
-/// Returns whether there is a note.
-pub fn has_notes(notes: &[Note]) -> bool
-    ensures { result ≡ has_notes notes.now }
-{
-    !notes.is_empty()
 }
 
 /// Returns whether a record is refused with S1, or with S5 and changes.

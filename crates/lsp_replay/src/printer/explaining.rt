@@ -14,7 +14,7 @@ ghost use Rattle.lsp_replay.specs.inside.Verdicts.{verdict_view};
 use crate::commands::Listing;
 use crate::counts::Counts;
 use crate::counts::tallies::{Tally, has_repeated, has_tallies};
-use crate::facts::{Facts, Known, has_notes};
+use crate::facts::{Facts, Known};
 use crate::handler::{Finished, Given, Output, Printed};
 use crate::members::{push_if, push_json_string, push_number, push_words};
 use crate::notes::Note;
@@ -136,7 +136,7 @@ fn listed_notes(listing: Listing, facts: &Facts) -> &[Note]
 fn is_listed(listing: Listing, verdict: &Verdict, notes: &[Note]) -> bool
     ensures { result ≡ is_listed listing (verdict_view verdict.now) notes.now }
 {
-    !listing.brief || refuses(verdict) || has_notes(notes)
+    !listing.brief || refuses(verdict) || !notes.is_empty()
 }
 
 /// Writes the line of a record, with these notes.

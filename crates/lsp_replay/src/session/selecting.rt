@@ -4,7 +4,7 @@ ghost use Rattle.std.specs.Prelude.{◌≡◌, ◌||◌, ℕ, false, IfOk, List,
 ghost use Rattle.lsp_message.specs.Message.{IdData, reading};
 ghost use Rattle.lsp_message.specs.Seen.{id_view};
 ghost use Rattle.lsp_server.specs.Seen.{incoming_view};
-ghost use Rattle.lsp_replay.specs.Documents.{is_answer_to, is_kept_method, message_stays, nothing_selected, waiting_for};
+ghost use Rattle.lsp_replay.specs.Documents.{is_answer_to, message_stays, nothing_selected, waiting_for};
 ghost use Rattle.lsp_replay.specs.inside.Bodies.{body_view};
 ghost use Rattle.lsp_replay.specs.inside.Reads.{IsReadOf, IsSelection, asked_id, is_waited, stays_read, waiting_read};
 
@@ -137,18 +137,14 @@ fn message_stays(phase: Phase, incoming: &Incoming) -> bool
         Incoming::Response { .. } => phase == Phase::Ended,
         Incoming::OtherRequest { .. } => phase != Phase::Running,
         Incoming::OtherNotification { method } => {
-            phase == Phase::Ended || is_kept_method(method.as_str())
+            let method = method.as_str();
+            phase == Phase::Ended
+                || method == "initialized"
+                || method == "shutdown"
+                || method == "textDocument/didSave"
         }
         _ => true,
     }
-}
-
-/// Returns whether a notification with this method stays, beside `exit` and those of open
-/// documents.
-fn is_kept_method(method: &str) -> bool
-    ensures { result ≡ is_kept_method method.now }
-{
-    method == "initialized" || method == "shutdown" || method == "textDocument/didSave"
 }
 
 /// Returns the id of a request.
