@@ -1,5 +1,5 @@
 -- The facts of a record, what is known after it, and the output of `trace` and `check --explain` from the record on.
-use Rattle.lsp_replay.proofs.Prelude.{Bool, List, None, Option, Some, [], ap, ap₂, false, refl, string_bytes, sym, ℕ, ◌∙◌, ◌∷◌, ◌≡◌, ◌≢◌, option_map, Record, Head, Sender, Client, Server, Version, lengths_of, notification_params, reading, ChangeData, change_view, change_in, output_in, writes, learned, rare_notes, saved_in, Known, LineView, is_renamed, is_strict_refusal, known_after, last_in, lines, uri_of, is_mention, notes_if, notes_of, notes_on, ranged_after, written_first, Session, bad, encoding_for, is_change, judge, judge_from, judge_server, Facts, Note, Taken, BodyData, body_read, AreFacts, IsAbout, IsLearned, is_change_read, known_by, saved_read, uri_read, notes_on_read, judge_at, IsTaken, ranged_read, ranged_with, verdict_view, IncomingData, incoming_of, ServerData, Encoding}
+use Rattle.lsp_replay.proofs.Prelude.{Bool, List, None, Option, Some, [], ap, ap₂, arith, false, refl, string_bytes, sym, ℕ, ◌∙◌, ◌∷◌, ◌≡◌, ◌≢◌, common_steps, option_map, Record, Head, Sender, Client, Server, Version, lengths_of, notification_params, reading, ChangeData, change_view, change_in, output_in, writes, learned, saved_in, Known, LineView, is_strict_refusal, known_after, lines, uri_of, is_mention, notes_if, notes_of, notes_on, ranged_after, written_first, Session, bad, encoding_for, is_change, judge, judge_from, judge_server, Facts, Note, Taken, BodyData, body_read, AreFacts, IsAbout, IsLearned, is_change_read, known_by, saved_read, uri_read, notes_on_read, judge_at, IsTaken, ranged_read, ranged_with, verdict_view, IncomingData, incoming_of, ServerData, Encoding}
 use Rattle.lsp_replay.specs.declared.facts.About.{About}
 use Rattle.lsp_replay.proofs.Records.OutputLemmas.{output_after, unless_not}
 use Rattle.lsp_replay.proofs.Reports.ReasonLemmas.{strict_at}
@@ -86,18 +86,7 @@ module _ (known : Known) (s : Session) (head : Head) (body : List ℕ) (read : B
       counted = number_is ∙ ap (λ (u : Session). u.records) is_taken.session
 
       pub facts_are : (facts : Facts) → IsLearned known number about taken facts → AreFacts known s head body facts
-      facts_are facts learned = record {
-        number = learned.number ∙ counted;
-        verdict = ap verdict_view learned.verdict ∙ is_taken.judged;
-        uri = ap (option_map string_bytes) learned.uri ∙ uri_is;
-        saved = ap (option_map string_bytes) learned.saved ∙ is_about.saved
-            ∙ ap (λ (d : BodyData). saved_read d (reading body)) is_read ∙ saved_at s body head.version head.side;
-        change = ap (option_map change_view) learned.change ∙ is_taken.change;
-        renamed = learned.renamed ∙ ap₂ (is_renamed known) uri_is is_taken.judged;
-        last = learned.last ∙ ap₂ (last_in known) uri_is is_taken.judged;
-        notes = learned.notes ∙ notes_are;
-        rare = learned.rare ∙ ap (rare_notes known.counts) notes_are;
-      }
+      facts_are facts learned = grind (arith, common_steps, counted, uri_is, notes_are, saved_at)
 
       pub known_is : (next : Known) → next ≡ known_by known number about taken
           → next ≡ known_after known s head body (judge_at s head body)
