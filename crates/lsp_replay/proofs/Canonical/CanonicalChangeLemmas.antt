@@ -1,7 +1,7 @@
 -- The canonical message of what some batch means on an open document: it is read as a change, which is accepted there,
 -- leaves what the batch
 -- leaves, and is its own canonical message.
-use Rattle.lsp_replay.proofs.Prelude.{FitsSigned, IsUtf8, List, None, Some, ap, arith, false, length, map, nat_lt, refl, subst, w32, ℕ, ℤ, ◌∙◌, ◌≡◌, ◌≤◌, scalars-chars, Ok, Result, chars, canonical_law, units_some, ContentChange, Fault, meaning, canonical, then_items, bytes_left, Item, text_of, IsCanonical, AreInRange, body_of-unique, is_read_back, reading-body_of, reading, ChangeData, DocumentItem, canonical_change_body, refusal_of, server_after, joined_by, edits_back, did_change, incoming_of, ServerData, content_change_from_data, session_encoding, is_read, canonical_texts, squash_accepted, AreTexts, IsReadAgain, canonical_batch, canonical_body, written_content_change, SquashData, items_meant, entry_at, entry_refusal, is_stale, meant_text, IsWithin, units_in, Encoding}
+use Rattle.lsp_replay.proofs.Prelude.{FitsSigned, IsUtf8, List, None, Some, ap, arith, false, length, map, nat_lt, refl, subst, w32, ℕ, ℤ, ◌∙◌, ◌≡◌, ◌≤◌, common_steps, scalars-chars, Ok, chars, canonical_law, units_some, ContentChange, meaning, canonical, then_items, bytes_left, Item, text_of, IsCanonical, AreInRange, body_of-unique, is_read_back, reading-body_of, reading, ChangeData, DocumentItem, canonical_change_body, refusal_of, server_after, joined_by, edits_back, did_change, incoming_of, ServerData, content_change_from_data, session_encoding, is_read, canonical_texts, squash_accepted, AreTexts, IsReadAgain, canonical_batch, canonical_body, written_content_change, SquashData, entry_at, entry_refusal, is_stale, meant_text, IsWithin, units_in, Encoding}
 use Rattle.lsp_store.specs.Message.{change_body}
 use Rattle.lsp_replay.proofs.Records.PutLemmas.{put, change_puts}
 
@@ -41,13 +41,7 @@ pub joins_as : (p : ChangeData) (squash : SquashData) (encoding : Encoding) (tex
     → squash.encoding ≡ encoding → text_of (chars squash.text) squash.items ≡ text
     → meaning (units_in encoding) text (map content_change_from_data p.changes) ≡ Ok items
     → joined_by p squash ≡ record squash { items = then_items squash.items items; version = p.version }
-joins_as p squash encoding text items same_encoding same_text means =
-    ap (λ (m : Result (List Item) (ℕ × Fault)). record squash {
-      items = then_items squash.items (items_meant m);
-      version = p.version;
-    }) (ap (λ (e : Encoding). meaning (units_in e) (text_of (chars squash.text) squash.items)
-    (map content_change_from_data p.changes)) same_encoding
-    ∙ ap (λ (x : List ℕ). meaning (units_in encoding) x (map content_change_from_data p.changes)) same_text ∙ means)
+joins_as p squash encoding text items same_encoding same_text means = grind (arith, common_steps)
 
 pub record IsCanonicalChange (t : ServerData) (uri : List ℕ) (version : ℤ) (entry : DocumentItem)
     (items : List Item) : Type 0 where

@@ -1,5 +1,5 @@
 -- What the canonical message of a record is told by.
-use Rattle.lsp_replay.proofs.Prelude.{Bool, List, None, Option, Some, [], ap, append_assoc, drop, false, inl, inr, le-ltb, length, lt-ltb, ltb-true, map, nat_lt, refl, sym, true, ℕ, ◌++◌, ◌<◌, ◌∙◌, ◌≡◌, ◌≢◌, ◌≤◌, ◌⊎◌, ltb-false, drop_at, Err, if◌then◌else◌, option_map, frame, LimitsData, Record, Version, ChangeData, DocumentItem, canonical_if, ends, writes, written, Judged, Session, answered, bad, judge_client, judge_server, judged, recorded, Body, TooLong, IsAppended, AnswerData, Sent, as_sent, changed, did_change, ServerData, change_command, content_change_from_data, result_step, session_encoding, step_in, Phase, Running, IsRefusal, refusal_fault, body_refusal, else_refused, Refusal, body_too_long, change_refusal, command_refusal, table_after, unless_refused, StoreFault, units_in, Encoding}
+use Rattle.lsp_replay.proofs.Prelude.{Bool, List, None, Option, Some, [], ap, append_assoc, arith, drop, false, inl, inr, le-ltb, length, lt-ltb, ltb-true, map, refl, sym, ℕ, ◌++◌, ◌<◌, ◌∙◌, ◌≡◌, ◌≢◌, ◌≤◌, ◌⊎◌, cases_Bool, ltb-false, common_steps, drop_at, Err, if◌then◌else◌, frame, LimitsData, Record, Version, ChangeData, DocumentItem, canonical_if, ends, writes, written, Judged, Session, answered, bad, judge_client, judge_server, judged, recorded, Body, TooLong, IsAppended, AnswerData, Sent, as_sent, changed, did_change, ServerData, change_command, content_change_from_data, result_step, session_encoding, step_in, Phase, Running, IsRefusal, body_refusal, else_refused, Refusal, change_refusal, command_refusal, table_after, unless_refused, StoreFault, units_in, Encoding}
 use Rattle.lsp_store.specs.declared.fault.StoreFault.TheVariants.{BodyTooLong, NoMemory}
 use Rattle.lsp_stream.specs.declared.fault.EngineFault.TheVariants as fault
 
@@ -71,20 +71,9 @@ appended_too_long max_body r front (Some body) old new error = rw (lt-ltb max_bo
 
 -- ---- what the store answers, where the change is not refused
 
-over_none : (over : Bool) (len : ℕ) → (if over then Some (body_too_long len) else None) ≡ None → over ≡ false
-over_none true len e = cc
-over_none false len e = refl
-
-over_some : (over : Bool) (len : ℕ) (fault : StoreFault)
-    → option_map refusal_fault (if over then Some (body_too_long len) else None) ≡ Some fault
-    → (over ≡ true) × (fault ≡ BodyTooLong len)
-over_some true len fault e = (refl, cc)
-over_some false len fault e = cc
-
 pub within : (limits : LimitsData) (refusal : Option Refusal) (body : List ℕ) → refusal ≡ None
     → else_refused refusal (body_refusal limits body) ≡ None → length body ≤ limits.max_body
-within limits None body none e =
-    ltb-false limits.max_body (length body) (over_none (nat_lt limits.max_body (length body)) (length body) e)
+within limits None body none e = grind (arith, common_steps, cases_Bool, ltb-false)
 within limits (Some refusal) body none e = cc
 
 pub over : (limits : LimitsData) (refusal : Option Refusal) (body : List ℕ) (fault : StoreFault) → refusal ≡ None
@@ -93,6 +82,4 @@ pub over : (limits : LimitsData) (refusal : Option Refusal) (body : List ℕ) (f
     × (fault ≡ BodyTooLong (length body))
 over limits (Some refusal) body fault none other error = cc
 over limits None body fault none other (inl e) = absurd (other e)
-over limits None body fault none other (inr e) =
-    let both = over_some (nat_lt limits.max_body (length body)) (length body) fault e in
-    (ltb-true limits.max_body (length body) both.0, both.1)
+over limits None body fault none other (inr e) = grind (arith, common_steps, cases_Bool, ltb-true)

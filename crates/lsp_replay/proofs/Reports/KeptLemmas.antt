@@ -103,15 +103,7 @@ kept_text (Some entry) old = refl
 text_over : (uri : List ℕ) (table next : List DocumentItem) (closed old new : Option (List ℕ))
     → new ≡ kept_after closed old → (closed ≡ text_at table uri) ⊎ ((closed ≡ None) × Stays table next uri)
     → last_text new (entry_at next uri) ≡ last_text (last_text old (entry_at table uri)) (entry_at next uri)
-text_over uri table next closed old new is (inl closes) =
-    ap (λ (k : Option (List ℕ)). last_text k (entry_at next uri)) (is ∙ ap (λ (c : Option (List ℕ)). kept_after c old)
-    closes ∙ kept_text (entry_at table uri) old)
-text_over uri table next closed old new is (inr stays) = by (entry_at next uri) refl
-  where
-    by : (found : Option DocumentItem) → entry_at next uri ≡ found → last_text new found
-        ≡ last_text (last_text old (entry_at table uri)) found
-    by (Some entry) e = refl
-    by None e = is ∙ ap (λ (c : Option (List ℕ)). kept_after c old) stays.0 ∙ sym (ap (last_text old) (stays.1 e))
+text_over uri table next closed old new is way = grind (arith, common_steps)
 
 over_read : (s : Session) (read : BodyData) (uri : Option (List ℕ)) (old new : Option (List ℕ))
     → new ≡ kept_after (closed_by s.server.table uri read) old

@@ -1,5 +1,5 @@
 -- `trace` beside `check` and `replay`.
-use Rattle.lsp_replay.proofs.Prelude.{lines, Bool, List, None, Option, Some, [], ap, arith, codes, false, refl, sym, true, ℕ, ◌&&◌, ◌++◌, ◌∙◌, ◌∷◌, ◌≡◌, common_steps, bytes_eq-Decides, Err, decimal, flat_map, option_map, canonical, Record, reading, DocumentItem, ErrorCode, ParseError, canonical_of_record, check_line, checking, code_word, followed_by, log_config, output_in, replaying, report_from, unless_bad, verdict_word, writes, Known, is_renamed, known_after, last_in, nothing_known, uri_of, notes_of, RunOutput, written_first, Judged, Session, Verdict, answered, bad, has_changed, judge, opened, body_json, document_after, id_json, id_of, is_json, json_string, member, method_of, notes_json, reason_json, side_word, text_json, trace_line, tracing, version_json, within, Details, run_output_in, after, Line, TraceLaw, checked_line, is_document, traced_line, written_text, changed, reply, IncomingData, incoming_of, entry_at, BadLog, change_in}
+use Rattle.lsp_replay.proofs.Prelude.{lines, Bool, List, None, Option, Some, [], ap, arith, codes, false, refl, true, ℕ, ◌&&◌, ◌++◌, ◌∙◌, ◌∷◌, ◌≡◌, common_steps, bytes_eq-Decides, Err, decimal, flat_map, option_map, canonical, Record, reading, DocumentItem, ErrorCode, ParseError, canonical_of_record, check_line, checking, code_word, followed_by, log_config, output_in, replaying, report_from, unless_bad, verdict_word, writes, Known, is_renamed, known_after, last_in, nothing_known, uri_of, notes_of, RunOutput, written_first, Judged, Session, Verdict, answered, bad, has_changed, judge, opened, body_json, document_after, id_json, id_of, is_json, json_string, member, method_of, notes_json, reason_json, side_word, text_json, trace_line, tracing, version_json, within, Details, run_output_in, after, Line, TraceLaw, checked_line, is_document, traced_line, written_text, changed, reply, IncomingData, incoming_of, entry_at, BadLog, change_in}
 use Rattle.std.specs.Str.{bytes_eq}
 use Rattle.lsp_replay.proofs.Reports.MemberLemmas.{line_parts}
 use Rattle.lsp_replay.proofs.Records.TableLemmas.{record_keeps}
@@ -97,9 +97,7 @@ module _ (details : Details) (known : Known) (s : Session) (r : Record) (uri : L
 
   by_case : (old : Option (List ℕ)) → old ≡ text_in s.server.table uri → (b : Bool) → is_changed_here ≡ b
       → (if b then l.text else old) ≡ text_in table_after uri
-  by_case old is true here = text_there details.texts (has_changed (judge s r).verdict) table_after uri l.uri asked here
-  by_case old is false here =
-      is ∙ ap (option_map (λ (entry : DocumentItem). entry.text)) (sym (record_keeps uri s r here))
+  by_case old is b here = grind (arith, common_steps, text_there, record_keeps)
 
   text_after : (old : Option (List ℕ)) → old ≡ text_in s.server.table uri
       → (if bytes_eq l.word (codes "changed") && is_document uri l.uri then l.text else old) ≡ text_in table_after uri

@@ -1,5 +1,5 @@
 -- A line of `trace`, as it is written.
-use Rattle.lsp_replay.proofs.Prelude.{◌≡◌, ℕ, Bool, List, [], ◌++◌, length, le-ltb, lt-ltb, Option, Some, None, refl, sym, ap, ap₂, ◌∙◌, subst, reading, IncomingData, incoming_of, one_more, Version, Sender, Client, Server, Record, Details, Facts, Appended, Body, TooLong, Canonical, canonical_of_record, FactsData, Known, facts_of, Session, judge, judge_from, encoding_for, document_after, facts_members, first_members, is_json, trace_line, within, AreFacts, canonical_json, facts_view, body_read, received_of, IsAppended}
+use Rattle.lsp_replay.proofs.Prelude.{Bool, List, Option, [], ap, arith, le-ltb, lt-ltb, refl, subst, sym, ℕ, ◌++◌, ◌∙◌, ◌≡◌, common_steps, Record, Sender, Client, Server, Version, reading, canonical_of_record, Known, Session, encoding_for, judge, judge_from, first_members, is_json, trace_line, within, Details, Facts, Appended, Canonical, AreFacts, canonical_json, IsAppended, IncomingData, incoming_of, one_more, ap₂, FactsData, facts_of, document_after, facts_members, facts_view, body_read, received_of}
 use Rattle.lsp_replay.proofs.Records.JudgeLemmas.{of_incoming, of_server}
 use Rattle.lsp_replay.proofs.Reports.ReasonLemmas.{by_received}
 
@@ -20,11 +20,7 @@ one_more_record s r = ap one_more (of_body s r.head.version r.head.side r.body)
 
 pub canonical_is : (max_body : ℕ) (body : Option (List ℕ)) (a : Option Appended) (new : List ℕ)
     → IsAppended max_body body a [] new → canonical_json a new ≡ within max_body body
-canonical_is max_body None None new is = refl
-canonical_is max_body None (Some a) new is = absurd (let wrong : Some a ≡ None = is in cc)
-canonical_is max_body (Some body) None new is = absurd is
-canonical_is max_body (Some body) (Some Body) new is = rw (le-ltb max_body (length body) is.1, is.0) refl
-canonical_is max_body (Some body) (Some TooLong) new is = rw (lt-ltb max_body (length body) is) refl
+canonical_is max_body body a new is = grind (arith, common_steps, le-ltb, lt-ltb)
 
 -- A line by its two halves, as they are written one after the other.
 module _ (details : Details) (known : Known) (s : Session) (r : Record) (t : Session)

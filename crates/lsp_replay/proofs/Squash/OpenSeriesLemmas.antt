@@ -193,7 +193,16 @@ module _ (t : ServerData) (squash : SquashData) (now : ServerData) (from : IsOpe
   pub same_text : (uri : List ℕ) (entry : DocumentItem) → uri ≡ squash.uri → entry_at now.table uri ≡ Some entry
       → text_of (chars squash.text) squash.items ≡ chars entry.text
   same_text uri entry same found =
-      grind (arith, common_steps, put_at, left_chars, from.at.found, from.at.received.utf8, from.at.texts, from.at.means)
+      grind (
+        arith,
+        common_steps,
+        put_at,
+        left_chars,
+        from.at.found,
+        from.at.received.utf8,
+        from.at.texts,
+        from.at.means,
+      )
 
 -- ---- all batches of a run as one message
 

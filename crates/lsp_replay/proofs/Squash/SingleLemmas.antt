@@ -80,9 +80,9 @@ module _ (limits : LimitsData) (ranges : AreInRange limits) (at : ℕ) (version 
     done = done;
     like = alike_both (session_after s p) (judge s r).session (judge (numbered n m s) q).session
         (is_done s r p a).leaves (
-      done.leaves.0,
-      done.leaves.1,
-      done.leaves.2
-          ∙ ap (λ server. numbered done.leaves.0 done.leaves.1 (record s { server = server })) leaves,
-    );
+          done.leaves.0,
+          done.leaves.1,
+          done.leaves.2
+              ∙ ap (λ server. numbered done.leaves.0 done.leaves.1 (record s { server = server })) leaves,
+        );
   }

@@ -69,8 +69,9 @@ module _ (limits : LimitsData) (ranges : AreInRange limits) (at : ℕ) (version 
 
     gives : squash_step t before q (judge t q) ≡ record { out = end_bytes before; end = None; series = Some begun }
     gives =
-        grind (arith, common_steps, (begun_step t before q single.again single.accepted single.done single.within its_entry
-        found_out (subst (IsApart before) (sym single.same_uri) apart)), single.own, same_squash)
+        let step = begun_step t before q single.again single.accepted single.done single.within its_entry found_out
+        (subst (IsApart before) (sym single.same_uri) apart) in
+        grind (arith, common_steps, step, single.own, same_squash)
 
     pub begun_series : IsSeriesStep limits.max_body at version due s series r (end_bytes series) t before
     begun_series = record {
@@ -139,8 +140,9 @@ module _ (limits : LimitsData) (ranges : AreInRange limits) (at : ℕ) (version 
     gives_last : squash_step last (Some series) more_q (judge last more_q)
         ≡ record { out = []; end = None; series = Some next_series }
     gives_last =
-        grind (arith, common_steps, (longer_step last (Some series) more_q another.again another.accepted another.done
-        another.within series refl (ap (λ u. bytes_eq u series.squash.uri) another.same_uri ∙ same)), another.own, joins_same)
+        let step = longer_step last (Some series) more_q another.again another.accepted another.done another.within
+        series refl (ap (λ u. bytes_eq u series.squash.uri) another.same_uri ∙ same) in
+        grind (arith, common_steps, step, another.own, joins_same)
 
     -- the records up to now, and this one
     all_singles : IsRun limits.max_body at version due t before (open_series.us ++ more_q ∷ []) next_series.singles

@@ -1,5 +1,5 @@
 -- The records that stay, as a log of their own.
-use Rattle.lsp_replay.proofs.Prelude.{Bool, List, None, Option, [], ap, ap₂, arith, false, length, refl, subst, sym, true, ℕ, ◌+◌, ◌||◌, ◌∙◌, ◌∷◌, ◌≡◌, ◌≢◌, cases_Bool, cond_both, common_steps, Result, place_after, due_after, AreRecords, Record, record_bytes, Version, reading, ChangeData, RecordOutput, View, canonical_if, change_in, followed_by, front_of, normalising, output_in, replaying, unless_bad, written, Kept, Selection, after_kept, after_left_out, is_due, kept_first, kept_in, record_stays, with_line, Session, Verdict, bad, judge, Outcome, run_output_in, OpenSeries, Step, squash_view, step_if, incoming_of, ServerData, EngineFault}
+use Rattle.lsp_replay.proofs.Prelude.{Bool, List, None, Option, Some, [], ap, ap₂, arith, false, length, refl, subst, sym, true, ℕ, ◌+◌, ◌||◌, ◌∙◌, ◌∷◌, ◌≡◌, ◌≢◌, cases_Bool, cond_both, common_steps, Err, Result, place_after, due_after, AreRecords, Record, record_bytes, Version, reading, ChangeData, RecordOutput, View, canonical_if, change_in, followed_by, front_of, normalising, output_in, replaying, unless_bad, written, Kept, Selection, after_kept, after_left_out, is_due, kept_first, kept_in, record_stays, with_line, Session, Verdict, bad, judge, Outcome, run_output_in, OpenSeries, Step, squash_view, step_if, incoming_of, ServerData, EngineFault, BadLog}
 use Rattle.lsp_replay.proofs.CourseLemmas.{IsReportedAs, none_due, passed, report_on, reported_by, reported_end, went_on}
 use Rattle.lsp_replay.proofs.Stay.LeftOutLemmas.{IsHarmless, harmless, stays_alike}
 use Rattle.lsp_replay.proofs.Records.NumberedLemmas.{IsAlike, alike_both, judged_alike}
@@ -168,9 +168,16 @@ module _ {State : Type 0} (view : View State) (same : IsPlaceless view) where
       (output_in view n (judge s r).session (located_all later version rs))) here.0 here.1
       ∙ ap (followed_by given.out given.end) (located_output next (judge s r).session rs later version on.1)
 
+located_written : (max_body at : ℕ) (r : Record) (front : List ℕ) (c : Option (List ℕ))
+    → (written max_body r front c).end ≡ None → written max_body (located at r) front c ≡ written max_body r front c
+located_written max_body at r front None e = refl
+located_written max_body at r front (Some body) e = grind (arith, common_steps, cases_Bool)
+
 located_single : (server : ServerData) (at : ℕ) (r : Record) (v : Verdict) → (single server r v).end ≡ None
     → single server (located at r) v ≡ single server r v
-located_single server at r v e = grind (arith, common_steps, cases_Bool)
+located_single server at r bad e = absurd (let wrong : Some (Err (BadLog r.head.place)) ≡ None = e in cc)
+located_single server at r v e = located_written server.config.limits.max_body at r (front_of r.head)
+    (canonical_if server (change_in (incoming_of (reading r.body))) v) e
 
 pub each_placeless : IsPlaceless normalising
 each_placeless _ s r at e = (located_single s.server at r (judge s r).verdict e, refl)
