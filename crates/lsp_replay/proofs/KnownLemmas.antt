@@ -17,7 +17,8 @@ module _ (s : Session) (body : List ℕ) where
   ranged_at ranged version Server = refl
 
   notes_at : (ranged : Bool) (version : Version) (side : Sender)
-      → notes_if (on_client [] (notes_on s.server ranged (lengths_of (reading body)) (notification_params (reading body)))
+      → notes_if (on_client [] (notes_on s.server ranged (lengths_of (reading body)) (notification_params (reading
+      body)))
       (body_read version side body))
       (judge_from s version side body).verdict ≡ notes_of s ranged body (judge_from s version side body).verdict
   notes_at ranged version Client = refl

@@ -76,7 +76,8 @@ module _ (setting : Setting) (sound : IsFitting setting) (w : World) where
       let i = next_is w.back w.back_delivered m [] (ap (λ (r : Row). r.here) at.is ∙ first) in
       let more = map lifecycle (messages_in does) in
       let sent_more = drop-append-le w.out_delivered w.out more at.arrived in
-      let now : row_of (turn_of_delivery w (heard phase agreed does)).world ≡ row_after (row_of w) phase agreed does [] =
+      let now : row_of (turn_of_delivery w (heard phase agreed does)).world
+      ≡ row_after (row_of w) phase agreed does [] =
       λ j. record (row_after (row_of w) phase agreed does (i.after j)) { there = sent_more j } in
       record {
         delivery_is = heard phase agreed does;

@@ -28,5 +28,6 @@ module _ (listing : Listing) (known : Known) (s : Session) (r : Record) where
       }) saved rare) are.saved are.rare
       ∙ by_received (λ change verdict. line_by limits_after (record its { change = change; verdict = verdict })
       (saved_in r.head.side (incoming_of (reading r.body)) (notification_params (reading r.body)))
-      (rare_notes known.counts (notes_of s known.ranged r.body (judge s r).verdict))) (λ c. refl) (λ c. refl) (λ c. refl)
+      (rare_notes known.counts (notes_of s known.ranged r.body (judge s r).verdict))) (λ c. refl) (λ c. refl) (λ c.
+      refl)
       s r.head r.body

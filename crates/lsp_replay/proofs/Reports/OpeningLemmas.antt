@@ -9,7 +9,8 @@ on_side none says nothing version Client body = refl
 on_side none says nothing version Server body = sym (nothing (incoming_of (reading body)))
 
 pub opened_at : (s : Session) (r : Record) (verdict : Verdict) → verdict ≡ (judge s r).verdict
-    → (uri opened : Option (List ℕ)) → uri ≡ on_client None (uri_opened Client) (body_read r.head.version r.head.side r.body)
+    → (uri opened : Option (List ℕ)) → uri ≡ on_client None (uri_opened Client) (body_read r.head.version r.head.side
+    r.body)
     → opened ≡ opened_if verdict uri → opened ≡ opened_in r (judge s r)
 opened_at s r verdict judged uri opened is opened_is =
     opened_is ∙ ap (λ (v : Verdict). opened_if v uri) judged

@@ -51,14 +51,16 @@ module _ (part : PartData) (s t : Session) (r : Record) (verdict : Verdict) (is_
     (session : t ≡ (judge s r).session) (read : BodyData)
     (is_read : read ≡ body_read r.head.version r.head.side r.body) where
   pub found_next : (old kept new : Found) (closed uri opened : Option (List ℕ))
-      → closed ≡ closed_by s.server.table old.uri read → uri ≡ on_client None (uri_opened Client) read → opened ≡ opened_if verdict uri
+      → closed ≡ closed_by s.server.table old.uri read → uri ≡ on_client None (uri_opened Client) read
+      → opened ≡ opened_if verdict uri
       → kept ≡ record old { text = kept_after closed old.text } → new ≡ found_if part.uri opened kept
       → refreshed t.server.table new ≡ found_after part (refreshed s.server.table old) r (judge s r)
   found_next old kept new closed uri opened closed_is uri_is opened_is kept_is new_is =
       let before = last_text_in old.uri old.text s.server.table in
       let same = kept_over s s t read old.uri closed old.text (kept_after closed old.text) refl closed_is
       (session ∙ ap (λ (j : Judged). (counted j).session) (sym (judged_at s r.head r.body s read refl is_read))) refl in
-      let opens = opened_at s r verdict is_judged uri opened (uri_is ∙ ap (on_client None (uri_opened Client)) is_read) opened_is in
+      let opens = opened_at s r verdict is_judged uri opened (uri_is
+      ∙ ap (on_client None (uri_opened Client)) is_read) opened_is in
       ap (refreshed t.server.table) (new_is ∙ ap (found_if part.uri opened) kept_is)
       ∙ found_alike t.server.table old.several (kept_after closed old.text) before part.uri opened old.uri same
       ∙ ap (λ (o : Option (List ℕ)). refreshed t.server.table (found_if part.uri o (refreshed s.server.table old)))

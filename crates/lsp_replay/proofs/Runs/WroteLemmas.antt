@@ -142,7 +142,8 @@ module _ (settings : Settings) (ranges : AreInRange settings.limits)
 
   pub wrote_normal : {state : PortState} (result : Result Outcome EngineFault)
       → RanOver (as_log settings) (canonical_log settings) state left_old left_new received_old received_new result
-      → IfOk result (Wrote settings (IsReported settings (IsCanonicalLog settings)) left_old left_new received_old received_new)
+      → IfOk result (Wrote settings (IsReported settings (IsCanonicalLog settings)) left_old left_new received_old
+      received_new)
   wrote_normal {state} =
       wrote_by (as_log settings) (canonical_log settings) (IsCanonicalLog settings)
       (normal_not_ok (opened (log_config settings)))
@@ -151,7 +152,8 @@ module _ (settings : Settings) (ranges : AreInRange settings.limits)
 
   pub wrote_squashed : {state : PortState} (result : Result Outcome EngineFault)
       → RanOver (as_log settings) (squashed settings) state left_old left_new received_old received_new result
-      → IfOk result (Wrote settings (IsReported settings (IsSquashed settings)) left_old left_new received_old received_new)
+      → IfOk result (Wrote settings (IsReported settings (IsSquashed settings)) left_old left_new received_old
+      received_new)
   wrote_squashed {state} =
       wrote_by (as_log settings) (squashed settings) (IsSquashed settings) (squashed_not_ok settings)
       (λ input log reads whole goes.
@@ -159,7 +161,8 @@ module _ (settings : Settings) (ranges : AreInRange settings.limits)
 
   pub wrote_converted : {state : PortState} (result : Result Outcome EngineFault)
       → RanOver (as_converted settings) (converted settings) state left_old left_new received_old received_new result
-      → IfOk result (Wrote settings (IsReported settings (IsConverted settings)) left_old left_new received_old received_new)
+      → IfOk result (Wrote settings (IsReported settings (IsConverted settings)) left_old left_new received_old
+      received_new)
   wrote_converted {state} =
       wrote_by (as_converted settings) (converted settings) (IsConverted settings)
       (converted_not_ok (opened (log_config settings)))

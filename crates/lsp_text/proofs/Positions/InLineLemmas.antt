@@ -220,8 +220,10 @@ line_length text line there = lengths (line_start text line) (line_stop text lin
 
         inside : (k : ℕ) → k < stop - start → is_inside_line (slice_index text (start + k)) ≡ true
         inside k less =
-            let here = between_in_content text line start stop (start + k) is_start is_stop (omega arith) (omega arith) in
-            let next = between_in_content text line start stop (suc (start + k)) is_start is_stop (omega arith) (omega arith) in
+            let here = between_in_content text line start stop (start + k) is_start is_stop (omega arith) (omega arith)
+            in
+            let next = between_in_content text line start stop (suc (start + k)) is_start is_stop (omega arith) (omega
+            arith) in
             let here_line : line_at text (start + k) ≡ line = in_content_line text line (start + k) here in
             let next_line : line_at text (suc (start + k)) ≡ line = in_content_line text line (suc (start + k)) next in
             next_inside text (start + k) (next_line ∙ sym here_line) (in_content_whole text line (suc (start + k)) next)
@@ -232,5 +234,6 @@ line_length text line there = lengths (line_start text line) (line_stop text lin
             (λ e.
             let next = inside_next text stop e in
             let here_line : line_at text stop ≡ line = in_content_line text line stop is_stop.passes in
-            let more = is_stop.greatest (suc stop) (omega arith) (in_content text line (suc stop) (next.0 ∙ here_line) next.1) in
+            let more = is_stop.greatest (suc stop) (omega arith) (in_content text line (suc stop) (next.0
+            ∙ here_line) next.1) in
             omega arith)
