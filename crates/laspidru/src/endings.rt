@@ -1,7 +1,7 @@
 //! The settings that C passes to a command on a log, and the ending that it gets.
 
 ghost use Rattle.std.specs.Prelude.{◌≡◌, Err, IfErr, IfOk, Ok};
-ghost use Rattle.laspidru.specs.Logs.{IsUnlessEnded, ending_out, fault_out, frame_fault_out};
+ghost use Rattle.laspidru.specs.Logs.{IsUnlessEnded, ending_out, fault_out};
 ghost use Rattle.laspidru.specs.Logs.{log_asked, missing_code, outcome_out};
 
 use crate::answers::limits_in;
@@ -10,7 +10,6 @@ use crate::codes::{
     BAD_FRAME, BAD_LOG, BODY_TOO_LONG, CUT, NOT_OPEN, OK, OUT_OF_MEMORY, OUT_OF_RANGE,
 };
 use crate::taken::number_and_offset_of;
-use lsp_frame::FrameFault;
 use lsp_replay::{EngineFault, Missing, Outcome, Settings};
 
 /// How a log is read, and what of it is written: the limits, the number of the encoding of its
@@ -116,17 +115,6 @@ fn fault_ending(output_len: usize, offset: u64) -> Ending
     }
 }
 
-/// Returns the ending of a command at a faulty frame.
-fn frame_ending(output_len: usize, fault: FrameFault) -> Ending
-    ensures { result ≡ frame_fault_out output_len fault }
-{
-    let (frame, offset) = number_and_offset_of(fault);
-    Ending {
-        frame,
-        ..fault_ending(output_len, offset)
-    }
-}
-
 /// Returns the code of a command's result, and its ending. After a fault that isn't the log's it
 /// returns only the code: the output isn't kept.
 pub(crate) fn ending_of(
@@ -138,7 +126,11 @@ pub(crate) fn ending_of(
 {
     match answer {
         Ok(outcome) => Ok((OK, outcome_ending(output_len, outcome))),
-        Err(EngineFault::Frame(fault)) => Ok((BAD_FRAME, frame_ending(output_len, fault))),
+        Err(EngineFault::Frame(fault)) => {
+            let (frame, offset) = number_and_offset_of(fault);
+            let ending = fault_ending(output_len, offset);
+            Ok((BAD_FRAME, Ending { frame, ..ending }))
+        }
         Err(EngineFault::Truncated { place }) => Ok((CUT, fault_ending(output_len, place))),
         Err(EngineFault::BodyTooLong { place }) => {
             Ok((BODY_TOO_LONG, fault_ending(output_len, place)))

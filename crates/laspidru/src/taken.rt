@@ -65,33 +65,25 @@ pub(crate) fn number_and_offset_of(fault: FrameFault) -> (u32, u64)
     }
 }
 
-/// Returns the code of a fault.
-fn frame_code_of(fault: FrameFault) -> u32
-    ensures { result ≡ frame_code fault }
-{
-    match fault {
-        FrameFault::Failed => FAILED,
-        FrameFault::NoMemory => OUT_OF_MEMORY,
-        _ => BAD_FRAME,
-    }
-}
-
 /// Returns the code of a fault. One of F1 to F7 is written to `out`; another leaves it as it is.
 fn report_frame(fault: FrameFault, out: &mut Taken) -> u32
     ensures report { IsFrameReport fault out.new }
     ensures code { result ≡ frame_code fault }
     ensures unchanged { result ≢ BAD_FRAME → out.new ≡ out.old }
 {
-    let code = frame_code_of(fault);
-    if code == BAD_FRAME {
-        let (frame, offset) = number_and_offset_of(fault);
-        *out = Taken {
-            offset,
-            frame,
-            ..nothing()
-        };
+    match fault {
+        FrameFault::Failed => FAILED,
+        FrameFault::NoMemory => OUT_OF_MEMORY,
+        _ => {
+            let (frame, offset) = number_and_offset_of(fault);
+            *out = Taken {
+                offset,
+                frame,
+                ..nothing()
+            };
+            BAD_FRAME
+        }
     }
-    code
 }
 
 /// Feeds a piece of a stream to a framer.
