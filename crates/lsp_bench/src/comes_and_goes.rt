@@ -39,27 +39,25 @@ fn buffered(alloc: Global) -> Option<TextBuffer> {
 fn typed(text: &mut TextBuffer, letters: usize) -> Option<usize> {
     let middle = text.len() / 2;
     for letter in 0..letters {
-        put_letter(text, middle.saturating_add(letter))?;
+        let at = middle.saturating_add(letter);
+        replace(text, at, at, "x")?;
     }
     for letter in (0..letters).rev() {
-        delete_letter(text, middle.saturating_add(letter))?;
+        let at = middle.saturating_add(letter);
+        replace(text, at, at.saturating_add(1), "")?;
     }
     Some(text.block_count())
 }
 
-fn put_letter(text: &mut TextBuffer, at: usize) -> Option<()> {
+fn replace(text: &mut TextBuffer, start: usize, end: usize, by: &str) -> Option<()> {
     let len = text.len();
-    if at > len || len >= MAX_TEXT || !text.is_char_boundary(at) {
+    if start > end || end > len || len >= MAX_TEXT || by.len() > 1 {
         return None;
     }
-    text.replace_range(at, at, "x").ok()
-}
-
-fn delete_letter(text: &mut TextBuffer, at: usize) -> Option<()> {
-    if at >= text.len() || !text.is_char_boundary(at) || !text.is_char_boundary(at + 1) {
+    if !text.is_char_boundary(start) || !text.is_char_boundary(end) {
         return None;
     }
-    text.replace_range(at, at + 1, "").ok()
+    text.replace_range(start, end, by).ok()
 }
 
 /// Returns a table with some documents.

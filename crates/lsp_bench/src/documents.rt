@@ -6,7 +6,7 @@ use crate::timing::{done, time};
 use lsp_client::Client;
 use lsp_edit::Change;
 use lsp_frame::Limits;
-use lsp_message::{Offers, OpenParams};
+use lsp_message::Offers;
 use lsp_store::Store;
 use lsp_text::Encoding;
 use std::alloc::Global;
@@ -46,16 +46,12 @@ fn time_calls<R: Runtime>(
 
 /// Returns a store with the document.
 fn opened_store(alloc: Global, size: usize) -> Option<Store> {
-    let document = opened(alloc, size).ok()?;
+    let params = opened(alloc, size).ok()?;
     let mut store = Store::new(alloc, Limits::default());
-    open_in_store(&mut store, document)?;
-    Some(store)
-}
-
-fn open_in_store(store: &mut Store, params: OpenParams) -> Option<()> {
     store
         .open(params.uri, params.language, params.version, params.text)
-        .ok()
+        .ok()?;
+    Some(store)
 }
 
 /// What a server answers that wants changed ranges, in UTF-16.
@@ -64,17 +60,12 @@ const ANSWER: &[u8] =
 
 /// Returns a client in whose session the document is open.
 fn opened_client(alloc: Global, size: usize) -> Option<Client> {
-    let document = opened(alloc, size).ok()?;
+    let params = opened(alloc, size).ok()?;
     let mut client = Client::new(alloc, Limits::default(), Offers::new(false, false));
     client.start().ok()?;
     client.deliver(ANSWER).ok()?;
     client
-        .open(
-            document.uri,
-            document.language,
-            document.version,
-            document.text,
-        )
+        .open(params.uri, params.language, params.version, params.text)
         .ok()?;
     Some(client)
 }

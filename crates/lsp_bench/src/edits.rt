@@ -1,8 +1,8 @@
 //! Batches of changes of a text, beside `replace_range` on a text whose line starts are kept.
 
-use crate::text::{Plain, keystrokes, lines_of, made_text};
+use crate::text::{Plain, indexed, keystrokes, lines_of, made_text};
 use crate::timing::{done, time};
-use lsp_edit::{Change, IndexedText, MAX_OLD_TEXT, MAX_TEXT, fits};
+use lsp_edit::{Change, IndexedText, MAX_OLD_TEXT, fits};
 use lsp_text::Encoding;
 use std::alloc::Global;
 use std::io;
@@ -23,7 +23,7 @@ static BATCHES: [(usize, u32, u32); 8] = [
 /// Times batches of letters all over texts.
 pub fn run<R: Runtime + AllocGlobal>(rt: &R) -> io::Result<()> {
     for (size, count, repeats) in &BATCHES {
-        let text = done(indexed(rt.alloc(), *size))?;
+        let text = done(indexed(rt.alloc(), made_text(rt.alloc(), *size)?))?;
         let changes = keystrokes(rt.alloc(), *count, 2, lines_of(*size))?;
         time_batch(rt, &text, &changes, *count, *repeats)?;
         time_plain(rt, *size, *count, *repeats)?;
@@ -38,23 +38,11 @@ fn time_batch<R: Runtime + AllocGlobal>(
     count: u32,
     repeats: u32,
 ) -> io::Result<()> {
-    let alloc = rt.alloc();
+    let (alloc, size) = (rt.alloc(), text.len());
     let what = format!(in alloc; "canonical batch of {count} changes, bytes")?;
-    time(
-        rt,
-        &what,
-        text.len(),
-        repeats,
-        |_| canonical_len(text, changes),
-    )?;
+    time(rt, &what, size, repeats, |_| canonical_len(text, changes))?;
     let what = format!(in alloc; "text and lines after {count} changes, bytes")?;
-    time(
-        rt,
-        &what,
-        text.len(),
-        repeats,
-        |_| text_len(alloc, text, changes),
-    )
+    time(rt, &what, size, repeats, |_| text_len(alloc, text, changes))
 }
 
 /// Times so many keystrokes in a text, each of which puts a letter in, or takes it out again.
@@ -73,15 +61,6 @@ fn time_plain<R: Runtime + AllocGlobal>(
         repeats,
         |turn| replace_all(&mut plain, count, turn % 2),
     )
-}
-
-/// Returns a made text in blocks; none if it is too long, or memory runs out.
-fn indexed(alloc: Global, size: usize) -> Option<IndexedText> {
-    let text = made_text(alloc, size).ok()?;
-    if text.len() > MAX_TEXT {
-        return None;
-    }
-    IndexedText::new(alloc, text).ok()
 }
 
 /// Returns how many changes the canonical batch has.

@@ -1,14 +1,13 @@
 //! Streams of frames, made and read again, beside a plain copy of each; and what each command of
 //! the program does at least: takes a log apart into its frames, and parses the body of each.
 
+use crate::text::MEGABYTE;
 use crate::timing::{done, time};
 use lsp_frame::{Framer, Limits, frame};
 use serde_json::Value;
 use std::alloc::{AllocError, Global};
 use std::io::{self, Read};
 use std::rt::Runtime;
-
-const MEGABYTE: usize = 1_048_576;
 
 static BODIES: [usize; 3] = [50, 500, MEGABYTE];
 

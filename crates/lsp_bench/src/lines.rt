@@ -1,16 +1,14 @@
 //! Lines of made texts: indexed beside a plain copy, and looked up.
 
 use crate::frames::time_copy;
-use crate::text::made_text;
+use crate::text::{MEGABYTE, indexed, made_text, repeated};
 use crate::timing::{done, time};
 use lsp_buffer::TextBuffer;
-use lsp_edit::{IndexedText, MAX_TEXT};
+use lsp_edit::MAX_TEXT;
 use lsp_text::{Encoding, Lines, Position};
-use std::alloc::{AllocError, Global};
+use std::alloc::Global;
 use std::io;
 use std::rt::Runtime;
-
-const MEGABYTE: usize = 1_048_576;
 
 /// A line of 121 bytes.
 const LONGER_LINE: &str =
@@ -58,50 +56,20 @@ fn searched(alloc: Global, text: &str) -> Option<usize> {
     Some(text.len().max(lines.count()))
 }
 
-/// Returns a text of equal parts; none if it is too long, or memory runs out.
-fn indexed(alloc: Global, part: &str, parts: u32) -> Option<IndexedText> {
-    let text = repeated(alloc, part, parts).ok()?;
-    if text.len() > MAX_TEXT {
-        return None;
-    }
-    IndexedText::new(alloc, text).ok()
-}
-
-fn repeated(alloc: Global, part: &str, parts: u32) -> Result<String, AllocError> {
-    let mut text = String::new(alloc);
-    for _ in 0..parts {
-        text.push_str(part)?;
-    }
-    Ok(text)
-}
-
 fn look_up<R: Runtime + AllocGlobal>(rt: &R, case: Case, repeats: u32) -> io::Result<()> {
     let (name, part, parts, lines, column) = case;
-    let text = done(indexed(rt.alloc(), part, parts))?;
+    let text = done(indexed(rt.alloc(), repeated(rt.alloc(), part, parts as usize)?))?;
     for encoding in &ENCODINGS {
         for (call, returns) in &CALLS {
-            let what = row_name(rt.alloc(), call, name, *encoding)?;
+            let units = encoding.name();
+            let what = format!(in rt.alloc(); "{call} in {name}, {units}, column")?;
             time(rt, &what, column as usize, repeats, |turn| {
-                found(
-                    text.text(),
-                    *encoding,
-                    position(lines, column, turn),
-                    *returns,
-                )
+                let at = position(lines, column, turn);
+                found(text.text(), *encoding, at, *returns)
             })?;
         }
     }
     Ok(())
-}
-
-fn row_name(
-    alloc: Global,
-    call: &str,
-    case: &str,
-    encoding: Encoding,
-) -> Result<String, AllocError> {
-    let encoding = encoding.name();
-    format!(in alloc; "{call} in {case}, {encoding}, column")
 }
 
 /// Returns the position of a turn. Columns differ by whole characters in each encoding.

@@ -1,7 +1,7 @@
 //! Messages, read and written many times.
 
 use crate::frames::is_object;
-use crate::text::{changed, keystrokes, opened};
+use crate::text::{MEGABYTE, changed, keystrokes, opened};
 use crate::timing::time;
 use lsp_message::{
     ErrorCode, Id, Message, Offers, Outgoing, SyncKind, params_change, params_open, read, write,
@@ -11,8 +11,6 @@ use serde_json::Value;
 use std::alloc::{AllocError, Global};
 use std::io;
 use std::rt::Runtime;
-
-const MEGABYTE: usize = 1_048_576;
 
 /// The messages of a client and of a server that have no document, in the order of [`small`].
 static SMALL: [&str; 7] = [
@@ -79,12 +77,8 @@ fn params_in(alloc: Global, body: &[u8]) -> Option<Value> {
 
 /// Returns how many entries the change has.
 fn changes_in(alloc: Global, body: &[u8]) -> Option<usize> {
-    Some(
-        params_change(alloc, params_in(alloc, body))
-            .ok()?
-            .changes
-            .len(),
-    )
+    let params = params_change(alloc, params_in(alloc, body)).ok()?;
+    Some(params.changes.len())
 }
 
 /// Returns how many bytes the text has that is opened.

@@ -1,7 +1,7 @@
 //! A made text, and keystrokes all over it: as changes of a document, and in a plain program that
 //! keeps the text's line starts.
 
-use lsp_edit::Change;
+use lsp_edit::{Change, IndexedText, MAX_TEXT};
 use lsp_message::{ChangeParams, OpenParams};
 use lsp_text::{Position, Range};
 use std::alloc::{AllocError, Global};
@@ -14,6 +14,9 @@ pub fn module_uri(alloc: Global, number: u32) -> Result<String, AllocError> {
     format!(in alloc; "file:///home/user/project/src/module_{number}.rs")
 }
 
+/// How many bytes a megabyte has.
+pub const MEGABYTE: usize = 1_048_576;
+
 /// A line of 40 bytes.
 const LINE: &str = "    let answer = question.map(|x| x+1);\n";
 
@@ -22,11 +25,24 @@ const COLUMN: u32 = 8;
 
 /// Returns so many bytes of equal lines.
 pub fn made_text(alloc: Global, size: usize) -> Result<String, AllocError> {
-    let mut text = String::with_capacity(alloc, size.saturating_add(LINE.len()))?;
-    for _ in 0..lines_of(size) {
-        text.push_str(LINE)?;
+    repeated(alloc, LINE, lines_of(size))
+}
+
+/// Returns a text of equal parts.
+pub fn repeated(alloc: Global, part: &str, parts: usize) -> Result<String, AllocError> {
+    let mut text = String::new(alloc);
+    for _ in 0..parts {
+        text.push_str(part)?;
     }
     Ok(text)
+}
+
+/// Returns a text with its lines; none if it is too long, or memory runs out.
+pub fn indexed(alloc: Global, text: String) -> Option<IndexedText> {
+    if text.len() > MAX_TEXT {
+        return None;
+    }
+    IndexedText::new(alloc, text).ok()
 }
 
 /// Returns the document with a text of so many bytes, as it is opened.
