@@ -2,8 +2,7 @@
 
 ghost use Rattle.std.specs.Prelude.{◌≡◌, Err, IfErr, IfOk, Ok};
 ghost use Rattle.lsp_server.specs.Seen.{answer_view};
-ghost use Rattle.laspidru.specs.Servers.{answer_out, config_asked, error_number};
-ghost use Rattle.laspidru.specs.Servers.{limit_code, limits_asked, plain_out, refusal_code};
+ghost use Rattle.laspidru.specs.Servers.{answer_out, config_asked, limits_asked, plain_out};
 ghost use Rattle.laspidru.specs.Servers.{reply_out, store_code};
 
 use crate::changes::encoding_of;
@@ -14,7 +13,6 @@ use crate::codes::{
 };
 use lsp_edit::EditFault;
 use lsp_frame::Limits;
-use lsp_message::ErrorCode;
 use lsp_server::{ChangeForm, Config, EncodingChoice, Refusal};
 use lsp_store::StoreFault;
 use std::alloc::Global;
@@ -74,18 +72,6 @@ pub struct State {
     pub documents: usize,
 }
 
-/// Returns the code of a limit that is out of its range, by its number from 1.
-fn limit_code_of(which: u8) -> u32
-    ensures { result ≡ limit_code which }
-{
-    match which {
-        1 => BAD_MAX_BODY,
-        2 => BAD_MAX_TEXT,
-        3 => BAD_MAX_DOCS,
-        _ => BAD_MAX_CHANGES,
-    }
-}
-
 /// Returns the limits, or the code of the first that is out of its range.
 pub(crate) fn limits_of(
     max_body: usize,
@@ -99,7 +85,12 @@ pub(crate) fn limits_of(
     match Limits::new(max_body, max_text, max_docs, max_changes) {
         Ok(limits) if lenient => Ok(limits.lenient()),
         Ok(limits) => Ok(limits),
-        Err(bad) => Err(limit_code_of(bad.which)),
+        Err(bad) => match bad.which {
+            1 => Err(BAD_MAX_BODY),
+            2 => Err(BAD_MAX_TEXT),
+            3 => Err(BAD_MAX_DOCS),
+            _ => Err(BAD_MAX_CHANGES),
+        },
     }
 }
 
@@ -142,16 +133,6 @@ pub(crate) fn config_of(settings: &Settings) -> Result<Config, u32>
     })
 }
 
-/// Returns the number of an error reply.
-fn error_of(code: Option<ErrorCode>) -> i32
-    ensures { result ≡ error_number code }
-{
-    match code {
-        Some(code) => code.number(),
-        None => 0,
-    }
-}
-
 /// Returns the code for why the store refuses a command.
 pub(crate) fn store_code_of(fault: StoreFault) -> u32
     ensures { result ≡ store_code fault }
@@ -166,16 +147,6 @@ pub(crate) fn store_code_of(fault: StoreFault) -> u32
         StoreFault::Edit(EditFault::InsideCharacter { .. }) => INSIDE_CHARACTER,
         StoreFault::Edit(EditFault::ReversedRange { .. }) => REVERSED_RANGE,
         StoreFault::Edit(EditFault::NoMemory) | StoreFault::NoMemory => OUT_OF_MEMORY,
-    }
-}
-
-/// Returns the code for why a notification is refused.
-fn reason_of(refusal: Refusal) -> u32
-    ensures { result ≡ refusal_code refusal }
-{
-    match refusal {
-        Refusal::InvalidParams => INVALID_PARAMS,
-        Refusal::Store(fault) => store_code_of(fault),
     }
 }
 
@@ -197,16 +168,27 @@ pub(crate) fn answer_of(answer: &lsp_server::Answer) -> Answer
     ensures { result ≡ answer_out (answer_view answer.now) }
 {
     match answer {
-        lsp_server::Answer::Reply { frame, code } => Answer {
-            error: error_of(*code),
+        lsp_server::Answer::Reply { frame, code: None } => Answer {
+            reply_len: frame.len(),
+            ..plain(REPLIED)
+        },
+        lsp_server::Answer::Reply {
+            frame,
+            code: Some(code),
+        } => Answer {
+            error: code.number(),
             reply_len: frame.len(),
             ..plain(REPLIED)
         },
         lsp_server::Answer::Changed => plain(CHANGED),
         lsp_server::Answer::Dropped => plain(DROPPED),
         lsp_server::Answer::Ignored => plain(IGNORED),
-        lsp_server::Answer::Refused(refusal) => Answer {
-            reason: reason_of(*refusal),
+        lsp_server::Answer::Refused(Refusal::InvalidParams) => Answer {
+            reason: INVALID_PARAMS,
+            ..plain(REFUSED)
+        },
+        lsp_server::Answer::Refused(Refusal::Store(fault)) => Answer {
+            reason: store_code_of(*fault),
             ..plain(REFUSED)
         },
         lsp_server::Answer::Exit(status) => Answer {
