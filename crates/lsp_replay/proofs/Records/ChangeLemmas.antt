@@ -40,9 +40,12 @@ kind_of server r front series (Some p) (answered changed) e =
         (front ++ frame (canonical_change_body server p)) series).end ≡ None → over ≡ false
     short true f = absurd (let wrong : Some (Err (BodyTooLong r.head.place)) ≡ None = f in cc)
     short false f = refl
-kind_of server r front series _ bad e = absurd (let wrong : Some (Err (BadLog r.head.place)) ≡ None = e in cc)
-kind_of server r front series _ recorded e = inl (not_recorded, refl)
-kind_of server r front series _ (answered answer) e = inl (not_bad answer, refl)
+kind_of server r front series None bad e = absurd (let wrong : Some (Err (BadLog r.head.place)) ≡ None = e in cc)
+kind_of server r front series (Some p) bad e = absurd (let wrong : Some (Err (BadLog r.head.place)) ≡ None = e in cc)
+kind_of server r front series None recorded e = inl (not_recorded, refl)
+kind_of server r front series (Some p) recorded e = inl (not_recorded, refl)
+kind_of server r front series None (answered answer) e = inl (not_bad answer, refl)
+kind_of server r front series (Some p) (answered answer) e = inl (not_bad answer, refl)
 
 -- neither is bad
 pub not_bad_of : (server : ServerData) (r : Record) (front : List ℕ) (series : Option OpenSeries) (change : Option

@@ -1,4 +1,4 @@
-use Rattle.lsp_replay.proofs.Prelude.{◌≡◌, ℕ, Bool, true, false, List, [], Option, Some, None, option_and_then, refl, sym, ap, ◌∙◌, if◌then◌else◌, ChangeData, IncomingData, did_change, did_open, other_notification, ServerData, Client, is_save, notes_on, saved_in}
+use Rattle.lsp_replay.proofs.Prelude.{◌≡◌, ℕ, Bool, true, false, List, Option, Some, option_and_then, refl, sym, ap, ◌∙◌, if◌then◌else◌, ChangeData, IncomingData, did_change, did_open, other_notification, ServerData, Client, is_save, notes_on, saved_in}
 use Rattle.serde_json.specs.Data.{Data}
 use Rattle.lsp_server.specs.Seen.{incoming_view}
 use Rattle.lsp_store.specs.Table.{entry_at}
