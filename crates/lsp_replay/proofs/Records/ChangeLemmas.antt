@@ -1,5 +1,5 @@
 -- Which records are accepted changes, and what becomes of them.
-use Rattle.lsp_replay.proofs.Prelude.{◌≡◌, ◌≢◌, ◌⊎◌, inl, inr, ℕ, ◌≤◌, Bool, true, false, List, ◌++◌, length, Option, Some, None, refl, sym, ap, ◌∙◌, subst, nat_lt, if◌then◌else◌, Err, ltb-false, IdData, reading, ChangeData, Phase, New, Running, Down, Ended, AnswerData, Sent, reply, changed, dropped, ignored, already_ended, refused, exits, incoming_of, did_change, ServerData, Version, Sender, Client, Server, Record, BadLog, BodyTooLong, one_more, frame, change_in, canonical_if, canonical_change_body, refusal_of, server_after, Session, Verdict, answered, recorded, bad, Judged, judge, judge_from, judge_client, counted, encoding_for, OpenSeries, change_output, faulty, step_if}
+use Rattle.lsp_replay.proofs.Prelude.{◌≡◌, ◌≢◌, ◌⊎◌, inl, inr, ℕ, ◌≤◌, Bool, true, false, List, ◌++◌, length, Option, Some, None, refl, sym, ap, ◌∙◌, subst, nat_lt, if◌then◌else◌, Err, ltb-false, IdData, reading, ChangeData, Phase, New, Running, Down, Ended, AnswerData, Sent, changed, incoming_of, did_change, ServerData, Version, Sender, Client, Server, Record, BadLog, BodyTooLong, one_more, frame, change_in, canonical_if, canonical_change_body, refusal_of, server_after, Session, Verdict, answered, recorded, bad, Judged, judge, judge_from, judge_client, counted, encoding_for, OpenSeries, change_output, faulty, step_if}
 use Rattle.lsp_replay.proofs.Records.AskedLemmas.{IsProperAsked, IsProperIncoming, asked_proper}
 use Rattle.lsp_replay.proofs.Squash.JoiningLemmas.{running_accepted}
 use Rattle.lsp_replay.proofs.Records.JudgeLemmas.{asks_change}
