@@ -1,5 +1,5 @@
 -- A record that is read once is judged as one that is judged from its bytes.
-use Rattle.lsp_replay.proofs.Prelude.{◌≡◌, ◌⊎◌, inl, inr, ℕ, Bool, true, false, List, Option, Some, None, refl, sym, ap, ◌∙◌, ◌&&◌, and_parts, is_none, if◌then◌else◌, Version, Head, Sender, Client, Server, IdData, reading, ChangeData, Phase, New, Running, Down, Ended, changed, reply, dropped, ignored, already_ended, refused, exits, incoming_of, did_change, ServerData, canonical_change_body, canonical_if, change_in, Session, Verdict, answered, recorded, bad, encoding_for, is_running, judge_client, judge_from, judge_server, accepted_if, accepted_of, received_of}
+use Rattle.lsp_replay.proofs.Prelude.{◌≡◌, ◌⊎◌, inl, inr, ℕ, Bool, true, false, List, Option, Some, None, refl, sym, ap, ◌∙◌, ◌&&◌, and_parts, is_none, if◌then◌else◌, Version, Head, Sender, Client, Server, IdData, reading, ChangeData, Phase, Running, changed, incoming_of, did_change, ServerData, canonical_change_body, canonical_if, change_in, Session, Verdict, answered, recorded, bad, encoding_for, is_running, judge_from, judge_server, accepted_if, accepted_of, received_of}
 use Rattle.lsp_replay.specs.inside.Bodies.{BodyData, IsReceived, from_client, from_server, body_read, change_of, judge_read}
 use Rattle.lsp_replay.proofs.Canonical.CanonicalLogLemmas.{heard_as}
 use Rattle.lsp_replay.proofs.Records.JudgeLemmas.{asks_change}

@@ -1,5 +1,5 @@
 -- Which records are accepted changes, and what becomes of them.
-use Rattle.lsp_replay.proofs.Prelude.{◌≡◌, ◌≢◌, ◌⊎◌, inl, inr, ℕ, ◌≤◌, Bool, true, false, List, ◌++◌, length, Option, Some, None, refl, sym, ap, ◌∙◌, subst, nat_lt, if◌then◌else◌, Err, ltb-false, IdData, reading, ChangeData, Phase, New, Running, Down, Ended, AnswerData, Sent, reply, changed, dropped, ignored, already_ended, refused, exits, incoming_of, did_change, ServerData, Version, Sender, Client, Server, Record, BadLog, BodyTooLong, one_more, frame, change_in, canonical_if, canonical_change_body, refusal_of, server_after, Session, Verdict, answered, recorded, bad, Judged, judge, judge_from, judge_client, counted, encoding_for, OpenSeries, change_output, faulty, step_if}
+use Rattle.lsp_replay.proofs.Prelude.{◌≡◌, ◌≢◌, ◌⊎◌, inl, inr, ℕ, ◌≤◌, Bool, true, false, List, ◌++◌, length, Option, Some, None, refl, sym, ap, ◌∙◌, subst, nat_lt, if◌then◌else◌, Err, ltb-false, IdData, reading, ChangeData, Phase, New, Running, Down, Ended, AnswerData, Sent, changed, incoming_of, did_change, ServerData, Version, Sender, Client, Server, Record, BadLog, BodyTooLong, one_more, frame, change_in, canonical_if, canonical_change_body, refusal_of, server_after, Session, Verdict, answered, recorded, bad, Judged, judge, judge_from, judge_client, counted, encoding_for, OpenSeries, change_output, faulty, step_if}
 use Rattle.lsp_replay.proofs.Records.AskedLemmas.{IsProperAsked, IsProperIncoming, asked_proper}
 use Rattle.lsp_replay.proofs.Squash.JoiningLemmas.{running_accepted}
 use Rattle.lsp_replay.proofs.Records.JudgeLemmas.{asks_change}
@@ -40,9 +40,12 @@ kind_of server r front series (Some p) (answered changed) e =
         (front ++ frame (canonical_change_body server p)) series).end ≡ None → over ≡ false
     short true f = absurd (let wrong : Some (Err (BodyTooLong r.head.place)) ≡ None = f in cc)
     short false f = refl
-kind_of server r front series _ bad e = absurd (let wrong : Some (Err (BadLog r.head.place)) ≡ None = e in cc)
-kind_of server r front series _ recorded e = inl (not_recorded, refl)
-kind_of server r front series _ (answered answer) e = inl (not_bad answer, refl)
+kind_of server r front series None bad e = absurd (let wrong : Some (Err (BadLog r.head.place)) ≡ None = e in cc)
+kind_of server r front series (Some p) bad e = absurd (let wrong : Some (Err (BadLog r.head.place)) ≡ None = e in cc)
+kind_of server r front series None recorded e = inl (not_recorded, refl)
+kind_of server r front series (Some p) recorded e = inl (not_recorded, refl)
+kind_of server r front series None (answered answer) e = inl (not_bad answer, refl)
+kind_of server r front series (Some p) (answered answer) e = inl (not_bad answer, refl)
 
 -- neither is bad
 pub not_bad_of : (server : ServerData) (r : Record) (front : List ℕ) (series : Option OpenSeries) (change : Option

@@ -1,5 +1,5 @@
 -- What becomes of a record doesn't depend on how many records and messages came before it.
-use Rattle.lsp_replay.proofs.Prelude.{◌≡◌, ℕ, Bool, true, false, List, Option, Some, None, refl, sym, ap, ◌∙◌, subst, if◌then◌else◌, Encoding, reading, as_sent, IncomingData, incoming_of, step_on, Version, Sender, Client, Server, Record, Session, bad, Judged, counted, judged, judge, judge_from, judge_client, judge_server, encoding_for, handled, is_ended, is_early}
+use Rattle.lsp_replay.proofs.Prelude.{◌≡◌, ℕ, Bool, false, List, Option, Some, None, refl, sym, ap, ◌∙◌, subst, if◌then◌else◌, Encoding, reading, as_sent, IncomingData, incoming_of, step_on, Version, Sender, Client, Server, Record, Session, bad, Judged, counted, judged, judge, judge_from, judge_client, judge_server, encoding_for, handled, is_ended, is_early}
 
 abbrev pub numbered : ℕ → ℕ → Session → Session
 numbered records messages s = record {

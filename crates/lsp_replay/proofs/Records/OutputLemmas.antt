@@ -1,5 +1,5 @@
 -- What a command writes from a record on, by what it writes of the record and what it knows after it.
-use Rattle.lsp_replay.proofs.Prelude.{◌≡◌, ◌≢◌, List, ◌∷◌, refl, sym, ap, ◌∙◌, Record, RecordOutput, View, followed_by, output_in, unless_bad, Session, Verdict, answered, recorded, bad, judge}
+use Rattle.lsp_replay.proofs.Prelude.{◌≡◌, ◌≢◌, List, ◌∷◌, refl, Record, RecordOutput, View, followed_by, output_in, unless_bad, Session, Verdict, bad, judge}
 
 -- a record that is in the log
 pub unless_not : (r : Record) (verdict : Verdict) (given : RecordOutput) → verdict ≢ bad → unless_bad r verdict given

@@ -1,7 +1,7 @@
 -- A record that isn't an accepted one about a document leaves that document as it is.
-use Rattle.lsp_replay.proofs.Prelude.{◌≡◌, ℕ, Bool, true, false, List, [], ◌∷◌, ◌++◌, map, Option, Some, None, bytes_eq, refl, sym, ap, ◌∙◌, ℤ, ◌&&◌, if◌then◌else◌, bytes_eq-Decides, units_in, ContentChange, reading, DocumentItem, as_sent, Phase, New, Running, Down, Ended, IncomingData, incoming_of, not_json, not_a_message, response, initialize, shutdown, other_request, exit, did_open, did_change, did_close, other_notification, Sender, Client, Server, Version, Record, Session, Judged, answered, bad, has_changed, judged, handled, is_ended, is_early, judge, judge_from, judge_client, encoding_for, uri_of, is_document, arith, common_steps}
-use Rattle.lsp_store.specs.Table.{Refusal, entry_at, changed, after_open, after_change, after_close, close_refusal, change_refusal, open_refusal, unless_refused}
-use Rattle.lsp_server.specs.Step.{ServerData, Step, step_in, step_on, result_step, content_change_from_data, session_encoding}
+use Rattle.lsp_replay.proofs.Prelude.{◌≡◌, ℕ, Bool, true, false, List, [], ◌∷◌, ◌++◌, map, bytes_eq, refl, sym, ap, ◌∙◌, ℤ, ◌&&◌, bytes_eq-Decides, units_in, ContentChange, reading, DocumentItem, as_sent, Phase, IncomingData, incoming_of, Sender, Client, Server, Version, Record, Session, Judged, answered, has_changed, judge, judge_from, judge_client, encoding_for, uri_of, is_document, arith, common_steps}
+use Rattle.lsp_store.specs.Table.{entry_at, after_open, after_change, after_close}
+use Rattle.lsp_server.specs.Step.{ServerData, Step, step_in, content_change_from_data, session_encoding}
 use Rattle.lsp_replay.proofs.Records.StateLemmas.{step_by}
 use Rattle.lsp_replay.proofs.Reports.KeptLemmas.{heard_table}
 

@@ -1,13 +1,11 @@
 -- A change that a running server receives: what becomes of it by its plan, or by why it is refused.
-use Rattle.lsp_replay.proofs.Prelude.{arith, ◌≡◌, ◌≢◌, ◌<◌, ◌≤◌, length, ℕ, ℤ, List, map, Option, Some, None, option_map, Result, Ok, Err, IfOk, IfErr, OnOk, refl, sym, ap, ap₂, ◌∙◌, subst, length-append, LimitsData, Version, Head, reading, ChangeData, DocumentItem, StoreFault, refusal_fault, IsBodyOfPlan, IsMessageFault, IsMessageOfPlan, IsPlanOf, IsPlanOn, canonical_body, ContentChange, HasReached, IsSquashAfter, IsSquashOfPlan, SquashData, squash_of, squash_under, units_in, Encoding, Store, Running, changed, refused, did_change, incoming_of, IsNotObeyed, IsPlanOfChange, IsPlannedAs, after_commit, store_of, answer_view, ServerData, content_change_from_data, session_encoding, step_on, one_more, One, change_view, Taken, Appended, Body, TooLong as BodyIsTooLong, Canonical, canonical_change_body, canonical_of_record, change_in, Session, Judged, Verdict, answered, counted, judge_client, judged, IsBegun, IsChangeWriting, IsFramed, IsJoined, IsLonger, IsOpenAfter, IsOpenIn, IsWriting, refusal_of, server_after, judge_at, IsChangeWitnessed, IsHeard, IsShown, IsTaken, IsTakenAs, accepted_if, accepted_of, ranged_read, received_of, IsAppended, verdict_view, common_steps}
+use Rattle.lsp_replay.proofs.Prelude.{arith, ◌≡◌, ◌≢◌, ◌<◌, ◌≤◌, length, ℕ, ℤ, List, map, Option, Some, None, option_map, Result, Ok, Err, IfOk, IfErr, refl, sym, ap, ap₂, ◌∙◌, subst, length-append, LimitsData, Version, Head, reading, ChangeData, DocumentItem, StoreFault, refusal_fault, IsMessageFault, IsMessageOfPlan, IsPlanOf, IsPlanOn, canonical_body, ContentChange, HasReached, IsSquashAfter, IsSquashOfPlan, SquashData, squash_of, squash_under, units_in, Encoding, Store, Running, changed, refused, did_change, incoming_of, IsPlanOfChange, IsPlannedAs, after_commit, store_of, ServerData, content_change_from_data, session_encoding, one_more, One, change_view, Taken, Appended, Body, Canonical, canonical_change_body, canonical_of_record, change_in, Session, Judged, Verdict, answered, counted, judge_client, judged, IsBegun, IsChangeWriting, IsFramed, IsJoined, IsLonger, IsOpenAfter, IsOpenIn, IsWriting, refusal_of, server_after, judge_at, IsChangeWitnessed, IsHeard, IsShown, IsTaken, IsTakenAs, accepted_if, accepted_of, ranged_read, received_of, IsAppended, verdict_view, common_steps}
 use Rattle.std.proofs.lemmas.Option.{none-some}
 use Rattle.std.specs.declared.alloc.AllocError.{AllocError}
 use Rattle.lsp_store.specs.declared.fault.StoreFault.TheVariants.{NoMemory}
 use Rattle.lsp_store.specs.declared.store.plan.Plan.{Plan}
 use Rattle.lsp_store.specs.Opened.{StoreData}
 use Rattle.lsp_store.specs.Table.{Refusal, changed as changed_entry, entry_at}
-use Rattle.lsp_server.specs.declared.answer.Answer.{Answer}
-use Rattle.lsp_server.specs.declared.answer.Answer.TheVariants.{Changed, Dropped, Exit, Ignored, Refused, Reply}
 use Rattle.lsp_server.specs.declared.planned.PlannedChange.{PlannedChange}
 use Rattle.lsp_replay.specs.declared.session.joining.Joiner.{Joiner}
 use Rattle.lsp_replay.specs.declared.session.joining.Writing.{Writing}
