@@ -1,6 +1,7 @@
 -- The facts of a record, what is known after it, and the output of `trace` and `check --explain` from the record on.
 use Rattle.lsp_replay.proofs.Prelude.{arith, common_steps, ◌≡◌, ◌≢◌, ℕ, Bool, List, ◌∷◌, option_map, string_bytes, refl, sym, ap, ap₂, ◌∙◌, reading, change_view, ChangeData, IncomingData, incoming_of, ServerData, Head, Sender, Client, Server, Version, Record, Facts, Taken, written_first, change_in, writes, rare_notes, Known, LineView, is_renamed, is_strict_refusal, known_after, last_in, lines, uri_of, is_mention, notes_if, notes_of, ranged_after, Session, bad, encoding_for, judge, judge_from, BodyData, body_read, AreFacts, IsAbout, IsLearned, known_by, saved_in, judge_at, IsTaken, ranged_read, ranged_with, verdict_view, output_in, notification_params, None, Option, Some, [], lengths_of, learned, notes_on, is_some, ◌⊎◌, on_client}
 use Rattle.lsp_replay.specs.declared.facts.About.{About}
+use Rattle.lsp_replay.proofs.Canonical.CanonicalLogLemmas.{heard_as}
 use Rattle.lsp_replay.proofs.Records.OutputLemmas.{output_after, unless_not}
 use Rattle.lsp_replay.proofs.Reports.OpeningLemmas.{on_side}
 use Rattle.lsp_replay.proofs.Reports.ReasonLemmas.{mention_at, strict_at}

@@ -1,12 +1,15 @@
 -- The open series of a log that is squashed, and the records that are written of it.
-use Rattle.lsp_replay.proofs.Prelude.{Bool, List, None, Option, Some, [], ap, arith, bytes_eq, false, length, nat_lt, refl, subst, sym, true, ℕ, ◌++◌, ◌∙◌, ◌∷◌, ◌≡◌, ◌≢◌, ◌≤◌, cases_Bool, ltb-false, common_steps, written_is_frame, place_after, frame, AreInRange, LimitsData, due_after, Record, mark_of, Client, Version, reading, ChangeData, DocumentItem, canonical_change_body, front_of, line_if, Session, answered, bad, judge, OpenSeries, change_output, end_bytes, joined_by, longer, open_bytes, squash_step, changed, incoming_of, ServerData, session_encoding, Running, change_body, SquashData, squash_batch, squash_body, squash_of, squash_refusal, Refusal, entry_at}
+use Rattle.lsp_replay.proofs.Prelude.{Bool, List, None, Option, Some, [], ap, arith, bytes_eq, false, length, nat_lt, refl, subst, sym, true, ℕ, ◌++◌, ◌∙◌, ◌∷◌, ◌≡◌, ◌≢◌, ◌≤◌, cases_Bool, ltb-false, common_steps, written_is_frame, place_after, frame, AreInRange, LimitsData, due_after, Record, mark_of, Client, Version, reading, ChangeData, DocumentItem, canonical_change_body, front_of, line_if, Session, answered, bad, judge, OpenSeries, change_output, end_bytes, joined_by, longer, open_bytes, squash_step, changed, incoming_of, ServerData, session_encoding, Running, change_body, SquashData, squash_batch, squash_body, squash_of, squash_refusal, Refusal, entry_at, if◌then◌else◌, is_none, squash_frame}
 use Rattle.lsp_replay.proofs.Canonical.CanonicalChangeLemmas.{IsCanonicalChange, canonical_at, canonical_change}
 use Rattle.lsp_replay.proofs.Records.ChangeLemmas.{IsAccepted, IsDone, is_done}
 use Rattle.lsp_replay.proofs.Records.NumberedLemmas.{IsAlike, alike_both}
 use Rattle.lsp_replay.proofs.Squash.OpenSeriesLemmas.{IsOpenFrom, one_batch, one_message, one_joins}
 use Rattle.lsp_replay.proofs.Squash.SquashLawLemmas.{IsApart, IsEnded, IsRun, no_run, one_run}
-use Rattle.lsp_replay.specs.inside.Squashed.{open_written}
 use Rattle.lsp_replay.proofs.Squash.SquashingLemmas.{step_changed}
+
+-- The bytes of a series, by whether its one message is possible.
+abbrev bytes_by : OpenSeries → Option Refusal → List ℕ
+bytes_by series refusal = if is_none refusal then series.front ++ squash_frame series.squash else series.singles
 
 -- The records that are written of an open series, if it isn't written as one message: they lead to the same series.
 pub record IsPending (max_body at : ℕ) (version : Version) (due : Bool) (s : Session) (series : OpenSeries)
@@ -91,7 +94,7 @@ module _ (limits : LimitsData) (ranges : AreInRange limits) (at : ℕ) (version 
     same_bytes = refl;
     apart = λ uri apart. apart;
     run = subst (λ (b : List ℕ). IsRun limits.max_body at version due t before p.us b (end_bytes before) p.last
-        (Some series)) (sym (ap (open_written series) is)) p.singles;
+        (Some series)) (sym (ap (bytes_by series) is)) p.singles;
     same_due = not_due ∙ sym p.line;
   }
 
@@ -187,7 +190,7 @@ module _ (limits : LimitsData) (ranges : AreInRange limits) (at : ℕ) (version 
       run =
           subst (λ (b : List ℕ). IsRun limits.max_body at version due t before (one ∷ []) b (end_bytes before)
           (judge t one).session (Some one_series))
-          (sym (ap (open_written series) is ∙ ap (λ (f : List ℕ). f ++ frame body) p.front))
+          (sym (ap (bytes_by series) is ∙ ap (λ (f : List ℕ). f ++ frame body) p.front))
           (one_run limits.max_body at version due t before one (record {
             is_frame_of = written_is_frame limits.max_body body within (omega (arith, within, ranges.greatest_body));
             side = λ e. refl;

@@ -1,5 +1,5 @@
 -- What `normalise` writes with squash: a series by its changes, and by the bytes that the code keeps of it.
-use Rattle.lsp_replay.proofs.Prelude.{Bool, List, None, Option, Some, [], ap, append-nil, arith, bytes_eq, false, length, map, nat_lt, refl, subst, sym, true, ℕ, ◌++◌, ◌∙◌, ◌∷◌, ◌≡◌, common_steps, flat_map-append, Err, flat_map, option_map, frame, Record, reading, ChangeData, DocumentItem, RecordOutput, canonical_change_body, canonical_if, change_in, ends, followed_by, front_of, line_if, log_config, output_in, unless_bad, writes, written, RunOutput, Session, Verdict, answered, bad, judge, opened, session_outcome, SeriesChange, change_if, change_on, joined, series_after, series_written, squash_output, squashed, squashing, Settings, OpenSeries, Step, begun, begun_on, change_output, end_bytes, faulty, joined_by, longer, open_bytes, other_step, squash_step, squashed_in, squashed_steps, step_if, changed, reply, incoming_of, content_change_from_data, session_encoding, change_parts, SquashData, entry_at, BadLog, BodyTooLong, units_in}
+use Rattle.lsp_replay.proofs.Prelude.{if◌then◌else◌, Bool, List, None, Option, Some, [], ap, append-nil, arith, bytes_eq, false, length, map, nat_lt, refl, subst, sym, true, ℕ, ◌++◌, ◌∙◌, ◌∷◌, ◌≡◌, common_steps, flat_map-append, Err, flat_map, option_map, frame, Record, reading, ChangeData, DocumentItem, RecordOutput, canonical_change_body, canonical_if, change_in, ends, followed_by, front_of, line_if, log_config, output_in, unless_bad, writes, written, RunOutput, Session, Verdict, answered, bad, judge, opened, session_outcome, SeriesChange, change_if, change_on, joined, series_after, series_written, squash_output, squashed, squashing, Settings, OpenSeries, Step, begun, begun_on, change_output, end_bytes, faulty, joined_by, longer, open_bytes, other_step, squash_step, squashed_in, squashed_steps, step_if, changed, reply, incoming_of, content_change_from_data, session_encoding, change_parts, SquashData, entry_at, BadLog, BodyTooLong, units_in}
 use Rattle.lsp_replay.proofs.Records.ChangeLemmas.{was_accepted}
 
 -- ---- a series
