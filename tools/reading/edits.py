@@ -38,9 +38,14 @@ class Function:
 
     @property
     def owner(self):
-        """The type whose method it is, or nothing."""
+        """The type whose method it is, by the prover's name, or nothing. A type without a name is Unit, Tuple2 and so on, or Slice."""
         named = re.sub(r" where\b.*| \{$", "", self.block).rpartition(" for ")[2]
-        return re.findall(r"\w+", named)[-1] if named else ""
+        if named.startswith("("):
+            return "Unit" if named == "()" else f"Tuple{named.count(',') + 1}"
+        if "[" in named:
+            return "Slice"
+        last = re.findall(r"\w+", named)[-1] if named else ""
+        return last[:1].upper() + last[1:]
 
     def may_call(self, other):
         """Returns whether its body has what may be a call of another function, by that one's name, or by its operator."""

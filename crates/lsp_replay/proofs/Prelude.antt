@@ -75,14 +75,14 @@ pub use Rattle.lsp_message.specs.declared.outgoing.ErrorCode.TheVariants.{Invali
 pub use Rattle.lsp_message.specs.laws.Sent.{IsProperDocument, IsProperId}
 pub use Rattle.lsp_replay.specs.AllRecords.{IsCause, IsObserved, RanOver, is_cut_off, last_if}
 pub use Rattle.lsp_replay.specs.Commands.{RecordOutput, View, as_converted, as_log, canonical_change_body, canonical_if, canonical_log, canonical_of_record, canonical_output, change_in, check_line, checking, code_word, converted, converting, document_line, ends, followed_by, front_of, line_before, line_if, log_config, normalising, output_in, replaying, reply_record, report, report_from, serving, unless_bad, verdict_word, writes, written}
-pub use Rattle.lsp_replay.specs.Compared.{comparing, comparing_after, if_ends_so, learned, listed, splice_at, splice_of, splices_after, splices_from, splices_in}
+pub use Rattle.lsp_replay.specs.Compared.{comparing, if_ends_so, learned, listed, splice_at, splice_of, splices_from, splices_in}
 pub use Rattle.lsp_replay.specs.Counts.{rare_note, rare_notes, tallied_notes}
-pub use Rattle.lsp_replay.specs.Documents.{KeepsDocuments, Kept, Selection, WroteDocuments, after_kept, after_left_out, documents, is_answer_to, is_due, kept_first, kept_in, kept_records, message_stays, nothing_selected, output_of_kept, record_stays, waiting_after, with_due, with_line}
+pub use Rattle.lsp_replay.specs.Documents.{KeepsDocuments, Kept, Selection, after_kept, after_left_out, documents, is_answer_to, is_due, kept_first, kept_in, kept_records, message_stays, nothing_selected, output_of_kept, record_stays, waiting_after, with_due, with_line}
 pub use Rattle.lsp_replay.specs.Engine.{Called, FewCalls, NonePassedOver, PortState, WroteRecords, all_of, last_of, state_of}
-pub use Rattle.lsp_replay.specs.Explained.{Seen, explained_line, explaining, listed_line, listed_notes, noted_uri, saved_in, seen_in}
-pub use Rattle.lsp_replay.specs.Lines.{Known, LineView, is_renamed, is_strict_refusal, known_after, last_in, lines, nothing_known, uri_of}
+pub use Rattle.lsp_replay.specs.Explained.{explained_line, explaining, listed_line, noted_uri, saved_in}
+pub use Rattle.lsp_replay.specs.Lines.{FactsData, Known, LineView, facts_of, is_renamed, is_strict_refusal, known_after, last_in, lines, nothing_known, uri_of}
 pub use Rattle.lsp_replay.specs.Mentions.{Mention, is_mention, last_for, last_record, mentioned, most_mentions, without}
-pub use Rattle.lsp_replay.specs.Notes.{Terms, batch_notes, change_notes, change_words, differing_line, has_lone_return, left_by, note_words, notes_after, notes_from, notes_if, notes_of, notes_on, notes_words, past_words, ranged_after, replaced_by, side_words, taken_as}
+pub use Rattle.lsp_replay.specs.Notes.{Terms, batch_notes, change_notes, differing_line, has_lone_return, if_left, left_by, note_words, notes_from, notes_if, notes_of, notes_on, notes_words, past_words, ranged_after, replaced_by, side_words, taken_as}
 pub use Rattle.lsp_replay.specs.Openings.{OpeningsData, listing_openings, no_openings, opened_if, opened_in, opening_words, openings_after, uri_opened}
 pub use Rattle.lsp_replay.specs.Parts.{Found, PartData, found_after, found_if, is_last, is_named, last_text, last_text_in, none_found, only, part_bytes, part_data, part_outcome, part_step, refreshed, replaying_part, text_found, with_ending}
 pub use Rattle.lsp_replay.specs.Reasons.{edit_reason, end_words, error_reason, idle_words, is_idle, position_words, range_sent, reason_words, renamed_words, store_reason, version_words}
@@ -91,7 +91,7 @@ pub use Rattle.lsp_replay.specs.RunOutput.{RunOutput, stopped, written_first}
 pub use Rattle.lsp_replay.specs.Session.{Judged, Session, Verdict, answered, bad, count_if, counted, encoding_for, encoding_in, expected_of, handled, has_changed, is_change, is_early, is_ended, is_new, is_refused, is_running, judge, judge_client, judge_from, judge_server, judged, opened, recorded, result_for, same_id, session_outcome}
 pub use Rattle.lsp_replay.specs.Squashed.{SeriesChange, change_if, change_on, joined, normalised, normalised_if, series_after, series_written, squash_output, squashed, squashing}
 pub use Rattle.lsp_replay.specs.Tallies.{Tally, count_of, has_repeated, raised, tallied, tally_words}
-pub use Rattle.lsp_replay.specs.Trace.{body_json, document_after, first_members, id_json, id_of, is_json, json_string, last_members, member, method_of, notes_json, one_line, reason_json, side_word, text_json, trace_line, tracing, version_json, within}
+pub use Rattle.lsp_replay.specs.Trace.{body_json, document_after, facts_members, first_members, id_json, id_of, is_json, json_string, last_members, member, method_of, notes_json, one_line, reason_json, side_word, text_json, trace_line, tracing, version_json, within}
 pub use Rattle.lsp_replay.specs.declared.commands.Settings.{Settings}
 pub use Rattle.lsp_replay.specs.declared.commands.explained.Listing.{Listing}
 pub use Rattle.lsp_replay.specs.declared.commands.traced.Details.{Details}
@@ -102,24 +102,21 @@ pub use Rattle.lsp_replay.specs.declared.session.Taken.{Taken}
 pub use Rattle.lsp_replay.specs.declared.session.canonical.Appended.{Appended}
 pub use Rattle.lsp_replay.specs.declared.session.canonical.Appended.TheVariants.{Body, TooLong}
 pub use Rattle.lsp_replay.specs.declared.session.canonical.Canonical.{Canonical}
-pub use Rattle.lsp_replay.specs.inside.Bodies.{BodyData, IsChangeTaken, IsReceived, body_read, body_view, from_client, from_server, judge_read}
+pub use Rattle.lsp_replay.specs.inside.Bodies.{BodyData, IsChangeTaken, IsReceived, body_read, body_view, from_client, from_server, judge_at, judge_read, on_client}
 pub use Rattle.lsp_replay.specs.inside.Commands.{run_output_in}
 pub use Rattle.lsp_replay.specs.inside.Engine.{BothSpend, CallsSoFar, HasWritten, IsAnswer, IsEndCause, IsEndWritten, IsLoopRun, IsProgress, Ran, RefusesInput, RunStart, Runs, reading_by, start_at}
-pub use Rattle.lsp_replay.specs.inside.Facts.{AreFacts, IsAbout, IsLearned, canonical_json, explained_by, is_change_read, known_by, members_by, noted_by, reason_of, saved_read, uri_read}
+pub use Rattle.lsp_replay.specs.inside.Facts.{AreFacts, IsAbout, IsLearned, canonical_json, facts_view, known_by}
 pub use Rattle.lsp_replay.specs.inside.Joining.{IsBegun, IsChange, IsChangeWriting, IsFramed, IsJoined, IsLonger, IsOpenAfter, IsOpenIn, IsOther, IsWriting, refusal_of, server_after}
 pub use Rattle.lsp_replay.specs.inside.Kept.{closed_by, kept_after, text_at, text_closed}
-pub use Rattle.lsp_replay.specs.inside.Noting.{notes_on_read, terms_view}
-pub use Rattle.lsp_replay.specs.inside.Openings.{open_read}
 pub use Rattle.lsp_replay.specs.inside.Parts.{found_now}
-pub use Rattle.lsp_replay.specs.inside.Piped.{IsAdmitted, once_written, piped, written_due}
+pub use Rattle.lsp_replay.specs.inside.Piped.{IsAdmitted, piped}
 pub use Rattle.lsp_replay.specs.inside.RunOutput.{IsFaultAt, IsQuiet, IsRecordFault, after, output_of}
-pub use Rattle.lsp_replay.specs.inside.Session.{judge_at}
 pub use Rattle.lsp_replay.specs.inside.Squashed.{IsSquashStep, OpenSeries, Squashing, Step, begun, begun_on, change_output, end_bytes, faulty, joined_by, longer, open_bytes, other_step, series_of, squash_step, squash_view, squashed_in, squashed_steps, step_at, step_if}
 pub use Rattle.lsp_replay.specs.inside.Taken.{IsChangeWitnessed, IsHeard, IsShown, IsTaken, IsTakenAs, accepted_if, accepted_of, ranged_read, ranged_with, received_of}
-pub use Rattle.lsp_replay.specs.inside.Verdicts.{IsAppended, verdict_view}
+pub use Rattle.lsp_replay.specs.inside.Verdicts.{IsAppended, terms_view, verdict_view}
 pub use Rattle.lsp_replay.specs.laws.JsonLines.{AreJsonLines, IsJsonLine, TraceJsonLaw, body_value, document_value, id_value, integer, member_if, members_with, natural, notes_value, reason_value, text_value, trace_value, unless_bad_value, values_from}
 pub use Rattle.lsp_replay.specs.laws.Traced.{Line, TraceLaw, checked_line, is_document, traced_line, written_text}
-pub use Rattle.lsp_replay.specs.laws.Written.{AreRepliesWithin, CanonicalLogLaw, ConvertedLaw, IsCanonicalLog, IsConverted, IsReplyWithin, IsSquashed, LeavesAlike, ReportLaw, SquashedLaw, StopsAlike, Wrote}
+pub use Rattle.lsp_replay.specs.laws.Written.{AreRepliesWithin, CanonicalLogLaw, ConvertedLaw, IsCanonicalLog, IsConverted, IsReplyWithin, IsReported, IsSquashed, LeavesAlike, ReportLaw, SquashedLaw, StopsAlike, Wrote}
 pub use Rattle.lsp_server.proofs.EditLemmas.{edits_back}
 pub use Rattle.lsp_server.specs.Answer.{AnswerData, Sent, already_ended, as_sent, changed, dropped, exits, ignored, refused, reply, sent_reply}
 pub use Rattle.lsp_server.specs.Incoming.{IncomingData, did_change, did_close, did_open, exit, incoming_by, incoming_of, initialize, not_a_message, not_json, other_notification, other_request, response, shutdown}

@@ -8,5 +8,4 @@ pub mod SquashedLemmas
 pub mod SquashedLogLemmas
 pub mod SquashingLemmas
 pub mod SquashLawLemmas
-pub mod BegunLemmas
-pub mod LongerLemmas
+pub mod StepLemmas

@@ -60,15 +60,10 @@ unless_bad r verdict given = given
 -- ---- `serve`: each reply as it comes, up to `exit`
 
 -- A reply is written, and `exit` ends the run with its status.
-abbrev pub served : Session → AnswerData Sent → RecordOutput
-served s (reply m) = writes m.frame
-served s (exits status)
-    = ends [] (Ok (record (session_outcome s) { status = status }))
-served s answer = writes []
-
--- The same by the judgement of a record. Only a client's record is answered.
 abbrev pub serve_output : Session → Verdict → RecordOutput
-serve_output s (answered answer) = served s answer
+serve_output s (answered (reply m)) = writes m.frame
+serve_output s (answered (exits status))
+    = ends [] (Ok (record (session_outcome s) { status = status }))
 serve_output s verdict = writes []
 
 -- If the input ends without `exit`, the status is 1.

@@ -9,8 +9,8 @@ use Rattle.lsp_replay.specs.Commands.{View, log_config, output_in, unless_bad, w
 use Rattle.lsp_replay.specs.Lines.{uri_of}
 use Rattle.lsp_replay.specs.Parts.{lacking}
 use Rattle.lsp_replay.specs.Run.{Engine, log_engine}
-use Rattle.lsp_replay.specs.Notes.{left_by}
-use Rattle.lsp_replay.specs.Session.{Session, Judged, Verdict, answered, opened, session_outcome}
+use Rattle.lsp_replay.specs.Notes.{if_left, left_by}
+use Rattle.lsp_replay.specs.Session.{Session, Verdict, answered, opened, session_outcome}
 
 -- A URI, if it ends so.
 abbrev pub if_ends_so : List ℕ → Option (List ℕ) → Option (List ℕ)
@@ -37,17 +37,12 @@ abbrev pub listed : Option Splice → List Splice
 listed None = []
 listed (Some splice) = splice ∷ []
 
--- The parts for what comes after a change, if the change leaves a text.
-abbrev pub splices_after : (List ℕ → List Splice) → Option (List ℕ) → List Splice
-splices_after rest None = []
-splices_after rest (Some text) = rest text
-
 -- The parts that changes replace, each in the text that the one before it leaves.
 abbrev pub splices_from : (ℕ → ℕ) → List ℕ → List ContentChangeData → List Splice
 splices_from units text [] = []
 splices_from units text (change ∷ changes) =
     listed (splice_of units text change)
-    ++ splices_after (λ next. splices_from units next changes)
+    ++ if_left (λ next. splices_from units next changes)
     (left_by units text (content_change_from_data change))
 
 -- Those of a message, on a document that may be open.
@@ -78,12 +73,6 @@ learned splices (Some uri) (answered (refused refusal)) s c =
     refused_by s.records uri (server_refusal_code refusal) c
 learned splices uri verdict s c = c
 
--- `s` is the session before it.
-abbrev pub comparing_after : ComparisonData → Session → Record → Judged → ComparisonData
-comparing_after c s r j =
-    learned (splices_in c.ending s.server (incoming_of (reading r.body)))
-    (if_ends_so c.ending (uri_of r.head.side (incoming_of (reading r.body)))) j.verdict j.session c
-
 -- The status is 0 if the texts are equal, byte for byte, whatever was refused.
 abbrev pub compared_outcome : Option Bool → Outcome → Outcome
 compared_outcome None outcome = lacking missing.Document outcome
@@ -93,7 +82,10 @@ compared_outcome (Some equal) outcome = record outcome { status = (if equal then
 abbrev pub comparing : View ComparisonData
 comparing = record {
   record_output = λ c s r j. unless_bad r j.verdict (writes []);
-  next = λ c s r j. comparing_after c s r j;
+  next = λ c s r j.
+      learned (splices_in c.ending s.server (incoming_of (reading r.body)))
+      (if_ends_so c.ending (uri_of r.head.side (incoming_of (reading r.body)))) j.verdict
+      j.session c;
   end_output = λ c s line_due. comparison_words c;
   outcome = λ c s. compared_outcome (equality c.document c.second c.file) (session_outcome s);
 }

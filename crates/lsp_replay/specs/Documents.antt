@@ -1,12 +1,12 @@
 -- `normalise` of the records that are about the session and the documents' texts: all others are
 -- left out (LSP 3.17, Lifecycle Messages, Text Document Synchronization).
 use Rattle.std.specs.Prelude.{◌≡◌, ◌||◌, if◌then◌else◌, ◌∷◌}
-use Rattle.lsp_replay.specs.Prelude.{ℕ, Bool, true, false, not, List, [], Option, Some, None, codes, Result, IfOk, Consumes, Appends, bytes_eq, IdData, Reading, reading, Phase, IncomingData, response, initialize, shutdown, other_request, other_notification, incoming_of, EngineFault, Ports, Sender, Head, Record, Log, IsReadAs, Settings, Outcome}
+use Rattle.lsp_replay.specs.Prelude.{ℕ, Bool, true, false, not, List, [], Option, Some, None, codes, Result, IfOk, bytes_eq, IdData, Reading, reading, Phase, IncomingData, response, initialize, shutdown, other_request, other_notification, incoming_of, EngineFault, Ports, Sender, Head, Record, Settings, Outcome}
 use Rattle.lsp_message.specs.Message as read
 use Rattle.lsp_log.specs.declared.record.Sender.TheVariants.{Client, Server}
 use Rattle.lsp_replay.specs.RunOutput.{RunOutput}
-use Rattle.lsp_replay.specs.Commands.{as_log, log_config, report}
-use Rattle.lsp_replay.specs.laws.Written.{LeavesAlike}
+use Rattle.lsp_replay.specs.Commands.{log_config, report}
+use Rattle.lsp_replay.specs.laws.Written.{LeavesAlike, Wrote}
 use Rattle.lsp_replay.specs.Run.{Engine, log_engine}
 use Rattle.lsp_replay.specs.Session.{Session, is_ended, is_running, judge, opened, same_id}
 use Rattle.lsp_replay.specs.Squashed.{normalised}
@@ -136,24 +136,8 @@ pub record KeepsDocuments (settings : Settings) (records : List Record) (outcome
   pub refused : outcome.refused ≡ (report settings records).outcome.refused
   pub leaves : LeavesAlike settings records bytes
 
--- The engine came to the end of a log, and wrote bytes of which that holds.
-pub record WroteDocuments (settings : Settings)
-    (left_old left_new received_old received_new : Option (List ℕ))
-    (outcome : Outcome) : Type 0 where
-  -- the bytes that were read
-  pub input : List ℕ
-  pub read : Consumes left_old left_new input
-  -- they are this log, records and nothing else
-  pub log : Log
-  pub reads : IsReadAs (as_log settings) input log
-  pub whole : log.rest ≡ []
-  -- the output
-  pub bytes : List ℕ
-  pub wrote : Appends received_old received_new bytes
-  pub keeps : KeepsDocuments settings log.records outcome bytes
-
 -- If the engine has an outcome, it wrote bytes of which that holds.
 abbrev pub WritesDocuments : Settings → Ports → Ports → Result Outcome EngineFault → Type 0
 WritesDocuments settings before after result =
-    IfOk result (WroteDocuments settings before.reader.left after.reader.left before.writer.written
-    after.writer.written)
+    IfOk result (Wrote settings (KeepsDocuments settings) before.reader.left after.reader.left
+    before.writer.written after.writer.written)

@@ -1,13 +1,13 @@
 -- `check --explain`: a line of `check` for each record, with the reason where it was refused and
 -- the notes where it is suspicious; at the end what came how often, and what to do next.
 use Rattle.std.specs.Prelude.{◌==◌, ◌&&◌, ◌||◌, ◌∷◌, ◌++◌, if◌then◌else◌}
-use Rattle.lsp_replay.specs.Prelude.{ℕ, Bool, false, not, List, [], Option, Some, None, codes, decimal, LimitsData, is_save, notification_params, reading, ChangeData, IncomingData, incoming_of, other_notification, Sender, Record, Settings, Listing, Note, Data}
+use Rattle.lsp_replay.specs.Prelude.{ℕ, Bool, false, not, List, [], Option, Some, None, codes, decimal, LimitsData, is_save, notification_params, reading, IncomingData, incoming_of, other_notification, Sender, Record, Settings, Listing, Note, Data}
 use Rattle.lsp_log.specs.declared.record.Sender.TheVariants.{Client}
 use Rattle.lsp_replay.specs.RunOutput.{RunOutput}
-use Rattle.lsp_replay.specs.Commands.{change_in, log_config, output_in, verdict_word}
+use Rattle.lsp_replay.specs.Commands.{log_config, output_in, verdict_word}
 use Rattle.lsp_replay.specs.Counts.{Counts, counts_words, rare_notes}
 use Rattle.lsp_replay.specs.Tallies.{has_repeated, has_tallies}
-use Rattle.lsp_replay.specs.Lines.{Known, LineView, has_notes, is_renamed, last_in, lines, nothing_known, uri_of}
+use Rattle.lsp_replay.specs.Lines.{FactsData, Known, LineView, facts_of, has_notes, lines, nothing_known, uri_of}
 use Rattle.lsp_replay.specs.Notes.{notes_of, notes_words, saved_uri}
 use Rattle.lsp_replay.specs.Reasons.{reason_words, renamed_words}
 use Rattle.lsp_replay.specs.Run.{Engine, log_engine}
@@ -28,20 +28,12 @@ abbrev pub see_words : Option ℕ → List ℕ
 see_words None = []
 see_words (Some number) = codes "; see message " ++ decimal number
 
--- What is known of the document of a record that is refused.
-pub record Seen : Type 0 where
-  -- may it be another one under a new name?
-  pub renamed : Bool
-  -- the record to look at
-  pub last : Option ℕ
-
--- What comes after the word of a record that counts as refused, by its document, the change that it
--- asks for, and what is known of the document.
-abbrev pub explanation : LimitsData → Option (List ℕ) → Option ChangeData → Seen → Verdict → List ℕ
-explanation limits uri change seen (answered answer) = if is_refused answer then
-    document_words uri ++ codes ": " ++ reason_words limits change answer
-    ++ renamed_words seen.renamed ++ see_words seen.last else []
-explanation limits uri change seen verdict = []
+-- What comes after the word of a record that counts as refused.
+abbrev pub explanation : LimitsData → FactsData → Verdict → List ℕ
+explanation limits f (answered answer) = if is_refused answer then
+    document_words f.uri ++ codes ": " ++ reason_words limits f.change answer
+    ++ renamed_words f.renamed ++ see_words f.last else []
+explanation limits f verdict = []
 
 -- The document whose text was saved, of an editor's message.
 abbrev pub saved_in : Sender → IncomingData → Option Data → Option (List ℕ)
@@ -68,32 +60,23 @@ abbrev pub is_listed : Listing → Verdict → List Note → Bool
 is_listed listing verdict notes = not listing.brief || (refuses verdict || has_notes notes)
 
 -- The line of a record with these notes on it. They are about the document `noted`.
-abbrev pub line_with : LimitsData → ℕ → Option (List ℕ) → Option (List ℕ) → Option ChangeData
-    → Seen → Verdict → List Note → List ℕ
-line_with limits number uri noted change seen verdict notes =
-    decimal number ++ codes " " ++ verdict_word verdict
-    ++ explanation limits uri change seen verdict ++ remark noted notes ++ codes "\n"
+abbrev pub line_with : LimitsData → FactsData → Option (List ℕ) → List Note → List ℕ
+line_with limits f noted notes =
+    decimal f.number ++ codes " " ++ verdict_word f.verdict ++ explanation limits f f.verdict
+    ++ remark noted notes ++ codes "\n"
 
 -- The same, unless the record has none.
-abbrev pub listed_line : Listing → LimitsData → ℕ → Option (List ℕ) → Option (List ℕ)
-    → Option ChangeData → Seen → Verdict → List Note → List ℕ
-listed_line listing limits number uri noted change seen verdict notes =
-    if is_listed listing verdict notes
-    then line_with limits number uri noted change seen verdict notes else []
-
--- What is known of the document of a record.
-abbrev pub seen_in : Known → Option (List ℕ) → Verdict → Seen
-seen_in known uri verdict =
-    record { renamed = is_renamed known uri verdict; last = last_in known uri verdict }
+abbrev pub listed_line : Listing → LimitsData → FactsData → Option (List ℕ) → List Note → List ℕ
+listed_line listing limits f noted notes =
+    if is_listed listing f.verdict notes then line_with limits f noted notes else []
 
 -- A line of `check --explain`, from what is known of the records before, the session before the
 -- record and the judgement of it. `m` is what the record's body asks.
 abbrev pub explained_line : Listing → Known → Session → Record → Judged → IncomingData → List ℕ
 explained_line listing known s r j m =
-    listed_line listing j.session.server.config.limits j.session.records (uri_of r.head.side m)
+    listed_line listing j.session.server.config.limits (facts_of known s r j m)
     (noted_uri (uri_of r.head.side m)
     (saved_in r.head.side m (notification_params (reading r.body))))
-    (change_in m) (seen_in known (uri_of r.head.side m) j.verdict) j.verdict
     (listed_notes listing known.counts (notes_of s known.ranged r.body j.verdict))
 
 -- ---- what to do next, after so many refusals

@@ -1,14 +1,14 @@
 -- The commands that write a line for each record by what is known of the records before it: `trace`
 -- and `check --explain`.
 use Rattle.std.specs.Prelude.{◌&&◌, ◌||◌, if◌then◌else◌, ◌∷◌}
-use Rattle.lsp_replay.specs.Prelude.{ℕ, Bool, true, false, not, List, [], Option, Some, None, is_none, reading, ChangeData, AlreadyOpen, NotOpen, StaleVersion, refused, IncomingData, did_open, did_change, did_close, incoming_of, Store, Head, Sender, Record, Note}
+use Rattle.lsp_replay.specs.Prelude.{ℕ, Bool, true, false, not, List, [], Option, Some, None, is_none, is_some, reading, ChangeData, AlreadyOpen, NotOpen, StaleVersion, refused, IncomingData, did_open, did_change, did_close, incoming_of, Store, Head, Sender, Record, Note}
 use Rattle.lsp_log.specs.declared.record.Sender.TheVariants.{Client}
 use Rattle.lsp_replay.specs.Commands.{View, change_in, unless_bad, writes}
 use Rattle.lsp_replay.specs.Counts.{Counts, counts_after, nothing_counted}
 use Rattle.lsp_replay.specs.Mentions.{Mention, is_mention, last_for, last_record, mentioned}
 use Rattle.lsp_replay.specs.Notes.{notes_of, ranged_after}
 use Rattle.lsp_replay.specs.Reasons.{is_empty, is_idle}
-use Rattle.lsp_replay.specs.Session.{Session, Judged, Verdict, answered, has_changed, is_change, session_outcome}
+use Rattle.lsp_replay.specs.Session.{Session, Judged, Verdict, answered, has_changed, session_outcome}
 
 -- The document that a record of one side is about: the URI in valid parameters of an editor's
 -- message.
@@ -68,7 +68,7 @@ is_strict_refusal change verdict = is_open_already verdict || is_stale_refusal v
 -- What is known after a record with this head and body, by the session before it.
 abbrev pub known_after : Known → Session → Head → List ℕ → Judged → Known
 known_after known s head body j = record {
-  mentions = mentioned (is_mention (is_change (incoming_of (reading body))) j.verdict)
+  mentions = mentioned (is_mention (is_some (change_in (incoming_of (reading body)))) j.verdict)
       (uri_of head.side (incoming_of (reading body))) j.session.records known.mentions;
   made = mentioned (has_changed j.verdict) (uri_of head.side (incoming_of (reading body)))
       j.session.records known.made;
@@ -95,6 +95,33 @@ is_new_name made (Some uri) = is_none (last_record uri made) && not (is_empty ma
 -- Its editor may have renamed a document: it isn't open, and none of its name was.
 abbrev pub is_renamed : Known → Option (List ℕ) → Verdict → Bool
 is_renamed known uri verdict = is_not_open verdict && is_new_name known.made uri
+
+-- What a line says of a record.
+pub record FactsData : Type 0 where
+  pub number : ℕ
+  pub verdict : Verdict
+  -- the document that it is about
+  pub uri : Option (List ℕ)
+  -- the change that it asks for
+  pub change : Option ChangeData
+  -- may its document be another one under a new name?
+  pub renamed : Bool
+  -- the record to look at
+  pub last : Option ℕ
+  pub notes : List Note
+
+-- By what is known of the records before, the session before the record and the judgement of it. `m`
+-- is what the record's body asks.
+abbrev pub facts_of : Known → Session → Record → Judged → IncomingData → FactsData
+facts_of known s r j m = record {
+  number = j.session.records;
+  verdict = j.verdict;
+  uri = uri_of r.head.side m;
+  change = change_in m;
+  renamed = is_renamed known (uri_of r.head.side m) j.verdict;
+  last = last_in known (uri_of r.head.side m) j.verdict;
+  notes = notes_of s known.ranged r.body j.verdict;
+}
 
 -- ---- the output
 

@@ -1,7 +1,7 @@
 -- What of a message that wasn't refused is suspicious: its notes, and their words.
 -- These are ASCII, with no quotation mark and no backslash.
 use Rattle.std.specs.Prelude.{◌&&◌, ◌||◌, ◌==◌, ◌++◌, if◌then◌else◌, ◌∷◌}
-use Rattle.lsp_replay.specs.Prelude.{ℕ, ℤ, suc, Bool, true, false, not, nat_lt, int_le, length, map, slice_get, slice_range, sum_by, encode_utf8_all, List, [], Option, Some, None, option_and_then, option_map, Result, Ok, Err, codes, decimal, flat_map, signed_decimal, bytes_eq, chars, Data, units_in, Utf16, Utf32, Position, Range, ContentChange, Fault, meaning, ends_of, Side, Start, Stop, announced_of, IdData, reading, DocumentItem, ChangeData, Announced, is_save, lengths_of, notification_params, entry_at, greatest_batch, changed, ignored, IncomingData, did_open, did_change, other_notification, incoming_of, ServerData, content_change_from_data, session_encoding, one_more, Sender, Note}
+use Rattle.lsp_replay.specs.Prelude.{ℕ, ℤ, suc, Bool, true, false, not, nat_lt, int_le, length, map, slice_get, slice_range, sum_by, encode_utf8_all, List, [], Option, Some, None, option_and_then, option_map, Result, Ok, Err, codes, decimal, flat_map, signed_decimal, bytes_eq, chars, Data, units_in, Utf16, Utf32, Position, Range, ContentChange, Fault, meaning, ends_of, Side, Start, Stop, announced_of, IdData, reading, DocumentItem, ChangeData, Announced, is_save, lengths_of, notification_params, entry_at, greatest_batch, changed, ignored, IncomingData, did_open, did_change, other_notification, incoming_of, ServerData, content_change_from_data, session_encoding, Sender, Note}
 use Rattle.std.specs.List.{list_any}
 use Rattle.std.specs.Result.{result_ok}
 use Rattle.line_diff.specs.Lines.{ends_line}
@@ -12,7 +12,7 @@ use Rattle.lsp_message.specs.declared.agreement.SyncKind.TheVariants.{Incrementa
 use Rattle.lsp_message.specs.Values.{member_at, text_in}
 use Rattle.lsp_log.specs.declared.record.Sender.TheVariants.{Client, Server}
 use Rattle.lsp_replay.specs.declared.notes.Note.TheVariants.{OpenAlready, LoneReturn, OldVersion, NoChanges, WholeText, PastEnd, WrongLength, SameText, OtherSaved}
-use Rattle.lsp_replay.specs.Reasons.{position_words}
+use Rattle.lsp_replay.specs.Reasons.{change_words, position_words}
 use Rattle.lsp_replay.specs.Session.{Session, Verdict, answered, result_for}
 
 -- ---- one change on the text before it (LSP 3.17, TextDocumentContentChangeEvent); a character `c`
@@ -103,17 +103,17 @@ left_by units text change =
     if nat_lt greatest_batch (length (encode_utf8_all change.text)) then None
     else result_ok (text_within greatest_batch text (meaning units (chars text) (change ∷ [])))
 
--- The notes of what comes after a change, if the change leaves a text.
-abbrev pub notes_after : (List ℕ → List Note) → Option (List ℕ) → List Note
-notes_after rest None = []
-notes_after rest (Some text) = rest text
+-- What comes after a change, if the change leaves a text.
+abbrev pub if_left : {A : Type 0} → (List ℕ → List A) → Option (List ℕ) → List A
+if_left rest None = []
+if_left rest (Some text) = rest text
 
 -- The notes of changes from an index on, each on the bytes that the one before it leaves.
 abbrev pub notes_from : Terms → ℕ → List ℕ → List ContentChange → List Note
 notes_from terms index text [] = []
 notes_from terms index text (change ∷ changes) =
     change_notes terms (chars text) index change
-    ++ notes_after (λ next. notes_from terms (suc index) next changes)
+    ++ if_left (λ next. notes_from terms (suc index) next changes)
     (left_by terms.units text change)
 
 -- The notes of a batch on a text.
@@ -181,25 +181,21 @@ saved_notes (Some entry) (Some saved) = if bytes_eq entry.text saved then [] els
     OtherSaved (differing_line 1 entry.text saved) ∷ []
 saved_notes entry saved = []
 
--- The notes of a notification with this method that isn't about the documents. Of a `didSave` of
--- an open document with the text "abc" the text "abc" has none, "abX" has one.
-abbrev pub saving_notes : List DocumentItem → List ℕ → Option Data → List Note
-saving_notes table method params = if is_save method then
-    saved_notes (option_and_then (entry_at table) (saved_uri params)) (saved_text params) else []
-
 -- What the notes of changes go by, in the encoding of the session.
 abbrev pub terms_in : ServerData → Bool → List (Option ℕ) → Terms
 terms_in s ranged lengths =
     record { units = units_in (session_encoding s); lengths = lengths; ranged = ranged }
 
 -- What there is to note of a message on the documents before it, unless it is refused, by the
--- `rangeLength` of its changes or its params. `ranged`: did the server ask for ranges?
+-- `rangeLength` of its changes or its params. `ranged`: did the server ask for ranges? Of a
+-- `didSave` of an open document with the text "abc" the text "abc" has none, "abX" has one.
 abbrev pub notes_on : ServerData → Bool → List (Option ℕ) → Option Data → IncomingData → List Note
 notes_on s ranged lengths params (did_open (Some p))
     = opening_notes (entry_at s.table p.uri) p.text
 notes_on s ranged lengths params (did_change (Some p))
     = changing_notes (terms_in s ranged lengths) p (entry_at s.table p.uri)
-notes_on s ranged lengths params (other_notification method) = saving_notes s.table method params
+notes_on s ranged lengths params (other_notification method) = if is_save method then
+    saved_notes (option_and_then (entry_at s.table) (saved_uri params)) (saved_text params) else []
 notes_on s ranged lengths params m = []
 
 -- Notes, if a message is accepted, or ignored by a running server. A refused one has its reason.
@@ -243,10 +239,6 @@ ranged_after ranged s Server body = ranged_for ranged s.expected body
 
 -- ---- in words
 
--- A change, by its number from 1.
-abbrev pub change_words : ℕ → List ℕ
-change_words index = codes "change " ++ decimal (one_more index)
-
 -- Which end of a change's range.
 abbrev pub side_words : Side → List ℕ
 side_words Start = codes " starts at "
@@ -286,24 +278,16 @@ notes_words between (note ∷ notes) =
 
 -- ---- the kind of a note, by which notes are counted
 
--- Whether a `rangeLength` counts characters, as some editors do, or nothing that is known.
-abbrev pub length_kind : Bool → List ℕ
-length_kind true = codes "rangeLength in characters"
-length_kind false = codes "rangeLength"
-
--- Past which end a position is, by the position that it is taken as.
-abbrev pub past_kind : Position → Position → List ℕ
-past_kind sent taken =
-    if sent.line == taken.line then codes "past the line's end" else codes "past the last line"
-
--- The kind of a note, in words.
+-- The kind of a note, in words. A `rangeLength` may count characters, as it does in some editors.
 abbrev pub note_kind : Note → List ℕ
 note_kind OpenAlready = codes "open already"
 note_kind LoneReturn = codes "a CR alone"
 note_kind (OldVersion sent current) = codes "an old version"
 note_kind NoChanges = codes "no changes"
 note_kind (WholeText index) = codes "a whole text"
-note_kind (PastEnd index side sent taken) = past_kind sent taken
-note_kind (WrongLength index sent replaced characters) = length_kind (sent == characters)
+note_kind (PastEnd index side sent taken) =
+    if sent.line == taken.line then codes "past the line's end" else codes "past the last line"
+note_kind (WrongLength index sent replaced characters) =
+    if sent == characters then codes "rangeLength in characters" else codes "rangeLength"
 note_kind (SameText index) = codes "changes nothing"
 note_kind (OtherSaved line) = codes "another text saved"

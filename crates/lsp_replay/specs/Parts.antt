@@ -63,17 +63,14 @@ with_ending uri None found = only uri
 with_ending uri (Some other) found =
     record found { several = found.several || not (bytes_eq other uri) }
 
--- A document was opened. One with the very URI that was asked for counts alone.
-abbrev pub found_with : List ℕ → List ℕ → Found → Found
-found_with asked uri found = if bytes_eq uri asked then only uri
-    else if ends_so uri asked && not (is_named asked found.uri)
-    then with_ending uri found.uri found else found
-
--- The same, if one was asked for and one was opened.
+-- What is found after a record that may open one, if one was asked for. One with the very URI counts
+-- alone.
 abbrev pub found_if : Option (List ℕ) → Option (List ℕ) → Found → Found
 found_if None opened found = found
 found_if (Some asked) None found = found
-found_if (Some asked) (Some uri) found = found_with asked uri found
+found_if (Some asked) (Some uri) found = if bytes_eq uri asked then only uri
+    else if ends_so uri asked && not (is_named asked found.uri)
+    then with_ending uri found.uri found else found
 
 -- With its text among these open documents.
 abbrev pub refreshed : List DocumentItem → Found → Found
@@ -113,12 +110,7 @@ part_step part found s =
     ends (part_bytes part.uri (text_found found) s.server.table)
     (Ok (part_outcome part.uri (text_found found) (session_outcome s))) else writes []
 
--- At the end of the input, if the part has no last record. Else that record isn't in the log.
-abbrev pub part_at_end : PartData → Found → Session → List ℕ
-part_at_end part found s =
-    if is_some part.at then [] else part_bytes part.uri (text_found found) s.server.table
-
--- The outcome then.
+-- The outcome at the end of the input. If the part has a last record, that isn't in the log.
 abbrev pub end_outcome : PartData → Found → Session → Outcome
 end_outcome part found s =
     if is_some part.at then lacking missing.Record (session_outcome s)
@@ -137,7 +129,8 @@ replaying_part part = record {
   record_output = λ found s r j.
       unless_bad r j.verdict (part_step part (found_after part found r j) j.session);
   next = λ found s r j. found_after part found r j;
-  end_output = λ found s line_due. part_at_end part found s;
+  end_output = λ found s line_due.
+      if is_some part.at then [] else part_bytes part.uri (text_found found) s.server.table;
   outcome = end_outcome part;
 }
 

@@ -4,7 +4,6 @@ use Rattle.std.specs.Prelude.{◌∷◌, ◌++◌, if◌then◌else◌}
 use Rattle.lsp_replay.specs.Prelude.{ℕ, Bool, true, false, List, [], Option, Some, None, option_and_then, codes, decimal, slice_get, signed_decimal, LimitsData, Position, Range, EditFault, Side, Start, Stop, ErrorCode, ParseError, InvalidRequest, InvalidParams, ServerNotInitialized, ChangeData, AlreadyOpen, TooManyDocuments, TextTooLong, NotOpen, StaleVersion, TooManyChanges, Edit, Store, AnswerData, reply, refused, exits, Sent, one_more}
 use Rattle.lsp_edit.specs.declared.fault.EditFault.TheVariants.{InsideCharacter, ReversedRange, NoMemory as NoMemoryToEdit}
 use Rattle.lsp_store.specs.declared.fault.StoreFault.{StoreFault}
-use Rattle.lsp_server.specs.declared.answer.Refusal.{Refusal}
 use Rattle.lsp_server.specs.declared.answer.Refusal.TheVariants.{InvalidParams as BadParams}
 
 -- ---- what was sent
@@ -43,16 +42,19 @@ end_words side None = []
 end_words Start (Some range) = codes " starts at " ++ position_words range.start
 end_words Stop (Some range) = codes " ends at " ++ position_words range.stop
 
+-- A change, by its number from 1.
+abbrev pub change_words : ℕ → List ℕ
+change_words index = codes "change " ++ decimal (one_more index)
+
 -- ---- why a notification was refused
 
--- A change that has no result, with its number from 1.
+-- A change that has no result.
 abbrev pub edit_reason : Option ChangeData → EditFault → List ℕ
 edit_reason p (InsideCharacter change side) =
-    codes "change " ++ decimal (one_more change) ++ end_words side (range_sent p change)
-    ++ codes ", inside a character"
+    change_words change ++ end_words side (range_sent p change) ++ codes ", inside a character"
 edit_reason p (ReversedRange change) =
-    codes "change " ++ decimal (one_more change) ++ end_words Start (range_sent p change)
-    ++ codes ", after it" ++ end_words Stop (range_sent p change)
+    change_words change ++ end_words Start (range_sent p change) ++ codes ", after it"
+    ++ end_words Stop (range_sent p change)
 edit_reason p NoMemoryToEdit = []
 
 -- A command that the documents refuse, by the limits and by the change, if it is one.
@@ -72,11 +74,6 @@ store_reason limits p TooManyChanges =
 store_reason limits p (Edit fault) = edit_reason p fault
 store_reason limits p fault = []
 
--- A notification that is refused.
-abbrev pub refusal_reason : LimitsData → Option ChangeData → Refusal → List ℕ
-refusal_reason limits p BadParams = codes "the parameters can't be read"
-refusal_reason limits p (Store fault) = store_reason limits p fault
-
 -- ---- why any record was refused
 
 -- An error reply.
@@ -91,7 +88,8 @@ error_reason code = []
 -- The words for an answer that counts as refused, by the change that it is the answer to.
 abbrev pub reason_words : LimitsData → Option ChangeData → AnswerData Sent → List ℕ
 reason_words limits p (reply r) = error_reason r.code
-reason_words limits p (refused refusal) = refusal_reason limits p refusal
+reason_words limits p (refused BadParams) = codes "the parameters can't be read"
+reason_words limits p (refused (Store fault)) = store_reason limits p fault
 reason_words limits p (exits status) = codes "`exit` came without `shutdown`"
 reason_words limits p answer = []
 

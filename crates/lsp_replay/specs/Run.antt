@@ -4,7 +4,7 @@ use Rattle.lsp_replay.specs.Prelude.{ℕ, not, Bool, true, false, List, Result, 
 use Rattle.lsp_replay.specs.RunOutput.{RunOutput}
 use Rattle.lsp_replay.specs.Engine.{Called, FewCalls, NonePassedOver, WroteRecords, state_of}
 use Rattle.lsp_replay.specs.Commands.{as_converted, as_log, as_stream, converted, replies, report, verdicts}
-use Rattle.lsp_replay.specs.laws.Written.{Wrote}
+use Rattle.lsp_replay.specs.laws.Written.{IsReported, Wrote}
 use Rattle.lsp_replay.specs.Squashed.{normalised}
 use Rattle.lsp_replay.specs.AllRecords.{RanOver}
 
@@ -90,9 +90,10 @@ convert_engine settings =
 
 -- ---- what `normalise` and `convert` write
 
--- An engine that came to the end of a log wrote a log of which this holds.
+-- An engine that came to the end of a log wrote a log of which this holds, and its outcome has the
+-- status and the counts of `replay`.
 abbrev pub WritesLog : Settings → (List Record → List ℕ → Type 0) → Ports → Ports →
     Result Outcome EngineFault → Type 0
 WritesLog settings Holds before after result =
-    IfOk result (Wrote settings Holds before.reader.left after.reader.left before.writer.written
-    after.writer.written)
+    IfOk result (Wrote settings (IsReported settings Holds) before.reader.left after.reader.left
+    before.writer.written after.writer.written)

@@ -1,5 +1,6 @@
 -- Lists of what was counted, in the order in which it came first.
-use Rattle.std.specs.Prelude.{◌||◌, ◌++◌, if◌then◌else◌, ◌∷◌}
+use Rattle.std.specs.List.{list_any}
+use Rattle.std.specs.Prelude.{◌++◌, if◌then◌else◌, ◌∷◌}
 use Rattle.lsp_replay.specs.Prelude.{ℕ, Bool, true, false, nat_lt, List, [], Option, Some, None, codes, decimal, bytes_eq, one_more}
 
 -- What was counted, how often it came, and the number of the first record with it.
@@ -31,8 +32,7 @@ count_of words (t ∷ ts) = if bytes_eq t.words words then t.count else count_of
 
 -- Did something come more than once?
 abbrev pub has_repeated : List Tally → Bool
-has_repeated [] = false
-has_repeated (t ∷ ts) = nat_lt 1 t.count || has_repeated ts
+has_repeated ts = list_any (λ t. nat_lt 1 t.count) ts
 
 -- Was anything counted?
 abbrev pub has_tallies : List Tally → Bool

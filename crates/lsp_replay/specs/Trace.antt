@@ -1,13 +1,13 @@
 -- `trace`: a line of JSON for each record of a log, with what a server answers to it and why.
 use Rattle.std.specs.Prelude.{◌&&◌, ◌||◌, ◌==◌, ◌∷◌, ◌++◌, if◌then◌else◌}
-use Rattle.lsp_replay.specs.Prelude.{ℕ, Bool, true, false, nat_lt, length, List, [], Option, Some, None, option_and_then, option_map, codes, decimal, signed_decimal, LimitsData, IdData, whole, text, reading, DocumentItem, entry_at, IncomingData, not_json, not_a_message, response, initialize, shutdown, other_request, exit, did_open, did_change, did_close, other_notification, incoming_of, Head, Sender, Record, Settings, Details, Note}
+use Rattle.lsp_replay.specs.Prelude.{ℕ, Bool, true, false, nat_lt, length, List, [], Option, Some, None, option_and_then, option_map, codes, decimal, signed_decimal, LimitsData, IdData, whole, text, reading, ChangeData, DocumentItem, entry_at, IncomingData, not_json, not_a_message, response, initialize, shutdown, other_request, exit, did_open, did_change, did_close, other_notification, incoming_of, Head, Sender, Record, Settings, Details, Note}
 use Rattle.serde_json.specs.Data.{string}
 use Rattle.serde_json.specs.Written.{compact_text}
 use Rattle.lsp_log.specs.declared.record.Sender.TheVariants.{Client, Server}
 use Rattle.lsp_replay.specs.RunOutput.{RunOutput}
-use Rattle.lsp_replay.specs.Commands.{canonical_of_record, change_in, log_config, output_in, verdict_word}
-use Rattle.lsp_replay.specs.Lines.{Known, LineView, is_renamed, last_in, lines, nothing_known, uri_of}
-use Rattle.lsp_replay.specs.Notes.{notes_of, notes_words}
+use Rattle.lsp_replay.specs.Commands.{canonical_of_record, log_config, output_in, verdict_word}
+use Rattle.lsp_replay.specs.Lines.{FactsData, Known, LineView, facts_of, lines, nothing_known, uri_of}
+use Rattle.lsp_replay.specs.Notes.{notes_words}
 use Rattle.lsp_replay.specs.Reasons.{reason_words, renamed_words}
 use Rattle.lsp_replay.specs.Run.{Engine, log_engine}
 use Rattle.lsp_replay.specs.Session.{Session, Judged, Verdict, answered, has_changed, is_refused, opened}
@@ -69,11 +69,11 @@ first_members number head m =
 
 -- Why a record was refused, if it counts as refused. `renamed`: may its document be another one
 -- under a new name?
-abbrev pub reason_json : LimitsData → IncomingData → Bool → Verdict → Option (List ℕ)
-reason_json limits m renamed (answered answer) = if is_refused answer then
-    Some (codes "\"" ++ reason_words limits (change_in m) answer ++ renamed_words renamed
+abbrev pub reason_json : LimitsData → Option ChangeData → Bool → Verdict → Option (List ℕ)
+reason_json limits change renamed (answered answer) = if is_refused answer then
+    Some (codes "\"" ++ reason_words limits change answer ++ renamed_words renamed
     ++ codes "\"") else None
-reason_json limits m renamed verdict = None
+reason_json limits change renamed verdict = None
 
 -- The notes of a record, as strings in an array. Without notes there is none.
 abbrev pub notes_json : List Note → Option (List ℕ)
@@ -121,37 +121,31 @@ last_members (m ∷ more) = member m.0 m.1 ++ last_members more
 
 -- ---- the engine
 
+-- The members of a line after the first ones, by the document afterwards and the canonical message,
+-- if they are there. The text is written if it is asked for and the record opened or changed the
+-- document, the body if it is asked for and is JSON.
+abbrev pub facts_members : Details → LimitsData → FactsData → Option DocumentItem → Option (List ℕ)
+    → Bool → List ℕ → List ℕ
+facts_members details limits f document canonical json body =
+    codes ",\"word\":\"" ++ verdict_word f.verdict ++ codes "\"" ++ last_members (
+    (codes ",\"reason\":", reason_json limits f.change f.renamed f.verdict)
+    ∷ (codes ",\"last\":", option_map decimal f.last)
+    ∷ (codes ",\"notes\":", notes_json f.notes)
+    ∷ (codes ",\"version\":", version_json document)
+    ∷ (codes ",\"canonical\":", canonical)
+    ∷ (codes ",\"text\":", text_json (details.texts && has_changed f.verdict) document)
+    ∷ (codes ",\"body\":", body_json (details.bodies && json) body)
+    ∷ [])
+
 -- A line of `trace`, from what is known of the records before, the session before the record and
--- the judgement of it. `m` is what the record's body asks. The text is written if it is asked for
--- and the record opened or changed the document, the body if it is asked for and is JSON.
+-- the judgement of it. `m` is what the record's body asks.
 abbrev pub trace_line : Details → Known → Session → Record → Judged → IncomingData → List ℕ
 trace_line details known s r j m =
     first_members j.session.records r.head m
-    ++ (codes ",\"word\":\"" ++ verdict_word j.verdict ++ codes "\"" ++ last_members ((
-      codes ",\"reason\":",
-      reason_json j.session.server.config.limits m
-          (is_renamed known (uri_of r.head.side m) j.verdict) j.verdict,
-    )
-    ∷ (
-      codes ",\"last\":",
-      option_map decimal (last_in known (uri_of r.head.side m) j.verdict),
-    )
-    ∷ (codes ",\"notes\":", notes_json (notes_of s known.ranged r.body j.verdict))
-    ∷ (
-      codes ",\"version\":",
-      version_json (document_after j.session.server.table (uri_of r.head.side m)),
-    )
-    ∷ (
-      codes ",\"canonical\":",
-      within s.server.config.limits.max_body (canonical_of_record s r.body j.verdict),
-    )
-    ∷ (
-      codes ",\"text\":",
-      text_json (details.texts && has_changed j.verdict)
-          (document_after j.session.server.table (uri_of r.head.side m)),
-    )
-    ∷ (codes ",\"body\":", body_json (details.bodies && is_json m) r.body)
-    ∷ []))
+    ++ facts_members details j.session.server.config.limits (facts_of known s r j m)
+    (document_after j.session.server.table (uri_of r.head.side m))
+    (within s.server.config.limits.max_body (canonical_of_record s r.body j.verdict)) (is_json m)
+    r.body
 
 -- `trace` writes such a line for each record, and nothing at the end.
 abbrev pub tracing : Details → LineView

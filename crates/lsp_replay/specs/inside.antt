@@ -1,6 +1,5 @@
 -- Definitions that only private contracts speak of.
 pub mod Bodies
-pub mod Compared
 pub mod Tallies
 pub mod Joining
 pub mod Kept
@@ -8,14 +7,10 @@ pub mod Facts
 pub mod Piped
 pub mod Taken
 pub mod Mentions
-pub mod Noting
-pub mod Openings
 pub mod Parts
 pub mod Verdicts
 pub mod Engine
-pub mod Run
 pub mod Reads
 pub mod RunOutput
-pub mod Session
 pub mod Squashed
 pub mod Commands

@@ -92,13 +92,6 @@ impl Settings {
         }
     }
 
-    /// Returns whether the changes of a series are written as one message.
-    fn joins_series(&self) -> bool
-        ensures { result ≡ self.now.squash }
-    {
-        self.squash
-    }
-
     /// Returns how the log is read. With `refuses_two` version 2 is refused.
     fn rules(&self, refuses_two: bool) -> InputRules
         ensures { result

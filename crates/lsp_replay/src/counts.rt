@@ -2,7 +2,7 @@
 
 ghost use Rattle.std.specs.Prelude.{◌≡◌, IfOk, OnOk, option_map};
 ghost use Rattle.lsp_server.specs.Seen.{answer_view};
-ghost use Rattle.lsp_replay.specs.Counts.{answer_code, counted_code, counts_after, dropped_word, is_frequent, is_habit};
+ghost use Rattle.lsp_replay.specs.Counts.{answer_code, counted_code, counts_after, dropped_word, is_habit};
 ghost use Rattle.lsp_replay.specs.Counts.{nothing_counted, rare_notes, tallied_notes};
 ghost use Rattle.lsp_replay.specs.inside.Verdicts.{verdict_view};
 
@@ -25,10 +25,14 @@ const HABIT_RATE: u64 = 100;
 #[derive(Drop)]
 pub struct Counts {
     alloc: Global,
-    changed: u64,
-    dropped: Vec<Tally>,
-    refused: Vec<Tally>,
-    noted: Vec<Tally>,
+    /// How many records changed documents.
+    pub changed: u64,
+    /// Those that were dropped, as one thing that was counted, if there are any.
+    pub dropped: Vec<Tally>,
+    /// Those that count as refused, by their codes.
+    pub refused: Vec<Tally>,
+    /// The kinds of the notes.
+    pub noted: Vec<Tally>,
 }
 
 impl Model for Counts {
@@ -58,34 +62,6 @@ impl Counts {
         }
     }
 
-    /// Returns how many records changed documents.
-    pub fn changed(&self) -> u64
-        ensures { result ≡ self.now.changes }
-    {
-        self.changed
-    }
-
-    /// Returns the records that were dropped, as one thing that was counted, if there are any.
-    pub fn dropped(&self) -> &[Tally]
-        ensures { result.now ≡ self.now.drops }
-    {
-        self.dropped.as_slice()
-    }
-
-    /// Returns the codes of the records that count as refused.
-    pub fn refused(&self) -> &[Tally]
-        ensures { result.now ≡ self.now.refusals }
-    {
-        self.refused.as_slice()
-    }
-
-    /// Returns the kinds of the notes.
-    pub fn noted(&self) -> &[Tally]
-        ensures { result.now ≡ self.now.noted }
-    {
-        self.noted.as_slice()
-    }
-
     /// Counts a record with this number and these notes.
     pub fn count(
         &mut self,
@@ -108,10 +84,8 @@ impl Counts {
     fn is_habit(&self, note: Note) -> bool
         ensures { result ≡ is_habit self.now note }
     {
-        is_frequent(
-            self.changed,
-            count_of(self.noted.as_slice(), note_kind(note)),
-        )
+        let count = count_of(self.noted.as_slice(), note_kind(note));
+        count != 0 && self.changed / HABIT_RATE <= count
     }
 
     /// Returns the notes whose kinds are no habits.
@@ -126,14 +100,6 @@ impl Counts {
         }
         Ok(rare)
     }
-}
-
-/// Returns whether a kind of note that came so often is a habit, where so many records changed
-/// documents.
-fn is_frequent(changed: u64, count: u64) -> bool
-    ensures { result ≡ is_frequent changed count }
-{
-    count != 0 && changed / HABIT_RATE <= count
 }
 
 /// Returns the word of a record that was dropped.

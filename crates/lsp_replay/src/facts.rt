@@ -4,15 +4,16 @@
 //! `noting` has what is suspicious of a message, `asked` what a body asks.
 
 ghost use Rattle.std.specs.Prelude.{◌≡◌, ◌≢◌, ◌⊎◌, IfErr, IfOk, OnOk, option_map, true};
+ghost use Rattle.lsp_log.specs.Splitting.{record_of};
 ghost use Rattle.lsp_message.specs.Seen.{change_view};
-ghost use Rattle.lsp_replay.specs.Lines.{has_notes, is_new_name, is_not_open, is_open_already};
+ghost use Rattle.lsp_replay.specs.Lines.{is_new_name, is_not_open, is_open_already};
 ghost use Rattle.lsp_replay.specs.Lines.{is_renamed, is_stale_refusal, is_strict_refusal, known_after};
 ghost use Rattle.lsp_replay.specs.Lines.{last_in, nothing_known};
 ghost use Rattle.lsp_replay.specs.Mentions.{is_mention, last_for};
 ghost use Rattle.lsp_replay.specs.Session.{bad};
+ghost use Rattle.lsp_replay.specs.inside.Bodies.{judge_at};
 ghost use Rattle.lsp_replay.specs.inside.Facts.{AreFacts, IsLearned, known_by, noted_by};
 ghost use Rattle.lsp_replay.specs.inside.Reads.{IsNotedOf, IsReadOf};
-ghost use Rattle.lsp_replay.specs.inside.Session.{judge_at};
 ghost use Rattle.lsp_replay.specs.inside.Taken.{IsShown, accepted_of, ranged_with};
 ghost use Rattle.lsp_replay.specs.inside.Verdicts.{verdict_view};
 
@@ -42,8 +43,6 @@ pub struct About {
     pub uri: Option<String>,
     /// The URI of the document whose text was saved, if it isn't about the documents.
     pub saved: Option<String>,
-    /// Whether it is a `didChange`.
-    pub is_change: bool,
     /// What is suspicious of it, unless it is refused.
     pub notes: Vec<Note>,
 }
@@ -93,10 +92,10 @@ pub struct Known {
     made: Mentions,
     // Whether the server asked for ranges.
     ranged: bool,
-    // Whether a record is refused with S1 or S5, which lenient limits never do, and was meant to
-    // change a text.
-    strict_refusal: bool,
-    counts: Counts,
+    /// Whether a record is refused with S1 or S5, which lenient limits never do, and was meant to
+    /// change a text.
+    pub strict_refusal: bool,
+    pub counts: Counts,
 }
 
 impl Model for Known {
@@ -128,20 +127,6 @@ impl Known {
         }
     }
 
-    /// Returns how often what came.
-    pub fn counts(&self) -> &Counts
-        ensures { result.now ≡ self.now.counts }
-    {
-        &self.counts
-    }
-
-    /// Returns whether a record is refused with S1, or with S5 and changes.
-    pub fn has_strict_refusal(&self) -> bool
-        ensures { result ≡ self.now.strict_refusal }
-    {
-        self.strict_refusal
-    }
-
     /// Takes the record that was read into a session, as [`Session::take`] does, and returns its
     /// facts. A record that can't be in a log is [`EngineFault::BadLog`], at its first byte.
     pub fn take<W: Witness>(
@@ -155,7 +140,7 @@ impl Known {
         requires noted { IsNotedOf true item.now.body.now read }
         requires fits { W.Fits witness.old session.old.server }
         ensures facts { IfOk result
-            (AreFacts self.old session.old item.now.head item.now.body.now) }
+            (AreFacts self.old session.old (record_of item.now)) }
         ensures in_log { IfOk result (λ facts. verdict_view facts.verdict ≢ bad) }
         ensures session { OnOk result (session.new
             ≡ (judge_at session.old item.now.head item.now.body.now).session) }
@@ -180,12 +165,7 @@ impl Known {
         ensures facts { IfOk result (IsLearned self.old number about taken) }
         ensures known { OnOk result (self.new ≡ known_by self.old number about taken) }
     {
-        let About {
-            uri,
-            saved,
-            is_change,
-            notes,
-        } = about;
+        let About { uri, saved, notes } = about;
         let Taken {
             verdict,
             change,
@@ -195,7 +175,7 @@ impl Known {
         let last = self.last_in(uri.as_deref(), &verdict);
         let notes = notes_if(notes, &verdict);
         let rare = self.counts.rare(&notes)?;
-        let mentioned = is_mention(is_change, &verdict);
+        let mentioned = is_mention(change.is_some(), &verdict);
         self.mentions.keep(mentioned, uri.as_deref(), number)?;
         self.made
             .keep(has_changed(&verdict), uri.as_deref(), number)?;
@@ -278,13 +258,6 @@ fn is_mention(is_change: bool, verdict: &Verdict) -> bool
         Verdict::Answered(Answer::Refused(_)) => true,
         _ => false,
     }
-}
-
-/// Returns whether there is a note.
-pub fn has_notes(notes: &[Note]) -> bool
-    ensures { result ≡ has_notes notes.now }
-{
-    !notes.is_empty()
 }
 
 /// Returns whether a record is refused with S1, or with S5 and changes.

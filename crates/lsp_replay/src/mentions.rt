@@ -2,7 +2,7 @@
 
 ghost use Rattle.std.specs.Prelude.{◌≡◌, [], IfOk, OnOk, option_map};
 ghost use Rattle.std.specs.Str.{bytes_eq};
-ghost use Rattle.lsp_replay.specs.Mentions.{last_record, mentioned, newest_first, without};
+ghost use Rattle.lsp_replay.specs.Mentions.{last_record, mentioned, newest_first};
 ghost use Rattle.lsp_replay.specs.Reasons.{is_empty};
 ghost use Rattle.lsp_replay.specs.inside.Mentions.{IsFoundAt};
 
@@ -48,12 +48,6 @@ impl Mention {
     {
         self.uri.as_str() == uri
     }
-
-    fn number(&self) -> u64
-        ensures { result ≡ self.now.number }
-    {
-        self.number
-    }
 }
 
 /// The documents that were opened, closed or refused last, the newest first.
@@ -87,7 +81,7 @@ impl Mentions {
         ensures { result ≡ last_record uri.now self.now.newest.items }
     {
         let index = index_of(self.newest.as_slice(), uri)?;
-        Some(self.newest[index].number())
+        Some(self.newest[index].number)
     }
 
     /// Puts the document with this URI first, with the number of a record.
@@ -96,7 +90,9 @@ impl Mentions {
             (self.new.newest.items ≡ newest_first uri.now number self.old.newest.items) }
     {
         let mention = Mention::new(self.alloc, uri, number)?;
-        forget(&mut self.newest, uri);
+        if let Some(index) = index_of(self.newest.as_slice(), uri) {
+            self.newest.remove(index);
+        }
         self.newest.insert(0, mention)?;
         self.newest.truncate(MENTIONS);
         Ok(())
@@ -120,15 +116,6 @@ impl Mentions {
             return Ok(());
         };
         self.mention(uri, number)
-    }
-}
-
-/// Removes a document.
-fn forget(mentions: &mut Vec<Mention>, uri: &str)
-    ensures { mentions.new.items ≡ without uri.now mentions.old.items }
-{
-    if let Some(index) = index_of(mentions.as_slice(), uri) {
-        mentions.remove(index);
     }
 }
 

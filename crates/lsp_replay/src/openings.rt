@@ -120,9 +120,9 @@ fn push_opening(alloc: Global, buffer: &mut Vec<u8>, document: &Tally) -> Result
         (buffer.new.items ≡ buffer.old.items ++ opening_words document.now) }
 {
     push_words(buffer, "  message ")?;
-    push_number(buffer, document.first())?;
+    push_number(buffer, document.first)?;
     push_words(buffer, " opened ")?;
-    push_json_string(alloc, buffer, document.words())?;
+    push_json_string(alloc, buffer, &document.words)?;
     push_words(buffer, "\n")
 }
 

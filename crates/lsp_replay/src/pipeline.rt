@@ -4,7 +4,7 @@
 ghost use Rattle.std.specs.Prelude.{◌≡◌, ℕ, IfOk, List, false};
 ghost use Rattle.lsp_stream.specs.Ports.{ports};
 ghost use Rattle.lsp_replay.specs.inside.Engine.{IsLoopRun, reading_by};
-ghost use Rattle.lsp_replay.specs.inside.Piped.{IsAdmitted, once_written, piped, piped_quiet, written_due};
+ghost use Rattle.lsp_replay.specs.inside.Piped.{IsAdmitted, piped, piped_quiet};
 ghost use Rattle.lsp_replay.specs.inside.Reads.{IsReadOf};
 
 use crate::engine::{InputRules, run_on};
@@ -56,19 +56,6 @@ impl<P: Printer> Pipeline<P> {
             None => Ok(Some(head)),
         }
     }
-
-    /// Returns whether the line of version 2 is to be written at the end of the input. It is
-    /// written once.
-    fn take_due(&mut self, line_due: bool) -> bool
-        ensures value { result ≡ written_due self.old.selection line_due }
-        ensures selection { self.new.selection ≡ once_written self.old.selection }
-        ensures printer { self.new.printer ≡ self.old.printer }
-    {
-        match &mut self.selection {
-            Some(selection) => selection.take_due(line_due),
-            None => line_due,
-        }
-    }
 }
 
 impl<P: Printer> Handler for Pipeline<P> {
@@ -96,7 +83,10 @@ impl<P: Printer> Handler for Pipeline<P> {
     }
 
     fn finish(&mut self, line_due: bool, buffer: &mut Vec<u8>) -> Finished {
-        let due = self.take_due(line_due);
+        let Some(selection) = &mut self.selection else {
+            return self.printer.finish(line_due, buffer);
+        };
+        let due = selection.take_due(line_due);
         self.printer.finish(due, buffer)
     }
 }

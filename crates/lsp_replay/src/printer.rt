@@ -9,10 +9,10 @@
 
 ghost use Rattle.std.specs.Prelude.{◌≡◌, [], ℕ, Bool, false, IfOk, IfErr, OnOk};
 ghost use Rattle.lsp_log.specs.Splitting.{record_of};
+ghost use Rattle.lsp_replay.specs.inside.Bodies.{judge_at};
 ghost use Rattle.lsp_replay.specs.inside.Commands.{PrinterState};
 ghost use Rattle.lsp_replay.specs.inside.Reads.{IsNotedOf, IsReadOf};
 ghost use Rattle.lsp_replay.specs.inside.RunOutput.{IsFaultAt, IsGiven, IsLastPart};
-ghost use Rattle.lsp_replay.specs.inside.Session.{judge_at};
 
 pub(crate) mod checking;
 pub(crate) mod comparing;

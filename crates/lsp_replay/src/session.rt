@@ -22,9 +22,8 @@ ghost use Rattle.lsp_server.specs.Planned.{IsNotObeyed};
 ghost use Rattle.lsp_server.specs.Seen.{incoming_view};
 ghost use Rattle.lsp_server.specs.Step.{step_on};
 ghost use Rattle.lsp_replay.specs.Session.{bad, opened, session_outcome};
-ghost use Rattle.lsp_replay.specs.inside.Bodies.{IsChangeTaken, IsReceived, body_view};
+ghost use Rattle.lsp_replay.specs.inside.Bodies.{IsChangeTaken, IsReceived, body_view, judge_at};
 ghost use Rattle.lsp_replay.specs.inside.Reads.{IsNotedOf, IsReadOf};
-ghost use Rattle.lsp_replay.specs.inside.Session.{judge_at};
 ghost use Rattle.lsp_replay.specs.inside.Taken.{IsChangeWitnessed, IsTakenAs};
 ghost use Rattle.lsp_replay.specs.inside.Verdicts.{verdict_view};
 
@@ -165,20 +164,6 @@ impl Session {
         ensures { result.now ≡ self.now.server }
     {
         &self.server
-    }
-
-    /// Returns how many bodies were handled.
-    pub fn messages(&self) -> u64
-        ensures { result ≡ self.now.messages }
-    {
-        self.messages
-    }
-
-    /// Returns how many of the handled bodies were refused.
-    pub fn refusals(&self) -> u64
-        ensures { result ≡ self.now.refusals }
-    {
-        self.refusals
     }
 
     /// Returns the outcome of a log command at the end of the input.

@@ -1,7 +1,7 @@
 -- The canonical message of what some batch means on an open document: it is read as a change, which is accepted there,
 -- leaves what the batch
 -- leaves, and is its own canonical message.
-use Rattle.lsp_replay.proofs.Prelude.{◌≡◌, ℕ, ℤ, ◌≤◌, false, nat_lt, List, map, length, IsUtf8, Some, None, Ok, Result, refl, ap, ◌∙◌, subst, arith, w32, FitsSigned, chars, scalars-chars, AreInRange, units_in, Encoding, Item, text_of, ContentChange, Fault, meaning, canonical, then_items, IsCanonical, canonical_law, units_some, bytes_left, reading, DocumentItem, ChangeData, reading-body_of, is_read_back, body_of-unique, entry_at, entry_refusal, is_stale, meant_text, AreTexts, IsReadAgain, written_content_change, canonical_batch, canonical_body, SquashData, items_meant, is_read, canonical_texts, squash_accepted, incoming_of, did_change, ServerData, content_change_from_data, session_encoding, edits_back, canonical_change_body, refusal_of, server_after, joined_by}
+use Rattle.lsp_replay.proofs.Prelude.{FitsSigned, IsUtf8, List, None, Some, ap, arith, false, length, map, nat_lt, refl, subst, w32, ℕ, ℤ, ◌∙◌, ◌≡◌, ◌≤◌, common_steps, scalars-chars, Ok, chars, canonical_law, units_some, ContentChange, meaning, canonical, then_items, bytes_left, Item, text_of, IsCanonical, AreInRange, body_of-unique, is_read_back, reading-body_of, reading, ChangeData, DocumentItem, canonical_change_body, refusal_of, server_after, joined_by, edits_back, did_change, incoming_of, ServerData, content_change_from_data, session_encoding, is_read, canonical_texts, squash_accepted, AreTexts, IsReadAgain, canonical_batch, canonical_body, written_content_change, SquashData, entry_at, entry_refusal, is_stale, meant_text, IsWithin, units_in, Encoding}
 use Rattle.lsp_store.specs.Message.{change_body}
 use Rattle.lsp_replay.proofs.Records.PutLemmas.{put, change_puts}
 
@@ -13,20 +13,17 @@ pub asks_back : (uri : List ℕ) (version : ℤ) (batch : List ContentChange) �
 unfolding change_body
 asks_back uri version batch read = ap incoming_of read.as_sent ∙ ap did_change read.back
 
--- what a document's URI, version and text must be
+-- what an open document's URI, version and text must be
 pub record IsProperAt (t : ServerData) (uri : List ℕ) (version : ℤ) (entry : DocumentItem) (batch : List ContentChange)
     (items : List Item) : Type 0 where
   pub found : entry_at t.table uri ≡ Some entry
-  pub utf8 : IsUtf8 entry.text
-  pub received : length entry.text ≤ t.config.limits.max_text
+  pub received : IsWithin t.config.limits entry
   pub uri_utf8 : IsUtf8 uri
   pub version_fits : FitsSigned w32 version
   pub means : meaning (units_in (session_encoding t)) (chars entry.text) batch ≡ Ok items
   pub texts : AreTexts batch
   pub newer : is_stale t.config.limits version entry.version ≡ false
   pub short : length (bytes_left entry.text items) ≤ t.config.limits.max_text
-  pub few : nat_lt t.config.limits.max_changes
-      (length (canonical (units_in (session_encoding t)) (chars entry.text) items)) ≡ false
 
 -- the batch, and the change that asks for it
 abbrev pub canonical_at : ServerData → DocumentItem → List Item → List ContentChange
@@ -44,13 +41,7 @@ pub joins_as : (p : ChangeData) (squash : SquashData) (encoding : Encoding) (tex
     → squash.encoding ≡ encoding → text_of (chars squash.text) squash.items ≡ text
     → meaning (units_in encoding) text (map content_change_from_data p.changes) ≡ Ok items
     → joined_by p squash ≡ record squash { items = then_items squash.items items; version = p.version }
-joins_as p squash encoding text items same_encoding same_text means =
-    ap (λ (m : Result (List Item) (ℕ × Fault)). record squash {
-      items = then_items squash.items (items_meant m);
-      version = p.version;
-    }) (ap (λ (e : Encoding). meaning (units_in e) (text_of (chars squash.text) squash.items)
-    (map content_change_from_data p.changes)) same_encoding
-    ∙ ap (λ (x : List ℕ). meaning (units_in encoding) x (map content_change_from_data p.changes)) same_text ∙ means)
+joins_as p squash encoding text items same_encoding same_text means = grind (arith, common_steps)
 
 pub record IsCanonicalChange (t : ServerData) (uri : List ℕ) (version : ℤ) (entry : DocumentItem)
     (items : List Item) : Type 0 where
@@ -69,8 +60,8 @@ pub record IsCanonicalChange (t : ServerData) (uri : List ℕ) (version : ℤ) (
       }
 
 module _ (t : ServerData) (uri : List ℕ) (version : ℤ) (entry : DocumentItem) (batch : List ContentChange)
-    (items : List Item)
-    (ranges : AreInRange t.config.limits) (at : IsProperAt t uri version entry batch items) where
+    (items : List Item) (ranges : AreInRange t.config.limits) (at : IsProperAt t uri version entry batch items)
+    (few : nat_lt t.config.limits.max_changes (length (canonical_at t entry items)) ≡ false) where
   laws : (some : List ContentChange) (others : List Item) → meaning (units_in (session_encoding t))
       (chars entry.text) some ≡ Ok others → IsCanonical (units_in (session_encoding t)) (chars entry.text) some others
   laws some others means = canonical_law (units_in (session_encoding t)) (units_some (session_encoding t))
@@ -82,11 +73,11 @@ module _ (t : ServerData) (uri : List ℕ) (version : ℤ) (entry : DocumentItem
   accepted : entry_refusal t.config.limits (units_in (session_encoding t)) entry version (canonical_at t entry items)
       ≡ None
   accepted = squash_accepted t.config.limits (session_encoding t) entry version batch items at.means at.newer at.short
-      (omega (arith, ranges.greatest_text)) at.few
+      (omega (arith, ranges.greatest_text)) few
 
   all_texts : AreTexts (canonical_at t entry items)
   all_texts = canonical_texts (units_in (session_encoding t)) (chars entry.text) batch items law
-      (scalars-chars entry.text at.utf8) at.texts at.means
+      (scalars-chars entry.text at.received.utf8) at.texts at.means
 
   same_batch : canonical_batch (units_in (session_encoding t)) t.table uri (canonical_at t entry items)
       ≡ canonical_at t entry items
@@ -96,7 +87,7 @@ module _ (t : ServerData) (uri : List ℕ) (version : ℤ) (entry : DocumentItem
   read =
       subst (IsReadAgain uri version) same_batch
       (is_read t.config.limits (session_encoding t) t.table uri version entry at.found laws at.uri_utf8 at.version_fits
-      at.utf8 (omega (arith, at.received, ranges.greatest_text)) body_of-unique
+      at.received.utf8 (omega (arith, at.received.short, ranges.greatest_text)) body_of-unique
       (canonical_at t entry items) all_texts accepted reading-body_of is_read_back)
 
   back : map content_change_from_data (map written_content_change (canonical_at t entry items))

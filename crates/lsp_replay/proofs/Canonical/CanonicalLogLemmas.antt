@@ -1,14 +1,7 @@
 -- What the canonical message of a record is told by.
-use Rattle.lsp_replay.proofs.Prelude.{◌≡◌, ◌≢◌, ◌≤◌, ◌<◌, ◌⊎◌, inl, inr, ℕ, Bool, true, false, List, [], map, length, refl, ap, if◌then◌else◌, nat_lt, ltb-true, ltb-false, le-ltb, lt-ltb, ◌++◌, ◌∙◌, drop, sym, append_assoc, drop_at, Option, Some, None, option_map, Err, units_in, Encoding, DocumentItem, ChangeData, LimitsData, StoreFault, IsRefusal, refusal_fault, body_refusal, else_refused, Refusal, body_too_long, change_refusal, unless_refused, command_refusal, table_after, Phase, Running, AnswerData, Sent, changed, as_sent, did_change, ServerData, content_change_from_data, session_encoding, result_step, change_command, step_in, Session, Verdict, answered, recorded, bad, Judged, judged, judge_client, judge_server, canonical_if, written, writes, ends, Version, Record, IsAppended, Body, TooLong, frame}
+use Rattle.lsp_replay.proofs.Prelude.{Bool, List, None, Option, Some, [], ap, append_assoc, arith, drop, false, inl, inr, le-ltb, length, lt-ltb, ltb-true, map, refl, sym, ℕ, ◌++◌, ◌<◌, ◌∙◌, ◌≡◌, ◌≢◌, ◌≤◌, ◌⊎◌, cases_Bool, ltb-false, common_steps, drop_at, Err, if◌then◌else◌, frame, LimitsData, Record, Version, ChangeData, DocumentItem, canonical_if, ends, writes, written, Judged, Session, answered, bad, judge_client, judge_server, judged, recorded, Body, TooLong, IsAppended, AnswerData, Sent, as_sent, changed, did_change, ServerData, change_command, content_change_from_data, result_step, session_encoding, step_in, Phase, Running, IsRefusal, body_refusal, else_refused, Refusal, change_refusal, command_refusal, table_after, unless_refused, StoreFault, units_in, Encoding}
 use Rattle.lsp_store.specs.declared.fault.StoreFault.TheVariants.{BodyTooLong, NoMemory}
 use Rattle.lsp_stream.specs.declared.fault.EngineFault.TheVariants as fault
-
--- a record that isn't answered has no canonical message
-none_unless_answered : (server : ServerData) (change : Option ChangeData) (verdict : Verdict) → (verdict ≡ recorded)
-    ⊎ (verdict ≡ bad) → canonical_if server change verdict ≡ None
-none_unless_answered server None verdict way = refl
-none_unless_answered server (Some p) verdict (inl e) = rw e refl
-none_unless_answered server (Some p) verdict (inr e) = rw e refl
 
 pub heard_as : (s : Session) (announced : Option (Option Encoding))
     → ((judge_server s announced).verdict ≡ recorded) ⊎ ((judge_server s announced).verdict ≡ bad)
@@ -18,8 +11,9 @@ heard_as s _ = inl refl
 -- A server's record has no canonical message.
 pub heard_has_none : (server : ServerData) (change : Option ChangeData) (s : Session)
     (announced : Option (Option Encoding)) → canonical_if server change (judge_server s announced).verdict ≡ None
-heard_has_none server change s announced = none_unless_answered server change (judge_server s announced).verdict
-    (heard_as s announced)
+heard_has_none server None s announced = refl
+heard_has_none server (Some p) s (Some None) = refl
+heard_has_none server (Some p) s _ = refl
 
 -- ---- a change that is answered by `changed` was not refused
 
@@ -52,7 +46,6 @@ pub accepted : (s : Session) (version : Version) (p : ChangeData)
     (map content_change_from_data p.changes) ≡ None
 accepted s version p e = step_changed s.server.phase s.server p (same_answer _ _ (unless_bad_is _ _ s _ changed e))
 
--- The changes as they were read are those that the store is given.
 -- ---- what is written, where a message is told
 
 pub appended_none : (max_body : ℕ) (r : Record) (front : List ℕ) (canonical_log : Option (List ℕ)) (old new : List ℕ)
@@ -78,20 +71,9 @@ appended_too_long max_body r front (Some body) old new error = rw (lt-ltb max_bo
 
 -- ---- what the store answers, where the change is not refused
 
-over_none : (over : Bool) (len : ℕ) → (if over then Some (body_too_long len) else None) ≡ None → over ≡ false
-over_none true len e = cc
-over_none false len e = refl
-
-over_some : (over : Bool) (len : ℕ) (fault : StoreFault)
-    → option_map refusal_fault (if over then Some (body_too_long len) else None) ≡ Some fault
-    → (over ≡ true) × (fault ≡ BodyTooLong len)
-over_some true len fault e = (refl, cc)
-over_some false len fault e = cc
-
 pub within : (limits : LimitsData) (refusal : Option Refusal) (body : List ℕ) → refusal ≡ None
     → else_refused refusal (body_refusal limits body) ≡ None → length body ≤ limits.max_body
-within limits None body none e =
-    ltb-false limits.max_body (length body) (over_none (nat_lt limits.max_body (length body)) (length body) e)
+within limits None body none e = grind (arith, common_steps, cases_Bool, ltb-false)
 within limits (Some refusal) body none e = cc
 
 pub over : (limits : LimitsData) (refusal : Option Refusal) (body : List ℕ) (fault : StoreFault) → refusal ≡ None
@@ -100,6 +82,4 @@ pub over : (limits : LimitsData) (refusal : Option Refusal) (body : List ℕ) (f
     × (fault ≡ BodyTooLong (length body))
 over limits (Some refusal) body fault none other error = cc
 over limits None body fault none other (inl e) = absurd (other e)
-over limits None body fault none other (inr e) =
-    let both = over_some (nat_lt limits.max_body (length body)) (length body) fault e in
-    (ltb-true limits.max_body (length body) both.0, both.1)
+over limits None body fault none other (inr e) = grind (arith, common_steps, cases_Bool, ltb-true)

@@ -1,5 +1,5 @@
 -- The canonical message of a change that is accepted asks for its canonical batch, which does the same.
-use Rattle.lsp_replay.proofs.Prelude.{◌≡◌, ◌≤◌, List, map, length, Some, None, Ok, refl, sym, ap, ◌∙◌, arith, chars, le-ltb, AreInRange, units_in, Item, meaning, IsCanonical, canonical_law, units_some, bytes_left, reading, DocumentItem, ChangeData, change_body, entry_at, change_refusal, after_change, meant_text, MayChange, change_parts, Accepts, accepted_parts, IsWithin, within_at, Phase, Running, did_change, incoming_of, ServerData, step_in, step_on, content_change_from_data, session_encoding, canonical_change_body, refusal_of, server_after, common_steps}
+use Rattle.lsp_replay.proofs.Prelude.{List, None, Some, ap, arith, le-ltb, length, map, refl, sym, ◌∙◌, ◌≡◌, ◌≤◌, common_steps, Ok, chars, canonical_law, units_some, meaning, bytes_left, Item, IsCanonical, AreInRange, reading, ChangeData, DocumentItem, canonical_change_body, refusal_of, server_after, did_change, incoming_of, ServerData, content_change_from_data, session_encoding, step_in, step_on, Phase, Running, MayChange, change_parts, Accepts, accepted_parts, within_at, change_body, after_change, change_refusal, entry_at, meant_text, units_in}
 use Rattle.lsp_replay.proofs.Canonical.CanonicalChangeLemmas.{IsCanonicalChange, canonical_at, canonical_change, is_canonical_change}
 use Rattle.lsp_replay.proofs.Records.AskedLemmas.{IsProperAsked}
 use Rattle.lsp_replay.proofs.Records.PutLemmas.{put, change_puts}
@@ -50,7 +50,6 @@ module _ (server : ServerData) (p : ChangeData) (ranges : AreInRange server.conf
       let parts : MayChange limits units server.table p.uri p.version batch =
       change_parts limits units server.table p.uri p.version batch may in
       let entry : DocumentItem = parts.entry in
-      let held : IsWithin limits entry = within_at limits server.table p.uri entry received.table parts.is_open in
       let accepts : Accepts limits units entry p.version batch =
       accepted_parts limits units entry p.version batch parts.may in
       let law : IsCanonical units (chars entry.text) batch accepts.items =
@@ -62,17 +61,15 @@ module _ (server : ServerData) (p : ChangeData) (ranges : AreInRange server.conf
         means = accepts.means;
         message = is_canonical_change server p.uri p.version entry batch accepts.items ranges (record {
           found = parts.is_open;
-          utf8 = held.utf8;
-          received = held.short;
+          received = within_at limits server.table p.uri entry received.table parts.is_open;
           uri_utf8 = proper.uri;
           version_fits = proper.version;
           means = accepts.means;
           texts = proper.texts;
           newer = accepts.newer;
           short = accepts.short;
-          few = le-ltb limits.max_changes (length (canonical_at server entry accepts.items))
-              (omega (arith, law.few, accepts.few));
-        });
+        }) (le-ltb limits.max_changes (length (canonical_at server entry accepts.items))
+            (omega (arith, law.few, accepts.few)));
         body = rw (parts.is_open, accepts.means) refl;
         leaves =
             ap (λ (table : List DocumentItem). record server { table = table })

@@ -1,5 +1,5 @@
 -- What `convert` writes of a log: a log of which the same is told.
-use Rattle.lsp_replay.proofs.Prelude.{◌≡◌, ℕ, Bool, true, false, Option, Some, None, refl, ap, ◌∙◌, ⊤, if◌then◌else◌, option_and_then, option_map, Data, Decides-int_eq, bytes_eq-Decides, IdData, Reading, whole, text, reading, OutgoingData, initialize_result, body_of, initialize_value, IsProperId, reading-body_of, is_read_back, Encoding, Phase, New, Running, Down, AnswerData, Sent, reply, as_sent, IncomingData, initialize, ServerData, step_in, step_on, begin_step, with_encoding, Version, One, Two, one_more, Session, Verdict, answered, recorded, bad, Judged, judged, judge_client, handled, judge_server, encoding_for, encoding_in, same_id, is_ended, is_early, is_new, expected_of, count_if, is_refused}
+use Rattle.lsp_replay.proofs.Prelude.{Bool, None, Option, Some, ap, false, refl, true, ℕ, ◌∙◌, ◌≡◌, Decides-int_eq, bytes_eq-Decides, if◌then◌else◌, option_and_then, option_map, ⊤, Version, One, Two, is_read_back, reading-body_of, IdData, Reading, reading, text, whole, OutgoingData, body_of, initialize_result, initialize_value, IsProperId, Judged, Session, Verdict, answered, bad, count_if, encoding_for, encoding_in, expected_of, handled, is_early, is_ended, is_new, is_refused, judge_client, judge_server, judged, recorded, same_id, AnswerData, Sent, as_sent, reply, IncomingData, initialize, ServerData, begin_step, step_in, step_on, with_encoding, Phase, New, one_more, Encoding, Data}
 use Rattle.lsp_message.specs.declared.agreement.Announced.{Announced}
 use Rattle.lsp_message.specs.declared.agreement.Offers.{Offers}
 use Rattle.lsp_message.specs.declared.agreement.SyncKind.{SyncKind}
@@ -20,11 +20,6 @@ good_tests : (a b : Bool) (s : Session) (j : Judged)
     → IsGood (if a then judged bad s else if b then judged bad s else j).verdict → (a ≡ false) × (b ≡ false)
 good_tests false false s j good = (refl, refl)
 good_tests _ _ s j good = absurd good
-
-handled_on : (s : Session) (version : Version) (m : IncomingData) → is_ended s.server.phase ≡ false → is_early s m
-    ≡ false
-    → judge_client s version m ≡ handled s version m (step_on s.server m).state (as_sent (step_on s.server m).answer)
-handled_on s version m a b = rw (a, b) refl
 
 -- no result is waited for in a log of version 1
 none_expected : (b : Bool) (m : IncomingData) (expected : Option IdData) → expected ≡ None
@@ -99,13 +94,9 @@ begun s n server id offers proper =
 pub follows_step : (s : Session) (n : ℕ) (phase : Phase) (server : ServerData) (m : IncomingData) → IsProperIncoming m
     → FollowsStep s n phase server m
 follows_step s n New server (initialize id (Some offers)) proper = begun s n server id offers proper
-follows_step s n Running server m proper =
-    follows_none (rest_after s n (step_in Running server m).state (as_sent (step_in Running server m).answer) None)
-    (step_in Running server m).answer refl
-follows_step s n Down server m proper =
-    follows_none (rest_after s n (step_in Down server m).state (as_sent (step_in Down server m).answer) None)
-    (step_in Down server m).answer refl
-follows_step s n _ server _ proper = refl
+follows_step s n phase server m proper =
+    follows_none (rest_after s n (step_in phase server m).state (as_sent (step_in phase server m).answer) None)
+    (step_in phase server m).answer refl
 
 -- ---- a client's record is judged alike in both logs
 
@@ -128,14 +119,15 @@ module _ (s : Session) (n : ℕ) (m : IncomingData) (none : s.expected ≡ None)
     refusals = count_if (is_refused answer) s.refusals;
   }
 
+  judged_as : (version : Version) (records : ℕ) → judge_client (twin s records) version m
+      ≡ judged (answered answer) (stepped (if is_new s.server.phase then expected_of version m s.expected
+      else s.expected) records)
+  judged_as version records = rw (tests.0, tests.1) refl
+
   pub judged_one : judge_client s One m ≡ judged (answered answer) (stepped None s.records)
-  judged_one =
-      handled_on s One m tests.0 tests.1
-      ∙ ap (λ (e : Option IdData). judged (answered answer) (stepped e s.records))
+  judged_one = judged_as One s.records ∙ ap (λ (e : Option IdData). judged (answered answer) (stepped e s.records))
       (none_expected (is_new s.server.phase) m s.expected none)
 
   pub judged_two : judge_client (twin s n) Two m ≡ judged (answered answer) (stepped (waits s.server.phase m) n)
-  judged_two =
-      handled_on (twin s n) Two m tests.0 tests.1
-      ∙ ap (λ (e : Option IdData). judged (answered answer)
+  judged_two = judged_as Two n ∙ ap (λ (e : Option IdData). judged (answered answer)
       (stepped (if is_new s.server.phase then expected_of Two m e else e) n)) none

@@ -1,5 +1,5 @@
 -- The numbers of a session fit their types: counts 64 bits, versions 32 bits. A canonical message is JSON.
-use Rattle.lsp_replay.proofs.Prelude.{◌≡◌, ℕ, ℤ, suc, ◌^◌, ◌<◌, ◌≤◌, Bool, true, false, List, [], ◌∷◌, ◌++◌, length, map, Option, Some, None, refl, sym, ap, ◌∙◌, subst, arith, take, bytes_eq, FitsSigned, IsUtf8, ⊤, if◌then◌else◌, option_and_then, option_map_or, is_utf8, cases_Bool, ltb-false, IsUtf8-from_is_utf8, Json, IsUtf8-are_ascii, Data, read, LimitsData, AreInRange, units_in, ContentChange, json_of, message_of, reading, DocumentItem, value_of, IsProperId, AllWithin, after_change, after_close, after_open, entry_at, refused, Phase, IncomingData, not_json, not_a_message, response, initialize, shutdown, other_request, did_open, did_change, did_close, other_notification, incoming_of, ServerData, content_change_from_data, session_encoding, step_in, Sender, Client, Server, Version, Record, canonical_of_record, Known, known_after, last_in, uri_of, Mention, is_mention, last_for, last_record, mentioned, most_mentions, without, Session, Verdict, answered, encoding_for, has_changed, is_change, judge, judge_from, id_of, is_json, method_of, within, common_steps}
+use Rattle.lsp_replay.proofs.Prelude.{if◌then◌else◌, ◌≡◌, ℕ, ℤ, suc, ◌^◌, ◌<◌, ◌≤◌, Bool, true, false, List, [], ◌∷◌, ◌++◌, length, map, Option, Some, None, refl, sym, ap, ◌∙◌, subst, arith, take, bytes_eq, FitsSigned, IsUtf8, ⊤, option_and_then, option_map_or, is_utf8, cases_Bool, ltb-false, IsUtf8-from_is_utf8, Json, IsUtf8-are_ascii, Data, read, LimitsData, AreInRange, units_in, ContentChange, json_of, message_of, reading, DocumentItem, value_of, IsProperId, AllWithin, after_change, after_close, after_open, entry_at, refused, Phase, IncomingData, not_json, not_a_message, response, initialize, shutdown, other_request, did_open, did_change, did_close, other_notification, incoming_of, ServerData, content_change_from_data, session_encoding, step_in, Sender, Client, Server, Version, Record, canonical_of_record, Known, known_after, last_in, uri_of, Mention, is_mention, last_for, last_record, mentioned, most_mentions, without, Session, Verdict, answered, encoding_for, has_changed, judge, judge_from, id_of, is_json, method_of, within, common_steps, change_in, is_some}
 use Rattle.std.specs.Int.{w32}
 use Rattle.lsp_message.proofs.BodyLemmas.{body_is}
 use Rattle.lsp_store.specs.Message.{change_body, change_message}
@@ -165,7 +165,7 @@ judged_fits limits known s r fit =
       made = numbered_more (has_changed (judge s r).verdict)
           (uri_of r.head.side (incoming_of (reading r.body))) (judge s r).session.records known.made records
           fit.made;
-      mentions = numbered_more (is_mention (is_change (incoming_of (reading r.body))) (judge s r).verdict)
+      mentions = numbered_more (is_mention (is_some (change_in (incoming_of (reading r.body)))) (judge s r).verdict)
           (uri_of r.head.side (incoming_of (reading r.body))) (judge s r).session.records known.mentions records
           fit.mentions;
     }

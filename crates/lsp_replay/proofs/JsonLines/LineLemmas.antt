@@ -49,7 +49,7 @@ reason_by true limits m renamed answer =
     (plain_reason_with limits (change_in m) answer renamed)
 
 reason_if : (limits : LimitsData) (m : IncomingData) (renamed : Bool) (verdict : Verdict)
-    → IsValueIf (reason_json limits m renamed verdict) (reason_value limits m renamed verdict)
+    → IsValueIf (reason_json limits (change_in m) renamed verdict) (reason_value limits m renamed verdict)
 reason_if limits m renamed (answered answer) = reason_by (is_refused answer) limits m renamed answer
 reason_if limits m renamed _ = tt
 
@@ -178,7 +178,7 @@ module _ (limits : LimitsData) (ranges : AreInRange limits) (details : Details) 
       (values_if (λ n. n < 2 ^ 64) decimal natural a_natural (last_in known uri j.verdict)
       (last_fits known uri j.verdict fits.made fits.mentions)) notes in
       let reason = a_member_if (codes "reason") _
-      (reason_json j.session.server.config.limits m (is_renamed known uri j.verdict) j.verdict)
+      (reason_json j.session.server.config.limits (change_in m) (is_renamed known uri j.verdict) j.verdict)
       (reason_value j.session.server.config.limits m (is_renamed known uri j.verdict) j.verdict) _ refl
       (reason_if j.session.server.config.limits m (is_renamed known uri j.verdict) j.verdict) last in
       let word = a_quoted (codes "word") (verdict_word j.verdict) _ _ refl (plain_verdict j.verdict) reason in

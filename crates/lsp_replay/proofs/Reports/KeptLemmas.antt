@@ -1,5 +1,5 @@
 -- The last text of a document, over one more record.
-use Rattle.lsp_replay.proofs.Prelude.{arith, cases_Bool, common_steps, ◌≡◌, ◌⊎◌, inl, inr, ℕ, Bool, true, false, List, [], ◌∷◌, ◌++◌, map, Option, Some, None, option_map, bytes_eq, refl, sym, ap, ◌∙◌, if◌then◌else◌, ℤ, bytes_eq-Decides, units_in, Encoding, ContentChange, reading, DocumentItem, CloseData, Phase, New, Running, Down, IncomingData, not_json, initialize, did_open, did_change, did_close, ServerData, step_in, result_step, content_change_from_data, session_encoding, Version, Session, judged, counted, judge_client, judge_server, encoding_for, last_text, last_text_in, BodyData, from_client, from_server, judge_read, closed_by, kept_after, text_at, text_closed}
+use Rattle.lsp_replay.proofs.Prelude.{Bool, List, None, Option, Some, [], ap, arith, bytes_eq, false, inl, inr, map, refl, sym, true, ℕ, ℤ, ◌++◌, ◌∙◌, ◌∷◌, ◌≡◌, ◌⊎◌, cases_Bool, common_steps, bytes_eq-Decides, option_map, ContentChange, Version, reading, CloseData, DocumentItem, last_text, last_text_in, Session, counted, encoding_for, judge_client, judge_server, judged, BodyData, from_client, from_server, judge_read, closed_by, kept_after, text_at, text_closed, IncomingData, did_change, did_close, did_open, initialize, not_json, ServerData, content_change_from_data, result_step, session_encoding, step_in, Phase, Down, New, Running, units_in, Encoding}
 use Rattle.lsp_store.specs.Table.{Refusal, entry_at, after_open, after_change, after_close, close_refusal, change_refusal, open_refusal, unless_refused}
 use Rattle.lsp_replay.proofs.Records.JudgeLemmas.{of_incoming}
 
@@ -8,16 +8,10 @@ use Rattle.lsp_replay.proofs.Records.JudgeLemmas.{of_incoming}
 abbrev Stays : List DocumentItem → List DocumentItem → List ℕ → Type 0
 Stays table next uri = entry_at next uri ≡ None → entry_at table uri ≡ None
 
-none_more : (b : Bool) (entry : DocumentItem) (found other : Option DocumentItem) → (other ≡ None → found ≡ None)
-    → (if b then Some entry else other) ≡ None → (if b then Some entry else found) ≡ None
-none_more true entry found other stays e = absurd (let wrong : Some entry ≡ None = e in cc)
-none_more false entry found other stays e = stays e
-
 stays_last : (table : List DocumentItem) (entry : DocumentItem) (uri : List ℕ) → Stays table (table ++ entry ∷ []) uri
 stays_last [] entry uri e = refl
 stays_last (x ∷ table) entry uri e =
-    none_more (bytes_eq uri x.uri) x (entry_at table uri) (entry_at (table ++ entry ∷ []) uri)
-    (stays_last table entry uri) e
+    grind (arith, common_steps, cases_Bool, (stays_last table entry uri))
 
 last_found : (table : List DocumentItem) (entry : DocumentItem) (uri : List ℕ) → bytes_eq uri entry.uri ≡ true
     → entry_at (table ++ entry ∷ []) uri ≡ None → ⊥
@@ -109,15 +103,7 @@ kept_text (Some entry) old = refl
 text_over : (uri : List ℕ) (table next : List DocumentItem) (closed old new : Option (List ℕ))
     → new ≡ kept_after closed old → (closed ≡ text_at table uri) ⊎ ((closed ≡ None) × Stays table next uri)
     → last_text new (entry_at next uri) ≡ last_text (last_text old (entry_at table uri)) (entry_at next uri)
-text_over uri table next closed old new is (inl closes) =
-    ap (λ (k : Option (List ℕ)). last_text k (entry_at next uri)) (is ∙ ap (λ (c : Option (List ℕ)). kept_after c old)
-    closes ∙ kept_text (entry_at table uri) old)
-text_over uri table next closed old new is (inr stays) = by (entry_at next uri) refl
-  where
-    by : (found : Option DocumentItem) → entry_at next uri ≡ found → last_text new found
-        ≡ last_text (last_text old (entry_at table uri)) found
-    by (Some entry) e = refl
-    by None e = is ∙ ap (λ (c : Option (List ℕ)). kept_after c old) stays.0 ∙ sym (ap (last_text old) (stays.1 e))
+text_over uri table next closed old new is way = grind (arith, common_steps)
 
 over_read : (s : Session) (read : BodyData) (uri : Option (List ℕ)) (old new : Option (List ℕ))
     → new ≡ kept_after (closed_by s.server.table uri read) old

@@ -1,5 +1,5 @@
 -- What is noted of a message.
-use Rattle.lsp_replay.proofs.Prelude.{◌≡◌, ℕ, suc, ◌+◌, ◌-◌, ◌<◌, ◌≤◌, ⊎_elim, Bool, true, false, List, [], ◌∷◌, ◌++◌, length, map, Option, Some, None, refl, sym, ap, ap₂, ◌∙◌, arith, append_assoc, append-nil, option_map, encode_utf8_all, get_or, le-leb, nat_lt, string_bytes, string_len, Result, Ok, Err, flat_map, slice_range, replace_range, le-ltb, lt-ltb, bytes_eq-Decides, IsUtf8-string_bytes, encodes-chars, Position, Range, Change, ContentChange, Fault, InsideStart, InsideStop, Reversed, meaning, ends_of, content_change, fault_at, places_at, alone, batch_fault_of, text_within, EditFault, content_change_view, content_change_from_data, Note, Terms, batch_notes, change_notes, left_by, note_words, notes_after, notes_from, replaced_by, taken_as, common_steps}
+use Rattle.lsp_replay.proofs.Prelude.{◌≡◌, ℕ, ◌+◌, ◌-◌, ◌<◌, ◌≤◌, ⊎_elim, Bool, true, false, List, [], ◌∷◌, ◌++◌, length, map, Option, Some, None, refl, sym, ap, ap₂, ◌∙◌, arith, append-nil, option_map, encode_utf8_all, get_or, le-leb, nat_lt, string_bytes, string_len, Result, Ok, Err, flat_map, slice_range, replace_range, le-ltb, lt-ltb, bytes_eq-Decides, IsUtf8-string_bytes, encodes-chars, Position, Range, Change, ContentChange, Fault, InsideStart, meaning, ends_of, content_change, fault_at, places_at, alone, batch_fault_of, text_within, EditFault, content_change_view, content_change_from_data, Note, Terms, batch_notes, change_notes, left_by, note_words, if_left, notes_from, replaced_by, taken_as, common_steps}
 use Rattle.std.specs.Result.{result_ok}
 use Rattle.std.specs.Str.{IsCharBoundary, IsUtf8, bytes_eq, chars}
 use Rattle.lsp_text.specs.Positions.{denoted, exact_position}
@@ -149,7 +149,7 @@ pub edits_read : (changes : List Change) → map content_change_from_data (map c
 edits_read [] = refl
 edits_read (change ∷ changes) = ap (λ (edits : List ContentChange). content_change change ∷ edits) (edits_read changes)
 
-nothing_after : (left : Option (List ℕ)) → notes_after (λ (next : List ℕ). []) left ≡ []
+nothing_after : (left : Option (List ℕ)) → if_left {A = Note} (λ next. []) left ≡ []
 nothing_after None = refl
 nothing_after (Some next) = refl
 

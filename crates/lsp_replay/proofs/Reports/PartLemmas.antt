@@ -1,5 +1,5 @@
 -- What `replay` of a part gives for a record, and over all records.
-use Rattle.lsp_replay.proofs.Prelude.{◌≡◌, ◌≢◌, ℕ, Bool, true, false, List, [], ◌∷◌, Option, Some, None, bytes_eq, refl, sym, ap, ◌∙◌, Ok, not, ◌&&◌, ◌||◌, if◌then◌else◌, ends_so, DocumentItem, Outcome, Record, RunOutput, written_first, stopped, Session, Judged, Verdict, bad, counted, judge, session_outcome, RecordOutput, followed_by, opened_if, opened_in, Found, PartData, found_after, found_if, is_last, is_named, last_text_in, only, part_bytes, part_outcome, part_step, refreshed, replaying_part, text_found, with_ending, BodyData, body_read, closed_by, kept_after, open_read, output_in}
+use Rattle.lsp_replay.proofs.Prelude.{Bool, List, Option, [], ap, arith, false, refl, sym, true, ℕ, ◌∙◌, ◌∷◌, ◌≡◌, ◌≢◌, cases_Bool, common_steps, Ok, Record, DocumentItem, RecordOutput, followed_by, output_in, opened_if, opened_in, Found, PartData, found_after, found_if, is_last, last_text_in, part_bytes, part_outcome, part_step, refreshed, replaying_part, text_found, RunOutput, stopped, written_first, Judged, Session, Verdict, bad, counted, judge, session_outcome, Outcome, BodyData, body_read, closed_by, kept_after, None, on_client, uri_opened, Client}
 use Rattle.lsp_replay.proofs.Records.BodyLemmas.{judged_at}
 use Rattle.lsp_replay.proofs.Records.OutputLemmas.{output_after, unless_not}
 use Rattle.lsp_replay.proofs.Reports.KeptLemmas.{kept_over}
@@ -40,28 +40,10 @@ abbrev with_text : Option (List ℕ) → Bool → Option (List ℕ) → Found
 with_text uri several text = record { uri = uri; several = several; text = text }
 
 module _ (table : List DocumentItem) (several : Bool) (a b : Option (List ℕ)) where
-  ending_alike : (uri : List ℕ) (found : Option (List ℕ)) → last_text_in found a table ≡ last_text_in found b table
-      → refreshed table (with_ending uri found (with_text found several a))
-      ≡ refreshed table (with_ending uri found (with_text found several b))
-  ending_alike uri None same = refl
-  ending_alike uri (Some other) same = ap (with_text (Some other) (several || not (bytes_eq other uri))) same
-
-  if_alike : (exact ending : Bool) (uri : List ℕ) (found : Option (List ℕ))
-      → last_text_in found a table ≡ last_text_in found b table
-      → refreshed table (if exact then only uri else if ending then with_ending uri found (with_text found several a)
-      else with_text found several a)
-      ≡ refreshed table (if exact then only uri else if ending then with_ending uri found (with_text found several b)
-      else with_text found several b)
-  if_alike true ending uri found same = refl
-  if_alike false true uri found same = ending_alike uri found same
-  if_alike false false uri found same = ap (with_text found several) same
-
   pub found_alike : (asked opened found : Option (List ℕ)) → last_text_in found a table ≡ last_text_in found b table
       → refreshed table (found_if asked opened (with_text found several a))
       ≡ refreshed table (found_if asked opened (with_text found several b))
-  found_alike (Some asked) (Some uri) found same =
-      if_alike (bytes_eq uri asked) (ends_so uri asked && not (is_named asked found)) uri found same
-  found_alike _ _ found same = ap (with_text found several) same
+  found_alike asked opened found same = grind (arith, common_steps, cases_Bool)
 
 -- ---- the document that is found after a record
 
@@ -69,14 +51,16 @@ module _ (part : PartData) (s t : Session) (r : Record) (verdict : Verdict) (is_
     (session : t ≡ (judge s r).session) (read : BodyData)
     (is_read : read ≡ body_read r.head.version r.head.side r.body) where
   pub found_next : (old kept new : Found) (closed uri opened : Option (List ℕ))
-      → closed ≡ closed_by s.server.table old.uri read → uri ≡ open_read read → opened ≡ opened_if verdict uri
+      → closed ≡ closed_by s.server.table old.uri read → uri ≡ on_client None (uri_opened Client) read
+      → opened ≡ opened_if verdict uri
       → kept ≡ record old { text = kept_after closed old.text } → new ≡ found_if part.uri opened kept
       → refreshed t.server.table new ≡ found_after part (refreshed s.server.table old) r (judge s r)
   found_next old kept new closed uri opened closed_is uri_is opened_is kept_is new_is =
       let before = last_text_in old.uri old.text s.server.table in
       let same = kept_over s s t read old.uri closed old.text (kept_after closed old.text) refl closed_is
       (session ∙ ap (λ (j : Judged). (counted j).session) (sym (judged_at s r.head r.body s read refl is_read))) refl in
-      let opens = opened_at s r verdict is_judged uri opened (uri_is ∙ ap open_read is_read) opened_is in
+      let opens = opened_at s r verdict is_judged uri opened (uri_is
+      ∙ ap (on_client None (uri_opened Client)) is_read) opened_is in
       ap (refreshed t.server.table) (new_is ∙ ap (found_if part.uri opened) kept_is)
       ∙ found_alike t.server.table old.several (kept_after closed old.text) before part.uri opened old.uri same
       ∙ ap (λ (o : Option (List ℕ)). refreshed t.server.table (found_if part.uri o (refreshed s.server.table old)))

@@ -1,6 +1,5 @@
 -- The reason of a record, by the change that a running server received: a change that isn't received isn't refused.
-use Rattle.lsp_replay.proofs.Prelude.{cond_both, ◌≡◌, ◌⊎◌, inl, inr, ℕ, Bool, List, Option, Some, None, refl, sym, ap, ◌∙◌, subst, ⊎_elim, ⊤, ◌&&◌, is_none, LimitsData, IdData, reading, ChangeData, Phase, New, Running, Down, Ended, dropped, IncomingData, did_change, incoming_of, Head, Sender, Client, Server, Version, change_in, Listing, Note, Seen, listed_line, is_strict_refusal, Session, Verdict, answered, recorded, bad, encoding_for, is_running, judge_client, judge_from, judge_server, reason_json, body_read, reason_of, judge_at, received_of}
-use Rattle.lsp_replay.proofs.Canonical.CanonicalLogLemmas.{heard_as}
+use Rattle.lsp_replay.proofs.Prelude.{List, None, Option, Some, ap, inl, inr, refl, subst, sym, ℕ, ⊎_elim, ◌&&◌, ◌∙◌, ◌≡◌, ◌⊎◌, cond_both, is_none, ⊤, Head, Sender, Client, Server, Version, IdData, reading, ChangeData, change_in, is_strict_refusal, Session, Verdict, answered, bad, encoding_for, is_running, judge_client, judge_from, judge_server, recorded, body_read, judge_at, received_of, dropped, IncomingData, did_change, incoming_of, Phase, Down, Ended, New, Running, Encoding, is_some, is_mention}
 use Rattle.lsp_replay.proofs.Records.JudgeLemmas.{asks_change}
 
 -- a verdict that has no reason, whatever was sent
@@ -10,9 +9,9 @@ IsQuiet bad = ⊤
 IsQuiet (answered dropped) = ⊤
 IsQuiet (answered answer) = ⊥
 
-heard_quiet : (verdict : Verdict) → (verdict ≡ recorded) ⊎ (verdict ≡ bad) → IsQuiet verdict
-heard_quiet verdict (inl e) = rw e tt
-heard_quiet verdict (inr e) = rw e tt
+heard_quiet : (s : Session) (announced : Option (Option Encoding)) → IsQuiet (judge_server s announced).verdict
+heard_quiet s (Some None) = tt
+heard_quiet s _ = tt
 
 -- a change is received, or its verdict has no reason
 module _ (s : Session) (version : Version) (p : ChangeData) where
@@ -34,9 +33,7 @@ module _ (s : Session) (body : List ℕ) where
       ⊎ IsQuiet (judge_from s version side body).verdict
 
   received_at : (version : Version) (side : Sender) → Received version side
-  received_at version Server =
-      inr (heard_quiet (judge_server s (encoding_for s.expected (reading body))).verdict
-      (heard_as s (encoding_for s.expected (reading body))))
+  received_at version Server = inr (heard_quiet s (encoding_for s.expected (reading body)))
   received_at version Client = by (change_in m) refl
     where
       state : (p : ChangeData) → m ≡ did_change (Some p)
@@ -63,7 +60,7 @@ module _ {X : Type 0} (f : Option ChangeData → Verdict → X)
   quiet change (answered dropped) q = on_dropped change
   quiet change _ q = absurd q
 
-  by_received : f (received_of s (body_read head.version head.side body)) (judge_at s head body).verdict
+  pub by_received : f (received_of s (body_read head.version head.side body)) (judge_at s head body).verdict
       ≡ f (change_in (incoming_of (reading body))) (judge_at s head body).verdict
   by_received =
       ⊎_elim
@@ -74,31 +71,12 @@ module _ {X : Type 0} (f : Option ChangeData → Verdict → X)
       ∙ sym (quiet (change_in (incoming_of (reading body))) (judge_at s head body).verdict q))
       (received_at s body head.version head.side)
 
-module _ (listing : Listing) (limits : LimitsData) (number : ℕ) (uri noted : Option (List ℕ)) (seen : Seen)
-    (notes : List Note) where
-  pub listed_at : (s : Session) (head : Head) (body : List ℕ)
-      → listed_line listing limits number uri noted (received_of s (body_read head.version head.side body)) seen
-      (judge_at s head body).verdict notes
-      ≡ listed_line listing limits number uri noted (change_in (incoming_of (reading body))) seen
-      (judge_at s head body).verdict notes
-  listed_at =
-      by_received (λ change verdict. listed_line listing limits number uri noted change seen verdict notes) (λ c. refl)
-      (λ c. refl) (λ c. refl)
+pub mention_at : (s : Session) (head : Head) (body : List ℕ)
+    → is_mention (is_some (received_of s (body_read head.version head.side body))) (judge_at s head body).verdict
+    ≡ is_mention (is_some (change_in (incoming_of (reading body)))) (judge_at s head body).verdict
+mention_at = by_received (λ change verdict. is_mention (is_some change) verdict) (λ c. refl) (λ c. refl) (λ c. refl)
 
 pub strict_at : (s : Session) (head : Head) (body : List ℕ)
     → is_strict_refusal (received_of s (body_read head.version head.side body)) (judge_at s head body).verdict
     ≡ is_strict_refusal (change_in (incoming_of (reading body))) (judge_at s head body).verdict
 strict_at = by_received is_strict_refusal (λ c. refl) (λ c. refl) (λ c. refl)
-
-reason_same : (limits : LimitsData) (m : IncomingData) (renamed : Bool) (verdict : Verdict)
-    → reason_of limits (change_in m) renamed verdict ≡ reason_json limits m renamed verdict
-reason_same limits m renamed (answered answer) = refl
-reason_same limits m renamed _ = refl
-
-pub reason_at : (limits : LimitsData) (renamed : Bool) (s : Session) (head : Head) (body : List ℕ)
-    → reason_of limits (received_of s (body_read head.version head.side body)) renamed (judge_at s head body).verdict
-    ≡ reason_json limits (incoming_of (reading body)) renamed (judge_at s head body).verdict
-reason_at limits renamed s head body =
-    by_received (λ change verdict. reason_of limits change renamed verdict) (λ c. refl) (λ c. refl) (λ c. refl) s head
-    body
-    ∙ reason_same limits (incoming_of (reading body)) renamed (judge_at s head body).verdict

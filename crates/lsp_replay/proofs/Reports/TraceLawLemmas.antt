@@ -1,5 +1,5 @@
 -- `trace` beside `check` and `replay`.
-use Rattle.lsp_replay.proofs.Prelude.{◌≡◌, ℕ, Bool, true, false, List, [], ◌∷◌, ◌++◌, Option, Some, None, refl, sym, ap, ◌∙◌, Err, ◌&&◌, codes, decimal, flat_map, if◌then◌else◌, option_map, bytes_eq-Decides, reading, DocumentItem, ErrorCode, ParseError, entry_at, reply, IncomingData, incoming_of, BadLog, Record, Details, RunOutput, written_first, canonical_of_record, check_line, checking, code_word, followed_by, log_config, replaying, report_from, unless_bad, verdict_word, writes, run_output_in, Session, Verdict, answered, has_changed, bad, opened, Judged, judge, Known, known_after, nothing_known, uri_of, is_renamed, last_in, notes_of, body_json, document_after, id_json, id_of, is_json, json_string, member, method_of, notes_json, reason_json, side_word, text_json, trace_line, tracing, version_json, within, Line, TraceLaw, checked_line, is_document, traced_line, written_text, output_in, lines}
+use Rattle.lsp_replay.proofs.Prelude.{if◌then◌else◌, lines, Bool, List, None, Option, Some, [], ap, arith, codes, false, refl, true, ℕ, ◌&&◌, ◌++◌, ◌∙◌, ◌∷◌, ◌≡◌, common_steps, bytes_eq-Decides, Err, decimal, flat_map, option_map, Record, reading, DocumentItem, ErrorCode, ParseError, canonical_of_record, check_line, checking, code_word, followed_by, log_config, output_in, replaying, report_from, unless_bad, verdict_word, writes, Known, is_renamed, known_after, last_in, nothing_known, uri_of, notes_of, RunOutput, written_first, Judged, Session, Verdict, answered, bad, has_changed, judge, opened, body_json, document_after, id_json, id_of, is_json, json_string, member, method_of, notes_json, reason_json, side_word, text_json, trace_line, tracing, version_json, within, Details, run_output_in, Line, TraceLaw, checked_line, is_document, traced_line, written_text, reply, IncomingData, incoming_of, entry_at, BadLog, change_in}
 use Rattle.std.specs.Str.{bytes_eq}
 use Rattle.lsp_replay.proofs.Reports.MemberLemmas.{line_parts}
 use Rattle.lsp_replay.proofs.Records.TableLemmas.{record_keeps}
@@ -27,33 +27,24 @@ module _ (details : Details) (known : Known) (s : Session) (r : Record) (m : Inc
   abbrev text : Option (List ℕ)
   text = text_if (details.texts && has_changed j.verdict) document
 
-  abbrev before : List ℕ
-  before =
-      codes ",\"offset\":" ++ decimal r.head.place ++ codes ",\"from\":\"" ++ side_word r.head.side ++ codes "\""
-      ++ member (codes ",\"method\":") (option_map json_string (method_of m)) ++ member (codes ",\"id\":")
-      (option_map id_json (id_of m))
-
-  abbrev between : List ℕ
-  between =
-      member (codes ",\"reason\":")
-      (reason_json j.session.server.config.limits m (is_renamed known uri j.verdict) j.verdict)
-      ++ member (codes ",\"last\":") (option_map decimal (last_in known uri j.verdict))
-      ++ member (codes ",\"notes\":") (notes_json (notes_of s known.ranged r.body j.verdict))
-      ++ member (codes ",\"version\":") (version_json document) ++ member (codes ",\"canonical\":")
-      (within s.server.config.limits.max_body (canonical_of_record s r.body j.verdict))
-
-  abbrev after : List ℕ
-  after = member (codes ",\"body\":") (body_json (details.bodies && is_json m) r.body) ++ codes "}\n"
-
   abbrev line_of : Line
   line_of = record {
     number = j.session.records;
     word = verdict_word j.verdict;
     uri = uri;
     text = text;
-    before = before;
-    between = between;
-    after = after;
+    before =
+        codes ",\"offset\":" ++ decimal r.head.place ++ codes ",\"from\":\"" ++ side_word r.head.side ++ codes "\""
+        ++ member (codes ",\"method\":") (option_map json_string (method_of m)) ++ member (codes ",\"id\":")
+        (option_map id_json (id_of m));
+    between =
+        member (codes ",\"reason\":")
+        (reason_json j.session.server.config.limits (change_in m) (is_renamed known uri j.verdict) j.verdict)
+        ++ member (codes ",\"last\":") (option_map decimal (last_in known uri j.verdict))
+        ++ member (codes ",\"notes\":") (notes_json (notes_of s known.ranged r.body j.verdict))
+        ++ member (codes ",\"version\":") (version_json document) ++ member (codes ",\"canonical\":")
+        (within s.server.config.limits.max_body (canonical_of_record s r.body j.verdict));
+    after = member (codes ",\"body\":") (body_json (details.bodies && is_json m) r.body) ++ codes "}\n";
   }
 
   line_of_trace : trace_line details known s r j m ≡ traced_line line_of
@@ -66,7 +57,7 @@ module _ (details : Details) (known : Known) (s : Session) (r : Record) (m : Inc
       (member (codes ",\"uri\":") (option_map json_string uri))
       (codes ",\"word\":\"") (verdict_word j.verdict) (codes "\"")
       (member (codes ",\"reason\":")
-      (reason_json j.session.server.config.limits m (is_renamed known uri j.verdict) j.verdict))
+      (reason_json j.session.server.config.limits (change_in m) (is_renamed known uri j.verdict) j.verdict))
       (member (codes ",\"last\":") (option_map decimal (last_in known uri j.verdict)))
       (member (codes ",\"notes\":") (notes_json (notes_of s known.ranged r.body j.verdict)))
       (member (codes ",\"version\":") (version_json document))
@@ -91,10 +82,7 @@ text_in table uri = option_map (λ (entry : DocumentItem). entry.text) (entry_at
 -- the text in the line of an accepted record about the document
 text_there : (asked here : Bool) (table : List DocumentItem) (uri : List ℕ) (other : Option (List ℕ)) → asked ≡ true
     → (here && is_document uri other) ≡ true → text_if (asked && here) (document_after table other) ≡ text_in table uri
-text_there asked true table uri (Some other) is both =
-    ap (λ (b : Bool). text_if (b && true) (entry_at table other)) is
-    ∙ ap (λ (u : List ℕ). text_in table u) (sym ((bytes_eq-Decides uri other).0 both))
-text_there asked _ table uri _ is both = absurd (let wrong : false ≡ true = both in cc)
+text_there asked here table uri other is both = grind (arith, common_steps, bytes_eq-Decides)
 
 module _ (details : Details) (known : Known) (s : Session) (r : Record) (uri : List ℕ)
     (asked : details.texts ≡ true) where
@@ -109,9 +97,7 @@ module _ (details : Details) (known : Known) (s : Session) (r : Record) (uri : L
 
   by_case : (old : Option (List ℕ)) → old ≡ text_in s.server.table uri → (b : Bool) → is_changed_here ≡ b
       → (if b then l.text else old) ≡ text_in table_after uri
-  by_case old is true here = text_there details.texts (has_changed (judge s r).verdict) table_after uri l.uri asked here
-  by_case old is false here =
-      is ∙ ap (option_map (λ (entry : DocumentItem). entry.text)) (sym (record_keeps uri s r here))
+  by_case old is b here = grind (arith, common_steps, text_there, record_keeps)
 
   text_after : (old : Option (List ℕ)) → old ≡ text_in s.server.table uri
       → (if bytes_eq l.word (codes "changed") && is_document uri l.uri then l.text else old) ≡ text_in table_after uri

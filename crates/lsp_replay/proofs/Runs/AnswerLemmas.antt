@@ -1,5 +1,5 @@
 -- What was written and answered by the records of one log.
-use Rattle.lsp_replay.proofs.Prelude.{◌≡◌, ◌⊎◌, inl, inr, ℕ, ◌<◌, Bool, true, false, List, [], ◌∷◌, ◌++◌, length, Option, Some, None, refl, sym, ap, ◌∙◌, append_assoc, append-nil, length-append, arith, Result, Err, Appends, FrameFault, written_is_frame, Outcome, EngineFault, NoMemory, TooManyTurns, Log, IsMalformed, IsBadMark, IsReadAs, RunOutput, PortState, all_of, last_of, IsCause, is_cut_off, last_if, RunStart, HasWritten, IsAnswer, common_steps}
+use Rattle.lsp_replay.proofs.Prelude.{Bool, List, None, Option, Some, [], ap, append-nil, append_assoc, arith, false, inl, inr, length, refl, sym, true, ℕ, ◌++◌, ◌<◌, ◌∙◌, ◌∷◌, ◌≡◌, ◌⊎◌, common_steps, length-append, Appends, Err, Result, written_is_frame, FrameFault, IsBadMark, IsMalformed, IsReadAs, Log, IsCause, is_cut_off, last_if, PortState, all_of, last_of, RunOutput, Outcome, HasWritten, IsAnswer, RunStart, EngineFault, NoMemory, TooManyTurns}
 
 -- ---- is the output at the end due?
 
@@ -11,8 +11,7 @@ module _ (last : List ℕ) where
 
   pub open_none : (ended : Bool) (rest : List ℕ) (stop : Option (Result Outcome EngineFault)) → ended ≡ false
       → last_if ended rest stop last ≡ []
-  open_none false rest stop e = refl
-  open_none true rest stop e = absurd (let wrong : true ≡ false = e in cc)
+  open_none ended rest stop e = rw e refl
 
   pub none_or_whole : (ended : Bool) (rest : List ℕ) (stop : Option (Result Outcome EngineFault))
       → (last_if ended rest stop last ≡ []) ⊎ (rest ≡ [])
@@ -21,10 +20,7 @@ module _ (last : List ℕ) where
 
   pub due_last : (ended : Bool) (rest : List ℕ) (stop : Option (Result Outcome EngineFault)) → ended ≡ true
       → rest ≡ [] → stop ≡ None → last_if ended rest stop last ≡ last
-  due_last true [] None error whole continues = refl
-  due_last true [] (Some answer) error whole continues = absurd (let wrong : Some answer ≡ None = continues in cc)
-  due_last true (x ∷ rest) stop error whole continues = absurd (let wrong : x ∷ rest ≡ [] = whole in cc)
-  due_last false rest stop error whole continues = absurd (let wrong : false ≡ true = error in cc)
+  due_last ended rest stop error whole continues = rw (error, whole, continues) refl
 
   rest_none : (ended : Bool) (rest : List ℕ) (stop : Option (Result Outcome EngineFault)) → (rest ≡ [] → ⊥)
       → last_if ended rest stop last ≡ []
@@ -70,23 +66,24 @@ module _ (start : RunStart) (state : PortState) (OnePart : Type 0) (input : List
   abbrev Whole : Result Outcome EngineFault → Type 0
   Whole result = OnePart → result ≡ Err NoMemory → HasWritten start log received_now
 
+  by_written : (result : Result Outcome EngineFault) → Whole result → (written left : List ℕ)
+      → output.out ++ at_end ≡ written ++ left → Appends start.received received_now written
+      → (is_cut_off result ≡ false → left ≡ []) → Cause written left result
+      → IsAnswer start state OnePart input received_now result
+  by_written result whole written left is wrote cut cause = record {
+    log = log;
+    reads = reads;
+    observed =
+        record { written = written; left = left; is = is; wrote = wrote; whole = cut; cause = cause };
+    whole = whole;
+  }
+
   -- the records' output was written, and no more was to be
   pub of_records : (result : Result Outcome EngineFault) → Whole result → at_end ≡ []
       → Appends start.received received_now output.out → Cause output.out [] result
       → IsAnswer start state OnePart input received_now result
-  of_records result whole none wrote cause = record {
-    log = log;
-    reads = reads;
-    observed = record {
-      written = output.out;
-      left = [];
-      is = ap (λ z. output.out ++ z) none;
-      wrote = wrote;
-      whole = λ _. refl;
-      cause = cause;
-    };
-    whole = whole;
-  }
+  of_records result whole none wrote cause =
+      by_written result whole output.out [] (ap (λ z. output.out ++ z) none) wrote (λ _. refl) cause
 
   -- the last record ended the run
   pub of_stop : (answer : Result Outcome EngineFault) → Whole answer → output.stop ≡ Some answer
@@ -104,19 +101,10 @@ module _ (start : RunStart) (state : PortState) (OnePart : Type 0) (input : List
   pub of_front : (result : Result Outcome EngineFault) → Whole result → is_cut_off result ≡ true
       → (written left : List ℕ) → output.out ≡ written ++ left → Appends start.received received_now written
       → Cause written (left ++ at_end) result → IsAnswer start state OnePart input received_now result
-  of_front result whole cut written left is wrote cause = record {
-    log = log;
-    reads = reads;
-    observed = record {
-      written = written;
-      left = left ++ at_end;
-      is = ap (λ z. z ++ at_end) is ∙ append_assoc written left at_end;
-      wrote = wrote;
-      whole = λ none. absurd (let wrong : true ≡ false = sym cut ∙ none in cc);
-      cause = cause;
-    };
-    whole = whole;
-  }
+  of_front result whole cut written left is wrote cause =
+      by_written result whole written (left ++ at_end)
+      (ap (λ z. z ++ at_end) is ∙ append_assoc written left at_end) wrote
+      (λ none. absurd (let wrong : true ≡ false = sym cut ∙ none in cc)) cause
 
   pub of_done : (result : Result Outcome EngineFault) → is_cut_off result ≡ true → HasWritten start log received_now
       → Cause output.out at_end result → IsAnswer start state OnePart input received_now result
@@ -127,19 +115,9 @@ module _ (start : RunStart) (state : PortState) (OnePart : Type 0) (input : List
       → log.rest ≡ [] → output.stop ≡ None → all_of start.run_output log ≡ written ++ left
       → Appends start.received received_now written → (is_cut_off result ≡ false → left ≡ [])
       → Cause written left result → IsAnswer start state OnePart input received_now result
-  of_all result whole written left error none continues is wrote cut cause = record {
-    log = log;
-    reads = reads;
-    observed = record {
-      written = written;
-      left = left;
-      is = ap (λ z. output.out ++ z) (due_last last state.ended log.rest output.stop error none continues) ∙ is;
-      wrote = wrote;
-      whole = cut;
-      cause = cause;
-    };
-    whole = whole;
-  }
+  of_all result whole written left error none continues is =
+      by_written result whole written left
+      (ap (λ z. output.out ++ z) (due_last last state.ended log.rest output.stop error none continues) ∙ is)
 
   -- a turn was needed
   pub needs : (written left : List ℕ) → (0 < length left) ⊎ (state.unflushed ≡ true)

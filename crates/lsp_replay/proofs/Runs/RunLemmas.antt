@@ -1,6 +1,6 @@
 -- A run between two reads, and how it ends.
-use Rattle.lsp_replay.proofs.Prelude.{◌≡◌, ℕ, ◌+◌, ◌-◌, ◌<◌, ◌≤◌, ◌^◌, Bool, true, false, List, [], ◌∷◌, ◌++◌, length, take, drop, Option, Result, Err, refl, sym, ◌∙◌, ap, subst, arith, append_assoc, append-nil, inl, inr, ◌⊎◌, ◌||◌, min, nat_eq, length-append, length-take, drop-take, take-append-drop, Consumes, Appends, Keeps, Appends-nil, Consumes-trans, Consumes-kept, place_after, IsFrameOf, lines_bytes, Outcome, EngineFault, Read, TooManyTurns, BadLog, Version, One, Two, Splitter, Log, Record, IsVersion, IsReadAs, IsUndecided, line_of, version_line, together, record_bytes, IsLineFront, IsBelowLine, IsUnfinished, IsReady, IsOpen, IsAfter, buffered_of, log_at, RunOutput, PortState, last_of, HasWritten, IsAnswer, RunStart, Ran, IsProgress, Runs, IsQuiet}
-use Rattle.lsp_frame.proofs.FrameLemmas.{or-true}
+use Rattle.lsp_replay.proofs.Prelude.{Bool, List, Option, [], ap, append-nil, append_assoc, arith, drop, false, inl, inr, length, refl, subst, sym, take, true, ℕ, ◌++◌, ◌+◌, ◌-◌, ◌<◌, ◌^◌, ◌∙◌, ◌∷◌, ◌≡◌, ◌≤◌, ◌⊎◌, Appends-nil, Consumes-kept, Consumes-trans, drop-take, length-append, length-take, take-append-drop, Appends, Consumes, Keeps, Err, Result, min, place_after, IsFrameOf, IsReadAs, IsUndecided, IsVersion, Log, Record, line_of, record_bytes, together, version_line, IsBelowLine, IsLineFront, IsUnfinished, IsAfter, IsOpen, IsReady, buffered_of, log_at, Version, One, Two, Splitter, PortState, last_of, RunOutput, Outcome, HasWritten, IsAnswer, IsProgress, Ran, RunStart, Runs, IsQuiet, EngineFault, BadLog, Read, TooManyTurns}
+use Rattle.lsp_replay.proofs.Converted.LineLemmas.{no_line}
 use Rattle.lsp_replay.proofs.Runs.AnswerLemmas.{of_done, of_records, open_none}
 use Rattle.lsp_replay.proofs.Runs.ProgressLemmas.{unfinished, went_so_far}
 
@@ -17,38 +17,14 @@ pub not_at_end : (error ended : Bool) → (error ≡ true → ended ≡ true) �
 not_at_end true ended same other = absurd (ended_not ended other (same refl))
 not_at_end false ended same other = refl
 
--- In the line of version 2 no byte is a return, so no frame begins with some first bytes of it.
-has_return : List ℕ → Bool
-has_return [] = false
-has_return (b ∷ bytes) = nat_eq b 13 || has_return bytes
-
-has_in : (xs ys : List ℕ) → has_return (xs ++ (13 ∷ ys)) ≡ true
-unfolding has_return
-has_in [] ys = refl
-has_in (x ∷ xs) ys = ap (λ b. nat_eq x 13 || b) (has_in xs ys) ∙ or-true (nat_eq x 13)
-
-line_has_none : has_return version_line ≡ false
-unfolding has_return
-line_has_none = refl
-
-regroup : (a b c d e : List ℕ) → (((a ++ b) ++ c) ++ d) ++ e ≡ a ++ (b ++ (c ++ (d ++ e)))
-regroup a b c d e = simp append_assoc
-
+-- No frame begins with some first bytes of the line of version 2.
 no_frame_in_line : (max_body : ℕ) (bytes raw body more : List ℕ) → IsLineFront bytes → IsFrameOf max_body raw body
     → bytes ≡ raw ++ more → ⊥
 no_frame_in_line max_body bytes raw body more front is_frame_of e =
-    let line : version_line ≡ bytes ++ drop (length bytes) version_line =
-    sym (take-append-drop (length bytes) version_line) ∙ ap (λ z. z ++ drop (length bytes) version_line)
-    (sym front.1) in
-    let frame : bytes ≡ ((lines_bytes is_frame_of.lines ++ (13 ∷ 10 ∷ [])) ++ body) ++ more =
-    e ∙ ap (λ z. z ++ more) is_frame_of.is in
-    let all : version_line ≡ lines_bytes is_frame_of.lines
-    ++ (13 ∷ (10 ∷ (body ++ (more ++ drop (length bytes) version_line)))) =
-    line ∙ ap (λ z. z ++ drop (length bytes) version_line) frame ∙ regroup (lines_bytes is_frame_of.lines)
-    (13 ∷ 10 ∷ []) body more (drop (length bytes) version_line) in
-    let two : false ≡ true = sym line_has_none ∙ ap has_return all ∙ has_in (lines_bytes is_frame_of.lines)
-    (10 ∷ (body ++ (more ++ drop (length bytes) version_line))) in
-    cc
+    let rest = drop (length bytes) version_line in
+    no_line max_body raw body (more ++ rest) [] is_frame_of
+    (sym (append_assoc raw more rest) ∙ ap (λ z. z ++ rest) (sym e ∙ front.1)
+    ∙ take-append-drop (length bytes) version_line ∙ sym (append-nil version_line))
 
 -- The input may still become the line, or it is nothing.
 unopened : (versions : Bool) (max_body : ℕ) (input : List ℕ) → IsLineFront input → (versions ≡ false → input ≡ [])

@@ -1,52 +1,43 @@
 -- What an engine wrote and answered is told by all the records that are whole in the bytes that it read.
-use Rattle.lsp_replay.proofs.Prelude.{◌≡◌, ◌≢◌, ◌⊎◌, inl, inr, ℕ, Bool, true, false, List, [], ◌∷◌, ◌++◌, drop, Option, Some, None, refl, sym, ap, ap₂, ◌∙◌, subst, ⊎_elim, append_assoc, append-nil, arith, length-append, Result, Ok, Err, FrameFault, Outcome, EngineFault, Read, Frame, Truncated, BodyTooLong, NoMemory, TooManyTurns, BadLog, Version, One, Two, Sender, Client, Server, Ports, LogRules, Record, Log, IsVersion, IsReadAs, HasNoRecord, IsMalformed, IsBadMark, mark_of, first_of, same_version, RunOutput, Session, judge, PortState, WroteRecords, IsCause, IsObserved, is_cut_off, last_if, last_of, IsLoopRun, IsAnswer, Ran, RefusesInput, RunStart, View, followed_by, output_in, IsEngineRun, RanOver, IsFirstOf, first_byte, start_at}
+use Rattle.lsp_replay.proofs.Prelude.{Bool, List, None, Option, Some, [], ap, append-nil, append_assoc, ap₂, arith, drop, false, inl, inr, refl, subst, sym, true, ℕ, ⊎_elim, ◌++◌, ◌∙◌, ◌∷◌, ◌≡◌, ◌≢◌, length-append, Err, Ok, Result, FrameFault, first_byte, first_of, same_version, HasNoRecord, IsBadMark, IsMalformed, IsReadAs, IsVersion, Log, LogRules, Record, mark_of, Sender, Client, Server, Version, One, Two, IsFirstOf, IsCause, IsObserved, RanOver, is_cut_off, last_if, View, followed_by, output_in, PortState, WroteRecords, last_of, IsEngineRun, RunOutput, written_first, Session, judge, Outcome, IsAnswer, IsLoopRun, Ran, RefusesInput, RunStart, start_at, Ports, EngineFault, BadLog, BodyTooLong, Frame, NoMemory, Read, TooManyTurns, Truncated}
 use Rattle.lsp_frame.proofs.FramedLemmas.{same_frame}
 use Rattle.lsp_replay.proofs.Runs.AnswerLemmas.{none_or_whole, stopped_none}
 use Rattle.lsp_replay.proofs.Runs.ProgressLemmas.{empty_rest}
 
 -- ---- outputs: a record that ended a run ends it whatever follows, and more records give more output
 
-pub settled_on : (out : List ℕ) (end : Option (Result Outcome EngineFault)) (c longer : RunOutput)
-    (answer : Result Outcome EngineFault) → (followed_by out end c).stop ≡ Some answer
-    → (c.stop ≡ Some answer → longer ≡ c) → followed_by out end longer ≡ followed_by out end c
-settled_on out None c longer answer e same = ap (followed_by out None) (same e)
-settled_on out (Some other) c longer answer e same = refl
+-- The output of some records, and that of these and of more.
+pub record Extends (c longer : RunOutput) : Type 0 where
+  pub rest : List ℕ
+  pub grows : longer.out ≡ c.out ++ rest
+  pub settles : (answer : Result Outcome EngineFault) → c.stop ≡ Some answer → longer ≡ c
+  pub silent : (answer : Result Outcome EngineFault) → c.stop ≡ Some answer → (line_due : Bool) → c.last line_due ≡ []
 
--- the same of any course
-abbrev pub Settles : (List Record → RunOutput) → Type 0
-Settles run_output = (rs more : List Record) (answer : Result Outcome EngineFault) → (run_output rs).stop ≡ Some answer
-    → run_output (rs ++ more) ≡ run_output rs
+abbrev pub ExtendsAll : (List Record → RunOutput) → Type 0
+ExtendsAll run_output = (rs more : List Record) → Extends (run_output rs) (run_output (rs ++ more))
 
-pub settled : {State : Type 0} (view : View State) (state : State) (s : Session) (rs more : List Record)
-    (answer : Result Outcome EngineFault) → (output_in view state s rs).stop ≡ Some answer
-    → output_in view state s (rs ++ more) ≡ output_in view state s rs
-settled view state s [] more answer e = absurd (let wrong : None ≡ Some answer = e in cc)
-settled view state s (r ∷ rs) more answer e =
+extends_on : (out : List ℕ) (end : Option (Result Outcome EngineFault)) (c longer : RunOutput) → Extends c longer
+    → Extends (followed_by out end c) (followed_by out end longer)
+extends_on out None c longer more = record {
+  rest = more.rest;
+  grows = ap (λ z. out ++ z) more.grows ∙ sym (append_assoc out c.out more.rest);
+  settles = λ answer e. ap (written_first out) (more.settles answer e);
+  silent = more.silent;
+}
+extends_on out (Some answer) c longer more =
+    record { rest = []; grows = sym (append-nil out); settles = λ _ _. refl; silent = λ _ _ _. refl }
+
+pub extends : {State : Type 0} (view : View State) (state : State) (s : Session) (rs more : List Record)
+    → Extends (output_in view state s rs) (output_in view state s (rs ++ more))
+extends view state s [] more = record {
+  rest = (output_in view state s more).out;
+  grows = refl;
+  settles = λ answer e. absurd (let wrong : None ≡ Some answer = e in cc);
+  silent = λ answer e. absurd (let wrong : None ≡ Some answer = e in cc);
+}
+extends view state s (r ∷ rs) more =
     let given = view.record_output state s r (judge s r) in
-    let next = view.next state s r (judge s r) in
-    settled_on given.out given.end (output_in view next (judge s r).session rs)
-    (output_in view next (judge s r).session (rs ++ more)) answer e
-    (settled view next (judge s r).session rs more answer)
-
-unfoldable pub Grows : RunOutput → RunOutput → Type 0
-Grows c longer = (rest : List ℕ) × (longer.out ≡ c.out ++ rest)
-
-pub grows_on : (out : List ℕ) (end : Option (Result Outcome EngineFault)) (c longer : RunOutput) → Grows c longer
-    → Grows (followed_by out end c) (followed_by out end longer)
-unfolding Grows
-grows_on out None c longer more = (more.0, ap (λ z. out ++ z) more.1 ∙ sym (append_assoc out c.out more.0))
-grows_on out (Some answer) c longer more = ([], sym (append-nil out))
-
-abbrev pub GrowsAll : (List Record → RunOutput) → Type 0
-GrowsAll run_output = (rs more : List Record) → Grows (run_output rs) (run_output (rs ++ more))
-
-pub grows : {State : Type 0} (view : View State) (state : State) (s : Session) (rs more : List Record)
-    → Grows (output_in view state s rs) (output_in view state s (rs ++ more))
-unfolding Grows
-grows view state s [] more = ((output_in view state s more).out, refl)
-grows view state s (r ∷ rs) more =
-    let given = view.record_output state s r (judge s r) in
-    grows_on given.out given.end _ _ (grows view (view.next state s r (judge s r)) (judge s r).session rs more)
+    extends_on given.out given.end _ _ (extends view (view.next state s r (judge s r)) (judge s r).session rs more)
 
 -- ---- rests that no record begins
 
@@ -76,8 +67,8 @@ bad_rest max_body input place log is side raw body more is_frame_of e =
 
 -- ---- from some records to all
 
-module _ (run_output : List Record → RunOutput) (settles : Settles run_output) (grows_all : GrowsAll run_output)
-    (log_rules : LogRules) (state : PortState) (input : List ℕ) (old new : Option (List ℕ)) (log all : Log)
+module _ (run_output : List Record → RunOutput) (extends_all : ExtendsAll run_output) (log_rules : LogRules)
+    (state : PortState) (input : List ℕ) (old new : Option (List ℕ)) (log all : Log)
     (f : IsFirstOf log_rules log all) where
   abbrev Seen : Log → Result Outcome EngineFault → Type 0
   Seen l result = IsObserved log_rules state input old new l (run_output l.records) result
@@ -97,7 +88,7 @@ module _ (run_output : List Record → RunOutput) (settles : Settles run_output)
       → IsCause log_rules state input all (run_output all.records) written left result) → Seen all result
   of_stopped result answer seen stops cause =
       let same : run_output all.records ≡ run_output log.records =
-      ap run_output f.all_are ∙ settles log.records f.more answer stops in
+      ap run_output f.all_are ∙ (extends_all log.records f.more).settles answer stops in
       let stops_all : (run_output all.records).stop ≡ Some answer = ap (λ (c : RunOutput). c.stop) same ∙ stops in
       record {
         written = seen.written;
@@ -115,23 +106,22 @@ module _ (run_output : List Record → RunOutput) (settles : Settles run_output)
   of_cut : (result : Result Outcome EngineFault) → is_cut_off result ≡ true → (seen : Seen log result)
       → ((more : List ℕ) → IsCause log_rules state input all (run_output all.records) seen.written (seen.left ++ more)
       result) → Seen all result
-  unfolding Grows
   of_cut result cut seen cause =
       ⊎_elim
       (λ (none : due log ≡ []).
-      let more = grows_all log.records f.more in
+      let more = extends_all log.records f.more in
       let out : (run_output log.records).out ≡ seen.written ++ seen.left =
       sym (append-nil (run_output log.records).out) ∙ sym (ap (λ z. (run_output log.records).out ++ z) none)
       ∙ seen.is in
-      let longer : (run_output all.records).out ≡ (seen.written ++ seen.left) ++ more.0 =
-      ap (λ rs. (run_output rs).out) f.all_are ∙ more.1 ∙ ap (λ z. z ++ more.0) out in
+      let longer : (run_output all.records).out ≡ (seen.written ++ seen.left) ++ more.rest =
+      ap (λ rs. (run_output rs).out) f.all_are ∙ more.grows ∙ ap (λ z. z ++ more.rest) out in
       record {
         written = seen.written;
-        left = seen.left ++ (more.0 ++ due all);
+        left = seen.left ++ (more.rest ++ due all);
         is = ap (λ z. z ++ due all) longer ∙ simp append_assoc;
         wrote = seen.wrote;
         whole = λ whole. absurd (let wrong : true ≡ false = sym cut ∙ whole in cc);
-        cause = cause (more.0 ++ due all);
+        cause = cause (more.rest ++ due all);
       })
       (λ (nothing : log.rest ≡ []). of_same result seen (empty_rest log_rules.max_body log nothing))
       (none_or_whole (last_of run_output log) state.ended log.rest (run_output log.records).stop)
@@ -159,9 +149,9 @@ module _ (run_output : List Record → RunOutput) (settles : Settles run_output)
 
 -- ---- what the contract of an engine says, from what the loop does
 
-module _ (start : RunStart) (settles : Settles start.run_output) (grows_all : GrowsAll start.run_output)
-    {state : PortState} {OnePart : Type 0} {left_now received_now : Option (List ℕ)}
-    {result : Result Outcome EngineFault} (ran : Ran start state OnePart left_now received_now result) where
+module _ (start : RunStart) (extends_all : ExtendsAll start.run_output) {state : PortState} {OnePart : Type 0}
+    {left_now received_now : Option (List ℕ)} {result : Result Outcome EngineFault}
+    (ran : Ran start state OnePart left_now received_now result) where
   -- an input of version 2, where that is refused, has no records
   not_both : (log : Log) → IsReadAs start.log_rules ran.input log → start.log_rules.refuses_two ≡ true
       → IsVersion start.log_rules.versions Two ran.input → ⊥
@@ -175,7 +165,7 @@ module _ (start : RunStart) (settles : Settles start.run_output) (grows_all : Gr
     read = ran.read;
     reported = λ all reads ends. ⊎_elim
         (λ (a : IsAnswer start state OnePart ran.input received_now result).
-        by_cause start.run_output settles grows_all start.log_rules state ran.input start.received received_now a.log
+        by_cause start.run_output extends_all start.log_rules state ran.input start.received received_now a.log
         all (first_of same_frame start.log_rules ran.input a.log all a.reads reads ends) result a.observed
         a.observed.cause)
         (λ (no : RefusesInput start ran.input received_now result).
@@ -203,17 +193,17 @@ module _ (start : RunStart) (settles : Settles start.run_output) (grows_all : Gr
       cc))
       ran.came
 
-pub run_of_course : (run_output : List Record → RunOutput) → Settles run_output → GrowsAll run_output
-    → (in_parts : Bool) {log_rules : LogRules} {flushes : Bool} {OnePart : Type 0} {max_turns : ℕ}
-    {before after : Ports} {result : Result Outcome EngineFault} → (in_parts ≡ false → OnePart)
+pub run_of_course : (run_output : List Record → RunOutput) → ExtendsAll run_output → (in_parts : Bool)
+    {log_rules : LogRules} {flushes : Bool} {OnePart : Type 0} {max_turns : ℕ} {before after : Ports}
+    {result : Result Outcome EngineFault} → (in_parts ≡ false → OnePart)
     → IsLoopRun log_rules run_output flushes OnePart max_turns before after result
     → IsEngineRun (record { log_rules = log_rules; run_output = run_output; flushes = flushes; in_parts = in_parts })
     max_turns before after result
-run_of_course run_output settles grows_all in_parts {log_rules} {before = before} one run =
+run_of_course run_output extends_all in_parts {log_rules} {before = before} one run =
     let start = start_at log_rules run_output before in
     record {
-      all_records = over_all start settles grows_all run.ran;
-      whole = λ parts. whole_records start settles grows_all run.ran (one parts);
+      all_records = over_all start extends_all run.ran;
+      whole = λ parts. whole_records start extends_all run.ran (one parts);
       called = run.called;
       few = run.few;
       none_passed_over = run.none_passed_over;
@@ -231,4 +221,4 @@ pub run_of : {State : Type 0} (view : View State) (state : State) (s : Session) 
       in_parts = in_parts;
     }) max_turns before after result
 run_of view state s in_parts one run =
-    run_of_course (output_in view state s) (settled view state s) (grows view state s) in_parts one run
+    run_of_course (output_in view state s) (extends view state s) in_parts one run

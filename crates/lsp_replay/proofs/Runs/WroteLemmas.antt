@@ -1,5 +1,5 @@
 -- What an engine wrote where it came to the end of a log.
-use Rattle.lsp_replay.proofs.Prelude.{◌≡◌, ◌≢◌, ℕ, Bool, true, false, List, [], ◌∷◌, ◌++◌, length, Option, Some, None, inl, inr, refl, sym, ap, subst, ◌∙◌, append-nil, nat_lt, codes, ⊤, if◌then◌else◌, Result, Ok, Err, IfOk, Appends, Consumes, frame, AreInRange, Settings, Outcome, EngineFault, BadLog, BodyTooLong, AllRecords, Log, LogRules, IsReadAs, Record, RunOutput, Session, Verdict, bad, judge, opened, PortState, all_of, last_of, IsCause, IsObserved, RanOver, RecordOutput, writes, ends, followed_by, unless_bad, normalising, written, canonical_of_record, front_of, canonical_output, converting, line_before, reply_record, as_log, as_converted, log_config, canonical_log, converted, report, run_output_in, IsCanonicalLog, IsConverted, IsSquashed, Wrote, normalised, normalised_if, squashed, squashed_steps}
+use Rattle.lsp_replay.proofs.Prelude.{Bool, List, None, Option, Some, [], ap, append-nil, codes, false, inl, inr, length, nat_lt, refl, subst, sym, true, ℕ, ◌++◌, ◌∙◌, ◌∷◌, ◌≡◌, ◌≢◌, cond_both, Appends, Consumes, Err, IfOk, Ok, Result, ⊤, frame, AreInRange, IsReadAs, Log, LogRules, Record, AllRecords, IsCause, IsObserved, RanOver, RecordOutput, View, as_converted, as_log, canonical_log, canonical_of_record, canonical_output, converted, converting, ends, followed_by, front_of, line_before, log_config, normalising, reply_record, report, unless_bad, writes, written, PortState, all_of, last_of, RunOutput, Session, Verdict, bad, judge, opened, normalised, normalised_if, squashed, Settings, Outcome, run_output_in, squashed_steps, IsCanonicalLog, IsConverted, IsSquashed, Wrote, EngineFault, BadLog, BodyTooLong, IsReported}
 use Rattle.lsp_frame.proofs.DecisionLemmas.{decision_law}
 use Rattle.lsp_log.proofs.AllRecordsLemmas.{all_records_law}
 use Rattle.lsp_replay.proofs.Runs.AnswerLemmas.{due_last}
@@ -15,12 +15,12 @@ abbrev pub IsNotOk : Option (Result Outcome EngineFault) → Type 0
 IsNotOk (Some (Ok outcome)) = ⊥
 IsNotOk _ = ⊤
 
-pub not_ok_on : (out : List ℕ) (end : Option (Result Outcome EngineFault)) (c : RunOutput) → IsNotOk end
+not_ok_on : (out : List ℕ) (end : Option (Result Outcome EngineFault)) (c : RunOutput) → IsNotOk end
     → IsNotOk c.stop → IsNotOk (followed_by out end c).stop
 not_ok_on out None c here later = later
 not_ok_on out (Some answer) c here later = here
 
-pub unless_not_ok : (r : Record) (verdict : Verdict) (g : RecordOutput) → IsNotOk g.end
+unless_not_ok : (r : Record) (verdict : Verdict) (g : RecordOutput) → IsNotOk g.end
     → IsNotOk (unless_bad r verdict g).end
 unless_not_ok r bad g not_ok = tt
 unless_not_ok r _ g not_ok = not_ok
@@ -28,31 +28,27 @@ unless_not_ok r _ g not_ok = not_ok
 written_not_ok : (max_body : ℕ) (r : Record) (front : List ℕ) (canonical : Option (List ℕ))
     → IsNotOk (written max_body r front canonical).end
 written_not_ok max_body r front None = tt
-written_not_ok max_body r front (Some body) = by (nat_lt max_body (length body))
-  where
-    by : (over : Bool) → IsNotOk (if over then ends [] (Err (BodyTooLong r.head.place))
-        else writes (front ++ frame body)).end
-    by true = tt
-    by false = tt
+written_not_ok max_body r front (Some body) =
+    cond_both (nat_lt max_body (length body)) (ends [] (Err (BodyTooLong r.head.place))) (writes (front ++ frame body))
+    (λ (given : RecordOutput). IsNotOk given.end) (λ _. tt) (λ _. tt)
+
+module _ (view : View (Unit {0}))
+    (never : (s : Session) (r : Record) → IsNotOk (view.record_output tt s r (judge s r)).end) where
+  never_ok : (s : Session) (rs : List Record) → IsNotOk (run_output_in view s rs).stop
+  never_ok s [] = tt
+  never_ok s (r ∷ rs) =
+      let given = view.record_output tt s r (judge s r) in
+      not_ok_on given.out given.end (run_output_in view (judge s r).session rs) (never s r)
+      (never_ok (judge s r).session rs)
 
 pub normal_not_ok : (s : Session) (rs : List Record) → IsNotOk (run_output_in normalising s rs).stop
-normal_not_ok s [] = tt
-normal_not_ok s (r ∷ rs) =
-    not_ok_on (unless_bad r (judge s r).verdict (canonical_output s r (judge s r))).out
-    (unless_bad r (judge s r).verdict (canonical_output s r (judge s r))).end
-    (run_output_in normalising (judge s r).session rs)
-    (unless_not_ok r (judge s r).verdict (canonical_output s r (judge s r))
+normal_not_ok = never_ok normalising (λ s r. unless_not_ok r (judge s r).verdict (canonical_output s r (judge s r))
     (written_not_ok s.server.config.limits.max_body r (front_of r.head)
     (canonical_of_record s r.body (judge s r).verdict)))
-    (normal_not_ok (judge s r).session rs)
 
 converted_not_ok : (s : Session) (rs : List Record) → IsNotOk (run_output_in converting s rs).stop
-converted_not_ok s [] = tt
-converted_not_ok s (r ∷ rs) =
-    let g = writes (line_before s ++ codes ">" ++ r.raw ++ reply_record (judge s r).verdict) in
-    not_ok_on (unless_bad r (judge s r).verdict g).out (unless_bad r (judge s r).verdict g).end
-    (run_output_in converting (judge s r).session rs)
-    (unless_not_ok r (judge s r).verdict g tt) (converted_not_ok (judge s r).session rs)
+converted_not_ok = never_ok converting (λ s r. unless_not_ok r (judge s r).verdict
+    (writes (line_before s ++ codes ">" ++ r.raw ++ reply_record (judge s r).verdict)) tt)
 
 stops_not_ok : (stop : Option (Result Outcome EngineFault)) (outcome : Outcome) → IsNotOk stop
     → stop ≢ Some (Ok outcome)
@@ -118,62 +114,69 @@ squashed_not_ok settings rs = subst IsNotOk (sym (stops_alike settings rs).0)
 
 module _ (settings : Settings) (ranges : AreInRange settings.limits)
     {left_old left_new received_old received_new : Option (List ℕ)} where
+  -- what an engine wrote, by a law of its output
   wrote_by : (log_rules : LogRules) (g : List Record → RunOutput) (Holds : List Record → List ℕ → Type 0)
-      (outcome : Outcome) (end : AtEnd log_rules g left_old left_new received_old received_new outcome)
-      → IsReadAs (as_log settings) end.input end.log
-      → (g end.log.records).outcome ≡ (report settings end.log.records).outcome
-      → Holds end.log.records (all_of g end.log)
-      → Wrote settings Holds left_old left_new received_old received_new outcome
-  wrote_by log_rules g Holds outcome end reads same holds = record {
-    input = end.input;
-    read = end.read;
-    log = end.log;
-    reads = reads;
-    whole = end.whole;
-    reports = end.reports ∙ same;
-    bytes = all_of g end.log;
-    wrote = end.wrote;
-    holds = holds;
-  }
+      → ((rs : List Record) → IsNotOk (g rs).stop)
+      → ((input : List ℕ) (log : Log) → IsReadAs log_rules input log → log.rest ≡ [] → (g log.records).stop ≡ None
+      → IsReadAs (as_log settings) input log × ((g log.records).outcome ≡ (report settings log.records).outcome)
+      × Holds log.records (all_of g log))
+      → {state : PortState} (result : Result Outcome EngineFault)
+      → RanOver log_rules g state left_old left_new received_old received_new result
+      → IfOk result (Wrote settings (IsReported settings Holds) left_old left_new received_old
+      received_new)
+  wrote_by log_rules g Holds never law {state} =
+      at_the_end log_rules g never (Wrote settings (IsReported settings Holds) left_old left_new received_old
+      received_new)
+      (λ outcome end.
+      let is = law end.input end.log end.reads end.whole end.continues in
+      record {
+        input = end.input;
+        read = end.read;
+        log = end.log;
+        reads = is.0;
+        whole = end.whole;
+        bytes = all_of g end.log;
+        wrote = end.wrote;
+        holds = (end.reports ∙ is.1, is.2);
+      })
 
   pub wrote_normal : {state : PortState} (result : Result Outcome EngineFault)
       → RanOver (as_log settings) (canonical_log settings) state left_old left_new received_old received_new result
-      → IfOk result (Wrote settings (IsCanonicalLog settings) left_old left_new received_old received_new)
+      → IfOk result (Wrote settings (IsReported settings (IsCanonicalLog settings)) left_old left_new received_old
+      received_new)
   wrote_normal {state} =
-      at_the_end (as_log settings) (canonical_log settings) (normal_not_ok (opened (log_config settings)))
-      (Wrote settings (IsCanonicalLog settings) left_old left_new received_old received_new)
-      (λ outcome end.
-      let holds : IsCanonicalLog settings end.log.records (all_of (canonical_log settings) end.log) =
-      canonical_log_law settings ranges end.input end.log end.reads end.whole end.continues in
-      wrote_by (as_log settings) (canonical_log settings) (IsCanonicalLog settings) outcome end end.reads holds.outcome
-      holds)
+      wrote_by (as_log settings) (canonical_log settings) (IsCanonicalLog settings)
+      (normal_not_ok (opened (log_config settings)))
+      (λ input log reads whole goes.
+      let holds = canonical_log_law settings ranges input log reads whole goes in (reads, holds.outcome, holds))
 
   pub wrote_squashed : {state : PortState} (result : Result Outcome EngineFault)
       → RanOver (as_log settings) (squashed settings) state left_old left_new received_old received_new result
-      → IfOk result (Wrote settings (IsSquashed settings) left_old left_new received_old received_new)
+      → IfOk result (Wrote settings (IsReported settings (IsSquashed settings)) left_old left_new received_old
+      received_new)
   wrote_squashed {state} =
-      at_the_end (as_log settings) (squashed settings) (squashed_not_ok settings)
-      (Wrote settings (IsSquashed settings) left_old left_new received_old received_new)
-      (λ outcome end.
-      let holds : IsSquashed settings end.log.records (all_of (squashed settings) end.log) =
-      squashed_law settings ranges end.input end.log end.reads end.whole end.continues in
-      wrote_by (as_log settings) (squashed settings) (IsSquashed settings) outcome end end.reads holds.outcome holds)
+      wrote_by (as_log settings) (squashed settings) (IsSquashed settings) (squashed_not_ok settings)
+      (λ input log reads whole goes.
+      let holds = squashed_law settings ranges input log reads whole goes in (reads, holds.outcome, holds))
 
   pub wrote_converted : {state : PortState} (result : Result Outcome EngineFault)
       → RanOver (as_converted settings) (converted settings) state left_old left_new received_old received_new result
-      → IfOk result (Wrote settings (IsConverted settings) left_old left_new received_old received_new)
+      → IfOk result (Wrote settings (IsReported settings (IsConverted settings)) left_old left_new received_old
+      received_new)
   wrote_converted {state} =
-      at_the_end (as_converted settings) (converted settings) (converted_not_ok (opened (log_config settings)))
-      (Wrote settings (IsConverted settings) left_old left_new received_old received_new)
-      (λ outcome end.
-      let holds : IsConverted settings end.log.records (all_of (converted settings) end.log) =
-      converted_law settings ranges end.input end.log end.reads end.whole end.continues in
-      wrote_by (as_converted settings) (converted settings) (IsConverted settings) outcome end (record {
-        version = end.reads.version;
-        accepted = λ e. absurd (let wrong : false ≡ true = e in cc);
-        is = end.reads.is;
-        each = end.reads.each;
-      }) holds.outcome holds)
+      wrote_by (as_converted settings) (converted settings) (IsConverted settings)
+      (converted_not_ok (opened (log_config settings)))
+      (λ input log reads whole goes.
+      let holds = converted_law settings ranges input log reads whole goes in (
+        record {
+          version = reads.version;
+          accepted = λ e. absurd (let wrong : false ≡ true = e in cc);
+          is = reads.is;
+          each = reads.each;
+        },
+        holds.outcome,
+        holds,
+      ))
 
 -- ---- `normalise` with its settings, by what the code makes
 

@@ -1,5 +1,5 @@
 -- A change that is accepted is joined to the batches of the open series, or begins batches of its own.
-use Rattle.lsp_replay.proofs.Prelude.{◌≡◌, ◌≢◌, ℕ, false, List, [], ◌∷◌, map, Option, Some, None, bytes_eq, refl, sym, ap, ◌∙◌, subst, cases_Bool, bytes_eq-Decides, units_in, Encoding, IdData, DocumentItem, ChangeData, SquashData, HasReached, IsSquashAfter, squash_of, after_is, changed, Phase, New, Running, Down, Ended, did_change, ServerData, content_change_from_data, session_encoding, Version, Session, answered, judge_client, IsOpenIn, IsLonger, IsBegun, refusal_of, server_after, accepted_if, arith, common_steps}
+use Rattle.lsp_replay.proofs.Prelude.{List, None, Some, [], ap, arith, bytes_eq, false, map, refl, subst, sym, ℕ, ◌∙◌, ◌∷◌, ◌≡◌, ◌≢◌, cases_Bool, common_steps, bytes_eq-Decides, Version, ChangeData, DocumentItem, Session, answered, judge_client, IsBegun, IsLonger, IsOpenIn, refusal_of, server_after, accepted_if, changed, did_change, ServerData, content_change_from_data, session_encoding, Running, after_is, HasReached, IsSquashAfter, SquashData, squash_of, units_in, Encoding}
 use Rattle.lsp_store.specs.Table.{changed as changed_entry, entry_at}
 use Rattle.lsp_store.proofs.LawLemmas.{found_changed}
 
@@ -20,26 +20,12 @@ not_same a b not = grind (arith, common_steps, cases_Bool, bytes_eq-Decides)
 
 -- a change that is not accepted for the phase or for its encoding
 module _ (s : Session) (version : Version) (p : ChangeData) where
-  idle_phase : (phase : Phase) → s.server.phase ≡ phase → phase ≢ Running → (expected : Option IdData) → s.expected
-      ≡ expected → accepted_if (Some p) (judge_client s version (did_change (Some p))).verdict ≡ None
-  idle_phase New is idle None none = rw (is, none) refl
-  idle_phase Down is idle (Some id) some = rw (is, some) refl
-  idle_phase Ended is idle expected waits = rw is refl
-  idle_phase Running is idle expected waits = absurd (idle refl)
-  idle_phase _ is idle _ it = rw (is, it) refl
-
   pub idle : s.server.phase ≢ Running
       → accepted_if (Some p) (judge_client s version (did_change (Some p))).verdict ≡ None
-  idle not = idle_phase s.server.phase refl not s.expected refl
-
-  early_phase : (phase : Phase) → s.server.phase ≡ phase → (expected : Option IdData) → s.expected ≡ expected → expected
-      ≢ None → accepted_if (Some p) (judge_client s version (did_change (Some p))).verdict ≡ None
-  early_phase phase is None none some = absurd (some refl)
-  early_phase Ended is (Some id) waits some = rw is refl
-  early_phase _ is (Some id) waits some = rw (is, waits) refl
+  idle not = grind (arith, common_steps)
 
   pub early : s.expected ≢ None → accepted_if (Some p) (judge_client s version (did_change (Some p))).verdict ≡ None
-  early some = early_phase s.server.phase refl s.expected refl some
+  early some = grind (arith, common_steps)
 
 -- ---- the batches that are open afterwards
 

@@ -1,12 +1,12 @@
 -- A run that is open: what its batches make together of the document before it is the document that is open now.
-use Rattle.lsp_replay.proofs.Prelude.{◌≡◌, ℕ, ℤ, ◌≤◌, Bool, true, false, not, ◌&&◌, nat_lt, int_le, List, [], ◌∷◌, ◌++◌, map, length, bytes_eq, encode_utf8_all, IsUtf8, Some, None, Ok, refl, sym, ap, ◌∙◌, subst, arith, w32, FitsSigned, chars, leb-false, lt-leb, bytes_eq-Decides, chars-encodes, scalars-chars, AreInRange, units_in, ContentChange, meaning, canonical, then_items, plain_text, bytes_left, DocumentItem, ChangeData, entry_at, is_stale, meant_text, AreTexts, SquashData, squash_batch, squash_of, Accepts, accepted_parts, scalar-meaning, scalar-text, IsWithin, ServerData, content_change_from_data, session_encoding, refusal_of, server_after, joined_by, common_steps}
+use Rattle.lsp_replay.proofs.Prelude.{Bool, IsUtf8, List, None, Some, [], ap, arith, bytes_eq, encode_utf8_all, false, int_le, length, map, nat_lt, not, refl, subst, sym, true, ℕ, ℤ, ◌&&◌, ◌++◌, ◌∙◌, ◌∷◌, ◌≡◌, ◌≤◌, leb-false, lt-leb, common_steps, bytes_eq-Decides, chars-encodes, scalars-chars, Ok, chars, plain_text, ContentChange, meaning, canonical, then_items, bytes_left, AreInRange, ChangeData, DocumentItem, refusal_of, server_after, joined_by, ServerData, content_change_from_data, session_encoding, Accepts, accepted_parts, scalar-meaning, scalar-text, AreTexts, SquashData, squash_batch, squash_of, entry_at, meant_text, IsWithin, units_in}
 use Rattle.std.proofs.Math.IntN.{pos, negsuc}
 use Rattle.lsp_edit.specs.Items.{Item, plain, text_of}
 use Rattle.lsp_edit.proofs.Batches.ComposeLemmas.{text_of-then, then_means}
 use Rattle.lsp_replay.proofs.Records.AskedLemmas.{IsProperAsked}
 use Rattle.lsp_replay.proofs.Squash.JoiningLemmas.{uri_at}
 use Rattle.lsp_replay.proofs.Records.PutLemmas.{put, change_puts, put_at, put_twice}
-use Rattle.lsp_replay.proofs.Canonical.CanonicalChangeLemmas.{IsCanonicalChange, canonical_change, is_canonical_change, joins_as}
+use Rattle.lsp_replay.proofs.Canonical.CanonicalChangeLemmas.{IsCanonicalChange, IsProperAt, canonical_change, is_canonical_change, joins_as}
 
 -- the squash with other items and another version
 abbrev pub with_items : SquashData → List Item → ℤ → SquashData
@@ -15,16 +15,9 @@ with_items squash items version = record squash { items = items; version = versi
 -- Batches on a document of a server led to the server as it is now.
 pub record IsOpenFrom (t : ServerData) (squash : SquashData) (now : ServerData) : Type 0 where
   pub entry : DocumentItem
-  pub found : entry_at t.table squash.uri ≡ Some entry
-  pub received : IsWithin t.config.limits entry
   pub is : squash ≡ with_items (squash_of t.config.limits (session_encoding t) entry) squash.items squash.version
   pub batch : List ContentChange
-  pub means : meaning (units_in (session_encoding t)) (chars entry.text) batch ≡ Ok squash.items
-  pub texts : AreTexts batch
-  pub newer : is_stale t.config.limits squash.version entry.version ≡ false
-  pub short : length (bytes_left entry.text squash.items) ≤ t.config.limits.max_text
-  pub uri : IsUtf8 squash.uri
-  pub version : FitsSigned w32 squash.version
+  pub at : IsProperAt t squash.uri squash.version entry batch squash.items
   pub now_is : now ≡ record t { table = put t.table squash.uri squash.version (bytes_left entry.text squash.items) }
 
 -- ---- items
@@ -76,17 +69,19 @@ module _ (t : ServerData) (p : ChangeData) (entry : DocumentItem) (found : entry
   pub begins_from : IsOpenFrom t begun_squash (server_after t p)
   begins_from = record {
     entry = entry;
-    found = ap (entry_at t.table) same_uri ∙ found;
-    received = received;
     is = refl;
     batch = map content_change_from_data p.changes;
-    means = begun_accepts.means ∙ ap Ok (sym begun_items);
-    texts = proper.texts;
-    newer = begun_accepts.newer;
-    short = subst (λ (items : List Item). length (bytes_left entry.text items) ≤ t.config.limits.max_text)
-        (sym begun_items) begun_accepts.short;
-    uri = subst IsUtf8 (sym same_uri) proper.uri;
-    version = proper.version;
+    at = record {
+      found = ap (entry_at t.table) same_uri ∙ found;
+      received = received;
+      uri_utf8 = subst IsUtf8 (sym same_uri) proper.uri;
+      version_fits = proper.version;
+      means = begun_accepts.means ∙ ap Ok (sym begun_items);
+      texts = proper.texts;
+      newer = begun_accepts.newer;
+      short = subst (λ (items : List Item). length (bytes_left entry.text items) ≤ t.config.limits.max_text)
+          (sym begun_items) begun_accepts.short;
+    };
     now_is =
         ap (λ (table : List DocumentItem). record t { table = table })
         (change_puts (units_in (session_encoding t)) t.table p.uri p.version
@@ -128,7 +123,7 @@ module _ (t : ServerData) (squash : SquashData) (now : ServerData) (from : IsOpe
 
   found_now : entry_at next.table p.uri ≡ Some reached_now
   found_now = ap (entry_at next.table) uri_is ∙ put_at t.table squash.uri squash.version reached_text from.entry
-      from.found
+      from.at.found
 
   may_now : refusal_of next p ≡ None
   may_now = subst (λ (s : ServerData). refusal_of s p ≡ None) from.now_is may
@@ -139,8 +134,8 @@ module _ (t : ServerData) (squash : SquashData) (now : ServerData) (from : IsOpe
       (map content_change_from_data p.changes) (rw found_now at may_now)
 
   chars_now : chars reached_text ≡ text_of (chars from.entry.text) squash.items
-  chars_now = left_chars (units_in (session_encoding t)) from.entry.text from.batch squash.items from.received.utf8
-      from.texts from.means
+  chars_now = left_chars (units_in (session_encoding t)) from.entry.text from.batch squash.items
+      from.at.received.utf8 from.at.texts from.at.means
 
   means_now : meaning (units_in (session_encoding t)) (text_of (chars from.entry.text) squash.items)
       (map content_change_from_data p.changes) ≡ Ok accepts_now.items
@@ -165,17 +160,19 @@ module _ (t : ServerData) (squash : SquashData) (now : ServerData) (from : IsOpe
   pub goes_on_from : IsOpenFrom t longer_squash (server_after now p)
   goes_on_from = record {
     entry = from.entry;
-    found = from.found;
-    received = from.received;
     is = ap (λ (k : SquashData). with_items k longer_squash.items longer_squash.version) from.is;
     batch = from.batch ++ map content_change_from_data p.changes;
-    means = grind (arith, common_steps, then_means, means_now, longer_items);
-    texts = texts_more from.batch (map content_change_from_data p.changes) from.texts proper.texts;
-    newer = newer_still t.config.limits.lenient p.version squash.version from.entry.version accepts_now.newer
-        from.newer;
-    short = subst (λ (text : List ℕ). length text ≤ t.config.limits.max_text) left_now accepts_now.short;
-    uri = from.uri;
-    version = proper.version;
+    at = record {
+      found = from.at.found;
+      received = from.at.received;
+      uri_utf8 = from.at.uri_utf8;
+      version_fits = proper.version;
+      means = grind (arith, common_steps, then_means, means_now, longer_items, from.at.means);
+      texts = texts_more from.batch (map content_change_from_data p.changes) from.at.texts proper.texts;
+      newer = newer_still t.config.limits.lenient p.version squash.version from.entry.version accepts_now.newer
+          from.at.newer;
+      short = subst (λ (text : List ℕ). length text ≤ t.config.limits.max_text) left_now accepts_now.short;
+    };
     now_is =
         ap (λ (s : ServerData). server_after s p) from.now_is
         ∙ ap (λ (table : List DocumentItem). record t { table = table })
@@ -195,7 +192,17 @@ module _ (t : ServerData) (squash : SquashData) (now : ServerData) (from : IsOpe
 
   pub same_text : (uri : List ℕ) (entry : DocumentItem) → uri ≡ squash.uri → entry_at now.table uri ≡ Some entry
       → text_of (chars squash.text) squash.items ≡ chars entry.text
-  same_text uri entry same found = grind (arith, common_steps, put_at, left_chars)
+  same_text uri entry same found =
+      grind (
+        arith,
+        common_steps,
+        put_at,
+        left_chars,
+        from.at.found,
+        from.at.received.utf8,
+        from.at.texts,
+        from.at.means,
+      )
 
 -- ---- all batches of a run as one message
 
@@ -207,18 +214,8 @@ module _ (t : ServerData) (squash : SquashData) (now : ServerData) (from : IsOpe
 
   pub one_message : IsCanonicalChange t squash.uri squash.version from.entry squash.items
   one_message =
-      is_canonical_change t squash.uri squash.version from.entry from.batch squash.items ranges (record {
-        found = from.found;
-        utf8 = from.received.utf8;
-        received = from.received.short;
-        uri_utf8 = from.uri;
-        version_fits = from.version;
-        means = from.means;
-        texts = from.texts;
-        newer = from.newer;
-        short = from.short;
-        few = subst (λ (b : List ContentChange). nat_lt t.config.limits.max_changes (length b) ≡ false) one_batch few;
-      })
+      is_canonical_change t squash.uri squash.version from.entry from.batch squash.items ranges from.at
+      (subst (λ (b : List ContentChange). nat_lt t.config.limits.max_changes (length b) ≡ false) one_batch few)
 
   -- Read again, it begins a run that means the same.
   pub one_joins : joined_by (canonical_change t squash.uri squash.version from.entry squash.items)
@@ -227,5 +224,5 @@ module _ (t : ServerData) (squash : SquashData) (now : ServerData) (from : IsOpe
       one_message.joins (squash_of t.config.limits (session_encoding t) from.entry) refl
       (plain_text (chars from.entry.text))
       ∙ ap (λ items. with_items (squash_of t.config.limits (session_encoding t) from.entry) items squash.version)
-      (plain_then (units_in (session_encoding t)) (chars from.entry.text) from.batch squash.items from.means)
+      (plain_then (units_in (session_encoding t)) (chars from.entry.text) from.batch squash.items from.at.means)
       ∙ sym from.is

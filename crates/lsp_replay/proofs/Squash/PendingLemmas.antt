@@ -1,17 +1,19 @@
 -- The open series of a log that is squashed, and the records that are written of it.
-use Rattle.lsp_replay.proofs.Prelude.{◌≡◌, ◌≢◌, ℕ, ◌≤◌, Bool, true, false, nat_lt, List, [], ◌∷◌, ◌++◌, length, Option, Some, None, refl, sym, ap, ◌∙◌, subst, arith, append_assoc, append-nil, bytes_eq, if◌then◌else◌, ltb-false, place_after, frame, LimitsData, AreInRange, written_is_frame, reading, DocumentItem, ChangeData, change_body, SquashData, squash_batch, squash_body, squash_of, squash_refusal, Refusal, entry_at, Running, incoming_of, changed, ServerData, session_encoding, Version, Client, Record, AreRecords, together, mark_of, due_after, written_first, replaying, front_of, line_if, canonical_change_body, run_output_in, Session, answered, bad, judge, OpenSeries, change_output, end_bytes, joined_by, longer, open_bytes, squash_step, squashed_in, common_steps}
+use Rattle.lsp_replay.proofs.Prelude.{Bool, List, None, Option, Some, [], ap, arith, bytes_eq, false, length, nat_lt, refl, subst, sym, true, ℕ, ◌++◌, ◌∙◌, ◌∷◌, ◌≡◌, ◌≢◌, ◌≤◌, cases_Bool, ltb-false, common_steps, written_is_frame, place_after, frame, AreInRange, LimitsData, due_after, Record, mark_of, Client, Version, reading, ChangeData, DocumentItem, canonical_change_body, front_of, line_if, Session, answered, bad, judge, OpenSeries, change_output, end_bytes, joined_by, longer, open_bytes, squash_step, changed, incoming_of, ServerData, session_encoding, Running, change_body, SquashData, squash_batch, squash_body, squash_of, squash_refusal, Refusal, entry_at, if◌then◌else◌, is_none, squash_frame}
 use Rattle.lsp_replay.proofs.Canonical.CanonicalChangeLemmas.{IsCanonicalChange, canonical_at, canonical_change}
 use Rattle.lsp_replay.proofs.Records.ChangeLemmas.{IsAccepted, IsDone, is_done}
 use Rattle.lsp_replay.proofs.Records.NumberedLemmas.{IsAlike, alike_both}
 use Rattle.lsp_replay.proofs.Squash.OpenSeriesLemmas.{IsOpenFrom, one_batch, one_message, one_joins}
-use Rattle.lsp_replay.proofs.Canonical.NormalisedLemmas.{first_line}
-use Rattle.lsp_replay.proofs.Squash.SquashLawLemmas.{IsEnded, IsApart, NonEmpty, report_on, step_on}
+use Rattle.lsp_replay.proofs.Squash.SquashLawLemmas.{IsApart, IsEnded, IsRun, no_run, one_run}
 use Rattle.lsp_replay.proofs.Squash.SquashingLemmas.{step_changed}
 
+-- The bytes of a series, by whether its one message is possible.
+abbrev bytes_by : OpenSeries → Option Refusal → List ℕ
+bytes_by series refusal = if is_none refusal then series.front ++ squash_frame series.squash else series.singles
+
 -- The records that are written of an open series, if it isn't written as one message: they lead to the same series.
-pub record IsPending (max_body at : ℕ) (version : Version) (due : Bool) (s : Session) (series : OpenSeries) (t :
-    Session)
-    (before : Option OpenSeries) : Type 0 where
+pub record IsPending (max_body at : ℕ) (version : Version) (due : Bool) (s : Session) (series : OpenSeries)
+    (t : Session) (before : Option OpenSeries) : Type 0 where
   -- where it begins, and how its batches led to the server as it is now
   pub from : IsOpenFrom t.server series.squash s.server
   pub running : t.server.phase ≡ Running
@@ -20,19 +22,11 @@ pub record IsPending (max_body at : ℕ) (version : Version) (due : Bool) (s : S
   pub apart : IsApart before series.squash.uri
   pub front : series.front ≡ line_if due ++ mark_of version Client
   -- its records as single messages
-  pub ss : List Record
-  pub some : NonEmpty ss
-  pub are : AreRecords max_body version at due ss
-  pub singles : series.singles ≡ first_line due ss ++ together version ss []
+  pub us : List Record
+  pub line : due_after due us ≡ false
   pub last : Session
   pub last_like : IsAlike s last
-  pub run_output : (more : List Record) → squashed_in t before (ss ++ more) ≡ written_first (end_bytes before)
-      (squashed_in last (Some series) more)
-  pub replay : (more : List Record) → run_output_in replaying t (ss ++ more) ≡ run_output_in replaying last more
-
-pub behind_some : (due : Bool) (rs : List Record) → NonEmpty rs → due_after due rs ≡ false
-behind_some due [] some = absurd some
-behind_some due (r ∷ rs) some = refl
+  pub singles : IsRun max_body at version due t before us series.singles (end_bytes before) last (Some series)
 
 -- ---- what an accepted change gives
 
@@ -69,63 +63,48 @@ module _ (t : Session) (before : Option OpenSeries) (q : Record) (p : ChangeData
   pub not_bad : (judge t q).verdict ≢ bad
   not_bad e = let wrong : answered changed ≡ bad = sym d.error ∙ e in cc
 
-  -- what stands in front of it
-  pub front_is : (version : Version) → q.head.version ≡ version → its_front ≡ line_if q.head.line_due ++ mark_of version
-      Client
-  front_is version of_version = grind (arith, common_steps)
-
 -- ---- no series is open
 
-abbrev pub none_ended : (max_body at : ℕ) (version : Version) (due : Bool) (s t : Session) → IsAlike s t
-    → IsEnded max_body at version due s None t None
-none_ended max_body at version due s t like = record {
+pub none_ended : (max_body at : ℕ) (version : Version) (due due_in : Bool) (s t : Session) → IsAlike s t → due ≡ due_in
+    → IsEnded max_body at version due due_in s None t None
+none_ended max_body at version due due_in s t like same = record {
   us = [];
   last = t;
-  last_series = None;
+  left = None;
   like = like;
-  some = λ none. absurd none;
   same_bytes = refl;
   apart = λ uri apart. tt;
-  are = tt;
-  bytes = refl;
-  run_output = λ more. refl;
-  replay = λ more. refl;
+  run = no_run max_body at version due t None;
+  same_due = sym same;
 }
 
 -- ---- the series ends
 
-module _ (limits : LimitsData) (ranges : AreInRange limits) (at : ℕ) (version : Version) (due : Bool) (s : Session)
-    (series : OpenSeries) (t : Session) (before : Option OpenSeries) (limit : t.server.config.limits ≡ limits)
-    (p : IsPending limits.max_body at version due s series t before) where
-  in_singles : (refusal : Refusal) → squash_refusal series.squash ≡ Some refusal → IsEnded limits.max_body at version
-      due s (Some series) t before
+module _ (limits : LimitsData) (ranges : AreInRange limits) (at : ℕ) (version : Version) (due due_in : Bool)
+    (s : Session) (series : OpenSeries) (t : Session) (before : Option OpenSeries)
+    (limit : t.server.config.limits ≡ limits) (p : IsPending limits.max_body at version due s series t before)
+    (not_due : due_in ≡ false) where
+  in_singles : (refusal : Refusal) → squash_refusal series.squash ≡ Some refusal
+      → IsEnded limits.max_body at version due due_in s (Some series) t before
   in_singles refusal is = record {
-    us = p.ss;
+    us = p.us;
     last = p.last;
-    last_series = Some series;
+    left = Some series;
     like = p.last_like;
-    some = λ _. p.some;
     same_bytes = refl;
     apart = λ uri apart. apart;
-    are = p.are;
-    bytes = rw is p.singles;
-    run_output = p.run_output;
-    replay = p.replay;
+    run = subst (λ (b : List ℕ). IsRun limits.max_body at version due t before p.us b (end_bytes before) p.last
+        (Some series)) (sym (ap (bytes_by series) is)) p.singles;
+    same_due = not_due ∙ sym p.line;
   }
 
   here : AreInRange t.server.config.limits
   here = subst AreInRange (sym limit) ranges
 
   module _ (is : squash_refusal series.squash ≡ None) where
-    few_of : (many over : Bool) (first second : Refusal)
-        → (if many then Some first else if over then Some second else None) ≡ None → (many ≡ false) × (over ≡ false)
-    few_of true over first second e = absurd (let wrong : Some first ≡ None = e in cc)
-    few_of false true first second e = absurd (let wrong : Some second ≡ None = e in cc)
-    few_of false false first second e = (refl, refl)
-
     both : (nat_lt series.squash.limits.max_changes (length (squash_batch series.squash)) ≡ false)
         × (nat_lt series.squash.limits.max_body (length (squash_body series.squash)) ≡ false)
-    both = few_of _ _ _ _ is
+    both = grind (arith, common_steps, cases_Bool)
 
     same_limits : series.squash.limits ≡ t.server.config.limits
     same_limits = ap (λ (k : SquashData). k.limits) p.from.is
@@ -195,42 +174,38 @@ module _ (limits : LimitsData) (ranges : AreInRange limits) (at : ℕ) (version 
     joins = one_joins t.server series.squash s.server p.from here few
 
     same_end : end_bytes (Some one_series) ≡ open_bytes series
-    same_end =
-        ap (λ (k : SquashData). open_bytes (record { front = front; singles = one_series.singles; squash = k })) joins
-        ∙ ap (λ f. open_bytes (record { front = f; singles = one_series.singles; squash = series.squash }))
-        (front_is t before one change accepted done short version refl ∙ sym p.front)
-        ∙ rw is refl
+    same_end = grind (arith, common_steps, joins)
 
-    as_one : IsEnded limits.max_body at version due s (Some series) t before
+    as_one : IsEnded limits.max_body at version due due_in s (Some series) t before
     as_one = record {
       us = one ∷ [];
       last = (judge t one).session;
-      last_series = Some one_series;
+      left = Some one_series;
       like =
           alike_both (record t { server = s.server }) s (judge t one).session p.like
           (subst (λ (server : ServerData). IsAlike (record t { server = server }) (judge t one).session)
           (message.leaves ∙ sym p.from.now_is) done.leaves);
-      some = λ _. tt;
       same_bytes = same_end;
       apart = λ uri apart. ap (λ (k : SquashData). bytes_eq uri k.uri) joins ∙ apart;
-      are = (
-        record {
-          is_frame_of = written_is_frame limits.max_body body within (omega (arith, within, ranges.greatest_body));
-          side = λ e. refl;
-          of_version = refl;
-          placed = refl;
-          due = refl;
-        },
-        tt,
-      );
-      bytes =
-          rw is (ap (λ f. f ++ frame body) p.front ∙ append_assoc (line_if due) (mark_of version Client)
-          (frame body)
-          ∙ ap (λ z. line_if due ++ z) (sym (append-nil (mark_of version Client ++ frame body))));
-      run_output = λ more. step_on t before one more (end_bytes before) (Some one_series)
-          (begun_step t before one change accepted done short entry p.from.found p.apart);
-      replay = λ more. report_on t one more (not_bad t before one change accepted done short);
+      run =
+          subst (λ (b : List ℕ). IsRun limits.max_body at version due t before (one ∷ []) b (end_bytes before)
+          (judge t one).session (Some one_series))
+          (sym (ap (bytes_by series) is ∙ ap (λ (f : List ℕ). f ++ frame body) p.front))
+          (one_run limits.max_body at version due t before one (record {
+            is_frame_of = written_is_frame limits.max_body body within (omega (arith, within, ranges.greatest_body));
+            side = λ e. refl;
+            of_version = refl;
+            placed = refl;
+            due = refl;
+          }) (not_bad t before one change accepted done short) (end_bytes before) (Some one_series)
+          (begun_step t before one change accepted done short entry p.from.at.found p.apart));
+      same_due = not_due;
     }
 
-  pub some_ended : IsEnded limits.max_body at version due s (Some series) t before
-  some_ended = grind (arith, common_steps, as_one, in_singles)
+  pub some_ended : IsEnded limits.max_body at version due due_in s (Some series) t before
+  some_ended = by (squash_refusal series.squash) refl
+    where
+      by : (refusal : Option Refusal) → squash_refusal series.squash ≡ refusal
+          → IsEnded limits.max_body at version due due_in s (Some series) t before
+      by None is = as_one is
+      by (Some refusal) is = in_singles refusal is

@@ -1,7 +1,6 @@
 -- What `normalise` writes with squash: a series by its changes, and by the bytes that the code keeps of it.
-use Rattle.lsp_replay.proofs.Prelude.{◌≡◌, ℕ, Bool, true, false, List, [], ◌∷◌, ◌++◌, map, length, nat_lt, bytes_eq, Option, Some, None, refl, sym, ap, ◌∙◌, append-nil, if◌then◌else◌, flat_map, is_none, option_map, Err, flat_map-append, frame, reading, ChangeData, DocumentItem, SquashData, squash_frame, squash_refusal, Refusal, entry_at, change_parts, units_in, reply, changed, incoming_of, content_change_from_data, session_encoding, BodyTooLong, Record, RunOutput, written_first, RecordOutput, canonical_change_body, canonical_if, change_in, followed_by, ends, front_of, line_if, log_config, output_in, unless_bad, written, writes, Session, Verdict, answered, bad, judge, opened, session_outcome, SeriesChange, change_if, change_on, joined, series_after, series_written, squash_output, squashed, squashing, OpenSeries, Step, begun_on, end_bytes, faulty, joined_by, longer, open_bytes, squashed_in, squashed_steps, step_if}
+use Rattle.lsp_replay.proofs.Prelude.{if◌then◌else◌, Bool, List, None, Option, Some, [], ap, append-nil, arith, bytes_eq, false, length, map, nat_lt, refl, subst, sym, true, ℕ, ◌++◌, ◌∙◌, ◌∷◌, ◌≡◌, common_steps, flat_map-append, Err, flat_map, option_map, frame, Record, reading, ChangeData, DocumentItem, RecordOutput, canonical_change_body, canonical_if, change_in, ends, followed_by, front_of, line_if, log_config, output_in, unless_bad, writes, written, RunOutput, Session, Verdict, answered, bad, judge, opened, session_outcome, SeriesChange, change_if, change_on, joined, series_after, series_written, squash_output, squashed, squashing, Settings, OpenSeries, Step, begun, begun_on, change_output, end_bytes, faulty, joined_by, longer, open_bytes, other_step, squash_step, squashed_in, squashed_steps, step_if, changed, reply, incoming_of, content_change_from_data, session_encoding, change_parts, SquashData, entry_at, BadLog, BodyTooLong, units_in}
 use Rattle.lsp_replay.proofs.Records.ChangeLemmas.{was_accepted}
-use Rattle.lsp_replay.specs.inside.Squashed as kept
 
 -- ---- a series
 
@@ -22,13 +21,7 @@ kept_of (first ∷ series) = Some (kept_series first series)
 
 series_is : (series : List SeriesChange) → series_written series ≡ end_bytes (kept_of series)
 series_is [] = refl
-series_is (first ∷ series) = by (squash_refusal (joined first.document (first ∷ series)))
-  where
-    by : (refusal : Option Refusal)
-        → (if is_none refusal then first.front ++ squash_frame (joined first.document (first ∷ series)) else
-        flat_map single_of (first ∷ series)) ≡ kept.open_written (kept_series first series) refusal
-    by None = refl
-    by (Some refusal) = refl
+series_is (first ∷ series) = refl
 
 joined_more : (squash : SquashData) (series : List SeriesChange) (c : SeriesChange) → joined squash (series ++ c ∷ [])
     ≡ joined_by c.change (joined squash series)
@@ -39,16 +32,12 @@ joined_uri : (squash : SquashData) (series : List SeriesChange) → (joined squa
 joined_uri squash [] = refl
 joined_uri squash (c ∷ series) = joined_uri (joined_by c.change squash) series
 
-singles_more : (series : List SeriesChange) (c : SeriesChange) → flat_map single_of (series ++ c ∷ [])
-    ≡ flat_map single_of series ++ c.single
-singles_more series c = flat_map-append single_of series (c ∷ [])
-    ∙ ap (λ z. flat_map single_of series ++ z) (append-nil c.single)
-
 kept_more : (first : SeriesChange) (series : List SeriesChange) (c : SeriesChange) → kept_of ((first ∷ series) ++ c ∷
     []) ≡ Some (longer (kept_series first series) c.change c.single)
 kept_more first series c = λ i. Some (record {
   front = first.front;
-  singles = singles_more (first ∷ series) c i;
+  singles = (flat_map-append single_of (first ∷ series) (c ∷ [])
+      ∙ ap (λ z. flat_map single_of (first ∷ series) ++ z) (append-nil c.single)) i;
   squash = joined_more first.document (first ∷ series) c i;
 })
 
@@ -77,133 +66,106 @@ open_at s r p is accepts =
     (map content_change_from_data p.changes) a.may in
     (may.entry, may.is_open)
 
--- `later` says it of the records after this one.
-module _ (s : Session) (r : Record) (t : Session) (rs : List Record)
-    (later : (series : List SeriesChange) → output_in squashing series t rs ≡ squashed_in t (kept_of series) rs) where
-  -- the output from the record on, by a step of the code
-  abbrev by_step : Step → RunOutput
-  by_step step = followed_by step.out step.end (squashed_in t step.series rs)
+-- By the changes of a series and by the bytes that are kept of it the same is written at a record, and the same series
+-- is open after it.
+abbrev IsSame : List SeriesChange → Option SeriesChange → RecordOutput → Step → Type 0
+IsSame series change given step =
+    (squash_output series change given.out given.end ≡ record { out = step.out; end = step.end })
+    × (step.end ≡ None → kept_of (series_after series change) ≡ step.series)
 
-  abbrev by_bytes : Option OpenSeries → Option ChangeData → Verdict → RunOutput
-  by_bytes series change verdict = by_step (step_if s.server r (front_of r.head) series change verdict)
+module _ (s : Session) (r : Record) where
+  abbrev front : List ℕ
+  front = front_of r.head
 
-  -- the same, by what is written of the record without squash, and by the change in it
-  abbrev by_output : List SeriesChange → Option SeriesChange → RecordOutput → RunOutput
-  by_output series change given =
-      followed_by (squash_output series change given.out given.end).out
-      (squash_output series change given.out given.end).end
-      (output_in squashing (series_after series change) t rs)
-
+  -- what is written of it without squash
   abbrev each : Option ChangeData → Verdict → RecordOutput
-  each change verdict = unless_bad r verdict (written s.server.config.limits.max_body r (front_of r.head)
-      (canonical_if s.server change verdict))
+  each change verdict =
+      unless_bad r verdict (written s.server.config.limits.max_body r front (canonical_if s.server change verdict))
 
-  abbrev by_changes : List SeriesChange → Option ChangeData → Verdict → RunOutput
-  by_changes series change verdict = by_output series (change_if s r (each change verdict).out change verdict)
-      (each change verdict)
+  abbrev IsSameAt : List SeriesChange → Option ChangeData → Verdict → Type 0
+  IsSameAt series change verdict = IsSame series (change_if s r (each change verdict).out change verdict)
+      (each change verdict) (step_if s.server r front (kept_of series) change verdict)
 
   -- any record but an accepted change
-  other : (series : List SeriesChange) → written_first (series_written series ++ (front_of r.head ++ r.raw))
-      (output_in squashing [] t rs)
-      ≡ written_first (end_bytes (kept_of series) ++ (front_of r.head ++ r.raw)) (squashed_in t None rs)
-  other series =
-      ap (λ b. written_first (b ++ (front_of r.head ++ r.raw)) (output_in squashing [] t rs)) (series_is series)
-      ∙ ap (written_first (end_bytes (kept_of series) ++ (front_of r.head ++ r.raw))) (later [])
+  other : (series : List SeriesChange)
+      → IsSame series None (writes (front ++ r.raw)) (other_step r front (kept_of series))
+  other series = (ap (λ b. writes (b ++ (front ++ r.raw))) (series_is series), λ e. refl)
 
-  module _ (p : ChangeData) (entry : DocumentItem) where
-    abbrev frame_bytes : List ℕ
-    frame_bytes = front_of r.head ++ frame (canonical_change_body s.server p)
+  module _ (p : ChangeData) (entry : DocumentItem) (is_open : entry_at s.server.table p.uri ≡ Some entry) where
+    abbrev single : List ℕ
+    single = front ++ frame (canonical_change_body s.server p)
 
     abbrev c : SeriesChange
-    c = change_on s r frame_bytes p entry
+    c = change_on s r single p entry
 
-    -- what is written of it without squash, by whether its message is too long
-    abbrev given_if : Bool → RecordOutput
-    given_if over = if over then ends [] (Err (BodyTooLong r.head.place)) else writes frame_bytes
+    begins : kept_of (c ∷ []) ≡ begun s.server p front single
+    begins = kept_one c ∙ sym (ap (begun_on s.server p front single) is_open)
 
-    abbrev changes_if : List SeriesChange → Bool → Option DocumentItem → RunOutput
-    changes_if series over found = by_output series (option_map (change_on s r (given_if over).out p) found) (given_if
-        over)
-
-    begins : written_first [] (output_in squashing (c ∷ []) t rs)
-        ≡ written_first [] (squashed_in t (Some (begun_by c)) rs)
-    begins = ap (written_first []) (later (c ∷ [])) ∙ ap (λ (k : Option OpenSeries). written_first [] (squashed_in t k
-        rs))
-        (kept_one c)
-
-    -- no series is open
-    abbrev first_step : Bool → Option DocumentItem → Step
-    first_step over found = if over then faulty (BodyTooLong r.head.place) else record {
-      out = [];
-      end = None;
-      series = begun_on s.server p (front_of r.head) frame_bytes found;
-    }
-
-    first_is : (over : Bool) → changes_if [] over (Some entry) ≡ by_step (first_step over (Some entry))
-    first_is true = refl
-    first_is false = begins
-
-    -- a series is open
     module _ (first : SeriesChange) (more : List SeriesChange) where
-      abbrev joins_if : Bool → Option DocumentItem → Step
-      joins_if same found = if same then record {
+      abbrev step_by : Bool → Step
+      step_by joins = if joins then record {
         out = [];
         end = None;
-        series = Some (longer (kept_series first more) p frame_bytes);
+        series = Some (longer (kept_series first more) p single);
       } else record {
         out = open_bytes (kept_series first more);
         end = None;
-        series = begun_on s.server p (front_of r.head) frame_bytes found;
+        series = begun s.server p front single;
       }
 
-      abbrev next_step : Bool → List ℕ → Option DocumentItem → Step
-      next_step over uri found = if over then faulty (BodyTooLong r.head.place) else joins_if (bytes_eq p.uri uri) found
+      joined_by_test : (joins : Bool)
+          → (writes (if joins then [] else series_written (first ∷ more))
+          ≡ record { out = (step_by joins).out; end = (step_by joins).end })
+          × ((step_by joins).end ≡ None
+          → kept_of (if joins then (first ∷ more) ++ c ∷ [] else c ∷ []) ≡ (step_by joins).series)
+      joined_by_test true = (refl, λ e. kept_more first more c)
+      joined_by_test false = (ap writes (series_is (first ∷ more)), λ e. begins)
 
-      joins_is : (same : Bool) → written_first (if same then [] else series_written (first ∷ more))
-          (output_in squashing (if same then (first ∷ more) ++ c ∷ [] else c ∷ []) t rs)
-          ≡ by_step (joins_if same (Some entry))
-      joins_is true =
-          ap (written_first []) (later ((first ∷ more) ++ c ∷ []))
-          ∙ ap (λ (k : Option OpenSeries). written_first [] (squashed_in t k rs)) (kept_more first more c)
-      joins_is false =
-          ap (λ b. written_first b (output_in squashing (c ∷ []) t rs)) (series_is (first ∷ more))
-          ∙ ap (written_first (open_bytes (kept_series first more))) (later (c ∷ []))
-          ∙ ap (λ (k : Option OpenSeries). written_first (open_bytes (kept_series first more)) (squashed_in t k rs))
-          (kept_one c)
+    goes_on : (series : List SeriesChange)
+        → IsSame series (Some c) (writes single) (change_output s.server p front single (kept_of series))
+    goes_on [] = (refl, λ e. begins)
+    goes_on (first ∷ more) =
+        subst (λ uri. IsSame (first ∷ more) (Some c) (writes single) (step_by first more (bytes_eq p.uri uri)))
+        (sym (joined_uri first.document (first ∷ more)))
+        (joined_by_test first more (bytes_eq p.uri first.document.uri))
 
-      next_is : (over : Bool) → changes_if (first ∷ more) over (Some entry)
-          ≡ by_step (next_step over first.document.uri (Some entry))
-      next_is true = refl
-      next_is false = joins_is (bytes_eq p.uri first.document.uri)
+    -- its message is too long, or it isn't
+    module _ (series : List SeriesChange) where
+      abbrev given_if : Bool → RecordOutput
+      given_if over = if over then ends [] (Err (BodyTooLong r.head.place)) else writes single
 
-  abbrev is_over : ChangeData → Bool
-  is_over p = nat_lt s.server.config.limits.max_body (length (canonical_change_body s.server p))
+      abbrev IsSameIf : Bool → Option DocumentItem → Type 0
+      IsSameIf over found = IsSame series (option_map (change_on s r (given_if over).out p) found) (given_if over)
+          (if over then faulty (BodyTooLong r.head.place)
+          else change_output s.server p front single (kept_of series))
 
-  accepted : (series : List SeriesChange) (p : ChangeData) (entry : DocumentItem)
-      → entry_at s.server.table p.uri ≡ Some entry
-      → by_changes series (Some p) (answered changed) ≡ by_bytes (kept_of series) (Some p) (answered changed)
-  accepted [] p entry is_open =
-      ap (changes_if p entry [] (is_over p)) is_open ∙ first_is p entry (is_over p)
-      ∙ sym (ap (λ (found : Option DocumentItem). by_step (first_step p entry (is_over p) found)) is_open)
-  accepted (first ∷ more) p entry is_open =
-      ap (changes_if p entry (first ∷ more) (is_over p)) is_open ∙ next_is p entry first more (is_over p)
-      ∙ sym (ap (λ uri. by_step (next_step p entry first more (is_over p) uri (Some entry)))
-      (joined_uri first.document (first ∷ more)))
-      ∙ sym (ap (λ (found : Option DocumentItem). by_step (next_step p entry first more (is_over p)
-      (joined first.document (first ∷ more)).uri found)) is_open)
+      by_length : (over : Bool) → IsSameIf over (Some entry)
+      by_length true = (refl, λ e. absurd (let wrong : Some (Err (BodyTooLong r.head.place)) ≡ None = e in cc))
+      by_length false = goes_on series
+
+      accepted : IsSameAt series (Some p) (answered changed)
+      accepted =
+          let over = nat_lt s.server.config.limits.max_body (length (canonical_change_body s.server p)) in
+          subst (IsSameIf over) (sym is_open) (by_length over)
 
   same : (series : List SeriesChange) (change : Option ChangeData) (verdict : Verdict)
       → ((p : ChangeData) → change ≡ Some p → verdict ≡ answered changed → IsOpen s p)
-      → by_changes series change verdict ≡ by_bytes (kept_of series) change verdict
-  same series None bad opens = refl
-  same series (Some p) bad opens = refl
+      → IsSameAt series change verdict
+  same series None bad opens =
+      (refl, λ e. absurd (let wrong : Some (Err (BadLog r.head.place)) ≡ None = e in cc))
+  same series (Some p) bad opens =
+      (refl, λ e. absurd (let wrong : Some (Err (BadLog r.head.place)) ≡ None = e in cc))
   same series None (answered (reply m)) opens = other series
   same series (Some p) (answered changed) opens =
       let found = opens p refl refl in
-      accepted series p found.0 found.1
+      accepted p found.0 found.1 series
   same series _ _ opens = other series
 
 -- ---- all records
+
+same_on : (a b : RecordOutput) (c d : RunOutput) → a ≡ b → (b.end ≡ None → c ≡ d)
+    → followed_by a.out a.end c ≡ followed_by b.out b.end d
+same_on a b c d is later = grind (arith, common_steps)
 
 abbrev ended : Session → List ℕ → RunOutput
 ended s bytes
@@ -213,9 +175,18 @@ series_are : (s : Session) (series : List SeriesChange) (rs : List Record) → o
     ≡ squashed_in s (kept_of series) rs
 series_are s series [] = ap (ended s) (series_is series)
 series_are s series (r ∷ rs) =
-    same s r (judge s r).session rs (λ next. series_are (judge s r).session next rs) series
-    (change_in (incoming_of (reading r.body))) (judge s r).verdict (open_at s r)
+    let j = judge s r in
+    let next = squashing.next series s r j in
+    let step = squash_step s (kept_of series) r j in
+    let here = same s r series (change_in (incoming_of (reading r.body))) j.verdict (open_at s r) in
+    same_on (squashing.record_output series s r j) (record { out = step.out; end = step.end })
+    (output_in squashing next j.session rs) (squashed_in j.session step.series rs) here.0
+    (λ e. series_are j.session next rs ∙ ap (λ (k : Option OpenSeries). squashed_in j.session k rs) (here.1 e))
 
 -- What is written by the changes of each series is what the code makes.
+pub squashed_at : (settings : Settings) (records : List Record)
+    → squashed settings records ≡ squashed_steps settings records
+squashed_at settings records = series_are (opened (log_config settings)) [] records
+
 pub squashed_is : squashed_steps ≡ squashed
-squashed_is = λ i. λ settings records. sym (series_are (opened (log_config settings)) [] records) i
+squashed_is = λ i. λ settings records. sym (squashed_at settings records) i

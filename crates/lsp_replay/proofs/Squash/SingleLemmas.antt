@@ -1,24 +1,10 @@
 -- The single message of an accepted change, where it begins a run and where it goes on with one.
-use Rattle.lsp_replay.proofs.Prelude.{◌≡◌, ℕ, ◌≤◌, Bool, length, Some, refl, sym, ap, ◌∙◌, subst, arith, chars, place_after, frame, LimitsData, AreInRange, written_is_frame, text_of, reading, DocumentItem, ChangeData, SquashData, entry_at, incoming_of, session_encoding, Version, Record, IsRecord, canonical_change_body, server_after, Session, joined_by, common_steps}
+use Rattle.lsp_replay.proofs.Prelude.{Bool, Some, ap, arith, length, refl, subst, sym, ℕ, ◌∙◌, ◌≡◌, ◌≤◌, common_steps, chars, text_of, written_is_frame, place_after, frame, AreInRange, LimitsData, IsRecord, Record, Version, reading, ChangeData, DocumentItem, canonical_change_body, Session, judge, server_after, joined_by, incoming_of, session_encoding, SquashData, entry_at}
 use Rattle.lsp_replay.proofs.Canonical.CanonicalChangeLemmas.{canonical_change, joins_as}
 use Rattle.lsp_replay.proofs.Canonical.SettledLemmas.{IsSettled, settled}
-use Rattle.lsp_replay.proofs.Records.ChangeLemmas.{IsAccepted, proper_change}
+use Rattle.lsp_replay.proofs.Records.ChangeLemmas.{IsAccepted, IsDone, is_done, proper_change, session_after}
+use Rattle.lsp_replay.proofs.Records.NumberedLemmas.{IsAlike, alike_both, numbered}
 use Rattle.lsp_replay.proofs.Records.StateLemmas.{IsHeldState}
-
--- A record is the canonical message of an accepted change: it is accepted, and does and joins what the change does.
-pub record IsSingle (max_body at : ℕ) (version : Version) (due : Bool) (s : Session) (p : ChangeData)
-    (q : Record) : Type 0 where
-  pub again : ChangeData
-  pub is : IsRecord max_body version at due q
-  pub accepted : IsAccepted s q again
-  pub same_uri : again.uri ≡ p.uri
-  pub leaves : server_after s.server again ≡ server_after s.server p
-  pub own : canonical_change_body s.server again ≡ canonical_change_body s.server p
-  pub within : length (canonical_change_body s.server again) ≤ s.server.config.limits.max_body
-  pub framed : q.raw ≡ frame (canonical_change_body s.server p)
-  pub joins : (squash : SquashData) → squash.encoding ≡ session_encoding s.server
-      → ((entry : DocumentItem) → entry_at s.server.table p.uri ≡ Some entry → text_of (chars squash.text) squash.items
-      ≡ chars entry.text) → joined_by again squash ≡ joined_by p squash
 
 -- the record of an accepted change, as it is written singly at a place
 abbrev pub single_record : ℕ → Session → Record → ChangeData → Record
@@ -28,9 +14,26 @@ single_record at s r p = record {
   body = canonical_change_body s.server p;
 }
 
+-- The canonical message of an accepted change of a session, behind other counts: it is accepted, and does and joins
+-- what the change does.
+pub record IsSingle (max_body at : ℕ) (version : Version) (due : Bool) (s : Session) (n m : ℕ) (r : Record)
+    (p : ChangeData) : Type 0 where
+  pub again : ChangeData
+  pub is : IsRecord max_body version at due (single_record at s r p)
+  pub accepted : IsAccepted (numbered n m s) (single_record at s r p) again
+  pub same_uri : again.uri ≡ p.uri
+  pub leaves : server_after s.server again ≡ server_after s.server p
+  pub own : canonical_change_body s.server again ≡ canonical_change_body s.server p
+  pub within : length (canonical_change_body s.server again) ≤ s.server.config.limits.max_body
+  pub joins : (squash : SquashData) → squash.encoding ≡ session_encoding s.server
+      → ((entry : DocumentItem) → entry_at s.server.table p.uri ≡ Some entry → text_of (chars squash.text) squash.items
+      ≡ chars entry.text) → joined_by again squash ≡ joined_by p squash
+  pub done : IsDone (numbered n m s) (single_record at s r p) again
+  pub like : IsAlike (judge s r).session (judge (numbered n m s) (single_record at s r p)).session
+
 module _ (limits : LimitsData) (ranges : AreInRange limits) (at : ℕ) (version : Version) (due : Bool) (s : Session)
-    (r : Record) (p : ChangeData) (received : IsHeldState limits s.server)
-    (a : IsAccepted s r p) (fits : length (canonical_change_body s.server p) ≤ s.server.config.limits.max_body)
+    (n m : ℕ) (r : Record) (p : ChangeData) (received : IsHeldState limits s.server) (a : IsAccepted s r p)
+    (fits : length (canonical_change_body s.server p) ≤ s.server.config.limits.max_body)
     (of_version : r.head.version ≡ version) (same_due : r.head.line_due ≡ due) where
   set : IsSettled s.server p
   set = settled s.server p (subst AreInRange (sym received.limit) ranges)
@@ -40,27 +43,46 @@ module _ (limits : LimitsData) (ranges : AreInRange limits) (at : ℕ) (version 
   abbrev again : ChangeData
   again = canonical_change s.server p.uri p.version set.entry set.items
 
+  abbrev q : Record
+  q = single_record at s r p
+
   own : canonical_change_body s.server again ≡ canonical_change_body s.server p
   own = set.message.own ∙ sym set.body
 
-  pub is_single : IsSingle limits.max_body at version due s p (single_record at s r p)
+  leaves : server_after s.server again ≡ server_after s.server p
+  leaves = set.message.leaves ∙ sym set.leaves
+
+  accepted : IsAccepted (numbered n m s) q again
+  accepted = record {
+    side = a.side;
+    asks = ap (λ b. incoming_of (reading b)) set.body ∙ set.message.asks;
+    running = a.running;
+    waits = a.waits;
+    may = set.message.may;
+  }
+
+  done : IsDone (numbered n m s) q again
+  done = is_done (numbered n m s) q again accepted
+
+  pub is_single : IsSingle limits.max_body at version due s n m r p
   is_single = record {
     again = again;
     is = grind (arith, common_steps, written_is_frame);
-    accepted = record {
-      side = a.side;
-      asks = ap (λ b. incoming_of (reading b)) set.body ∙ set.message.asks;
-      running = a.running;
-      waits = a.waits;
-      may = set.message.may;
-    };
+    accepted = accepted;
     same_uri = refl;
-    leaves = set.message.leaves ∙ sym set.leaves;
+    leaves = leaves;
     own = own;
     within = subst (λ b. length b ≤ s.server.config.limits.max_body) (sym own) fits;
-    framed = refl;
     joins = λ squash encoding text.
         let here = text set.entry set.found in
         set.message.joins squash encoding here
         ∙ sym (joins_as p squash (session_encoding s.server) (chars set.entry.text) set.items encoding here set.means);
+    done = done;
+    like = alike_both (session_after s p) (judge s r).session (judge (numbered n m s) q).session
+        (is_done s r p a).leaves (
+          done.leaves.0,
+          done.leaves.1,
+          done.leaves.2
+              ∙ ap (λ server. numbered done.leaves.0 done.leaves.1 (record s { server = server })) leaves,
+        );
   }

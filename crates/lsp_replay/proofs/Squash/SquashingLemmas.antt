@@ -1,5 +1,5 @@
 -- What a record gives with squash, by what is known of how it is written.
-use Rattle.lsp_replay.proofs.Prelude.{◌≡◌, ◌≢◌, ◌∷◌, ℕ, ◌<◌, List, [], ◌++◌, length, Option, Some, None, refl, sym, ap, ◌∙◌, append_assoc, subst, le-ltb, lt-ltb, Err, frame, ChangeData, SquashData, changed, ServerData, Record, EngineFault, BadLog, BodyTooLong, followed_by, writes, stopped, after, reading, incoming_of, change_in, front_of, canonical_if, canonical_change_body, Session, Verdict, answered, recorded, bad, judge, IsSquashStep, OpenSeries, Squashing, Step, begun, change_output, end_bytes, faulty, longer, other_step, open_bytes, series_of, squash_step, squash_view, squashed_in, step_at, step_if, IsChange, IsLonger, IsOther, IsBegun}
+use Rattle.lsp_replay.proofs.Prelude.{List, None, Option, Some, [], ap, append_assoc, arith, le-ltb, length, lt-ltb, refl, sym, ℕ, ◌++◌, ◌<◌, ◌∙◌, ◌∷◌, ◌≡◌, ◌≢◌, common_steps, Err, frame, Record, reading, ChangeData, canonical_change_body, canonical_if, change_in, followed_by, front_of, writes, stopped, Session, Verdict, answered, bad, judge, recorded, IsBegun, IsChange, IsLonger, IsOther, after, IsSquashStep, OpenSeries, Squashing, Step, begun, change_output, end_bytes, faulty, longer, other_step, series_of, squash_step, squash_view, squashed_in, step_at, step_if, changed, incoming_of, ServerData, SquashData, EngineFault, BadLog, BodyTooLong}
 use Rattle.lsp_replay.proofs.Records.OutputLemmas.{output_after}
 
 -- any record but an accepted change
@@ -16,60 +16,7 @@ step_other server r front series _ _ not_bad none = refl
 pub step_changed : (server : ServerData) (r : Record) (front canonical : List ℕ) (series : Option OpenSeries)
     (change : Option ChangeData) (verdict : Verdict) → (is : IsChange server change verdict canonical)
     → step_if server r front series change verdict ≡ change_output server is.params front (front ++ canonical) series
-step_changed server r front canonical series change verdict is =
-    ap (λ (c : Option ChangeData). step_if server r front series c verdict) is.is
-    ∙ ap (λ (v : Verdict). step_if server r front series (Some is.params) v) is.accepted
-    ∙ rw (le-ltb server.config.limits.max_body (length (canonical_change_body server is.params)) is.framed.within) refl
-    ∙ ap (λ (c : List ℕ). change_output server is.params front (front ++ c) series) (sym is.framed.is)
-
-pub step_too_long : (server : ServerData) (r : Record) (front : List ℕ) (series : Option OpenSeries) (change : Option
-    ChangeData) (verdict : Verdict) (p : ChangeData) → change ≡ Some p → verdict ≡ answered changed
-    → server.config.limits.max_body < length (canonical_change_body server p)
-    → step_if server r front series change verdict ≡ faulty (BodyTooLong r.head.place)
-step_too_long server r front series change verdict p is accepted over =
-    ap (λ (c : Option ChangeData). step_if server r front series c verdict) is
-    ∙ ap (λ (v : Verdict). step_if server r front series (Some p) v) accepted
-    ∙ rw (lt-ltb server.config.limits.max_body (length (canonical_change_body server p)) over) refl
-
--- it goes on with the open series
-pub gives_longer : (server : ServerData) (p : ChangeData) (front single old_front singles : List ℕ)
-    (series : Option SquashData) (batches : SquashData) → IsLonger series p batches
-    → change_output server p front single (series_of old_front singles series) ≡ record {
-      out = [];
-      end = None;
-      series = series_of old_front (singles ++ single) (Some batches);
-    }
-gives_longer server p front single old_front singles series batches is =
-    ap (λ (o : Option SquashData). change_output server p front single (series_of old_front singles o)) is.open_one
-    ∙ rw is.same (ap (λ (b : SquashData). record {
-      out = [];
-      end = None;
-      series = Some (record { front = old_front; singles = singles ++ single; squash = b });
-    }) (sym is.joined))
-
--- it begins a series
-begun_is : (server : ServerData) (p : ChangeData) (front single : List ℕ) (batches : SquashData)
-    → IsBegun server p batches → begun server p front single ≡ series_of front single (Some batches)
-begun_is server p front single batches is =
-    rw is.is_open (ap (λ (b : SquashData). Some (record { front = front; singles = single; squash = b }))
-    (sym is.joined))
-
-pub gives_begun : (server : ServerData) (p : ChangeData) (front single old_front singles : List ℕ)
-    (series : Option SquashData) (batches : SquashData) → IsOther series p → IsBegun server p batches
-    → change_output server p front single (series_of old_front singles series) ≡ record {
-      out = end_bytes (series_of old_front singles series);
-      end = None;
-      series = series_of front single (Some batches);
-    }
-gives_begun server p front single old_front singles None batches other is =
-    ap (λ (o : Option OpenSeries). record { out = []; end = None; series = o }) (begun_is server p front single batches
-    is)
-gives_begun server p front single old_front singles (Some squash) batches other is =
-    rw other (ap (λ (o : Option OpenSeries). record {
-      out = open_bytes (record { front = old_front; singles = singles; squash = squash });
-      end = None;
-      series = o;
-    }) (begun_is server p front single batches is))
+step_changed server r front canonical series change verdict is = grind (arith, common_steps, le-ltb)
 
 -- ---- the step of a record, by how it is written
 
@@ -94,19 +41,12 @@ module _ (s : Session) (front singles : List ℕ) (series : Option SquashData) (
   pub told_too_long : (p : ChangeData) → change_in (incoming_of (reading r.body)) ≡ Some p → verdict ≡ answered changed
       → s.server.config.limits.max_body < length (canonical_change_body s.server p)
       → squash_step s here r (judge s r) ≡ faulty (BodyTooLong r.head.place)
-  told_too_long p is accepted over =
-      ap (λ v. step_if s.server r its_front here (change_in (incoming_of (reading r.body))) v) (sym error)
-      ∙ step_too_long s.server r its_front here (change_in (incoming_of (reading r.body))) verdict p is accepted over
+  told_too_long p is accepted over = grind (arith, common_steps, lt-ltb)
 
   -- ---- the same, by what the texts and the output are after the calls that write them
 
   module _ (begun_with : Option SquashData) (taken : begun_with ≡ series) (buffer : List ℕ) (nothing : buffer ≡ [])
     where
-      ends : (ended : Option SquashData) (out : List ℕ) → ended ≡ begun_with
-          → out ≡ buffer ++ end_bytes (series_of front singles ended) → out ≡ end_bytes here
-      ends ended out same is = is ∙ ap (λ z. z ++ end_bytes (series_of front singles ended)) nothing
-          ∙ ap (λ o. end_bytes (series_of front singles o)) (same ∙ taken)
-
       pub told_as_it_is : (ended : Option SquashData) → ended ≡ begun_with → verdict ≢ bad
           → canonical_if s.server (change_in (incoming_of (reading r.body))) verdict ≡ None
           → (series_out front_out out : List ℕ) → series_out ≡ buffer ++ end_bytes (series_of front singles ended) →
@@ -119,16 +59,7 @@ module _ (s : Session) (front singles : List ℕ) (series : Option SquashData) (
           }
       told_as_it_is ended same not_bad none series_out front_out out series_is front_is is batches closed last_front
           last_singles =
-          ap (λ v. step_if s.server r its_front here (change_in (incoming_of (reading r.body))) v) (sym error)
-          ∙ step_other s.server r its_front here (change_in (incoming_of (reading r.body))) verdict not_bad none
-          ∙ ap (λ o. record { out = o; end = None; series = None }) (sym (is ∙ ap (λ z. z ++ r.raw)
-          (front_is ∙ ap (λ z. z ++ its_front) (ends ended series_out same series_is))
-          ∙ append_assoc (end_bytes here) its_front r.raw))
-          ∙ ap (λ (o : Option SquashData). record {
-            out = out;
-            end = None;
-            series = series_of last_front last_singles o;
-          }) (sym closed)
+          grind (arith, common_steps, append_assoc, step_other)
 
       pub told_more : (canonical : List ℕ) (batches : SquashData)
           (is : IsChange s.server (change_in (incoming_of (reading r.body))) verdict canonical)
@@ -140,13 +71,7 @@ module _ (s : Session) (front singles : List ℕ) (series : Option SquashData) (
             series = series_of new_front new_singles (Some batches);
           }
       told_more canonical batches is longer frame new_front new_singles same same_front more_singles =
-          rw (
-            nothing,
-            same_front,
-            more_singles,
-            same,
-          ) (changes canonical is ∙ gives_longer s.server is.params its_front (its_front ++ canonical) front singles
-          series batches (subst (λ (o : Option SquashData). IsLonger o is.params batches) taken longer))
+          grind (arith, common_steps, changes)
 
       pub told_next : (canonical : List ℕ) (ended : Option SquashData) (batches : SquashData)
           (is : IsChange s.server (change_in (incoming_of (reading r.body))) verdict canonical)
@@ -160,9 +85,7 @@ module _ (s : Session) (front singles : List ℕ) (series : Option SquashData) (
           }
       told_next canonical ended batches is other ended_is begun out frame new_front new_singles out_is same same_front
           more_singles =
-          rw (ends ended out ended_is out_is, same_front, more_singles, same)
-          (changes canonical is ∙ gives_begun s.server is.params its_front (its_front ++ canonical) front singles series
-          batches (subst (λ (o : Option SquashData). IsOther o is.params) taken other) begun)
+          grind (arith, common_steps, changes)
 
 -- ---- the output from a record on
 

@@ -1,12 +1,13 @@
 -- What `normalise` writes of the records that stay: a log of which `replay` reports the same.
-use Rattle.lsp_replay.proofs.Prelude.{◌≡◌, ℕ, Bool, true, false, ◌||◌, List, [], ◌++◌, length, Option, None, refl, sym, ap, ◌∙◌, subst, Result, IfOk, AreInRange, EngineFault, Version, Record, Log, IsReadAs, AreRecords, is_line_due, line_of, together, Settings, Outcome, Kept, KeepsDocuments, WroteDocuments, documents, kept_records, nothing_selected, PortState, all_of, RanOver, as_log, canonical_log, log_config, report, IsCanonicalLog, IsSquashed, LeavesAlike, RunOutput, Session, opened, normalised_if, squashed, squashed_steps}
+use Rattle.lsp_replay.proofs.Prelude.{Bool, List, None, Option, [], ap, false, length, refl, subst, sym, true, ℕ, ◌++◌, ◌||◌, ◌∙◌, ◌≡◌, IfOk, Result, AreInRange, IsReadAs, Log, Record, is_line_due, line_of, together, Version, One, RanOver, as_log, canonical_log, log_config, normalising, report, KeepsDocuments, Kept, documents, kept_records, nothing_selected, PortState, all_of, RunOutput, Session, opened, normalised_if, squashed, Settings, Outcome, squash_view, IsCanonicalLog, IsSquashed, LeavesAlike, EngineFault, Wrote}
+use Rattle.lsp_log.proofs.LogLemmas.{due_now}
 use Rattle.lsp_replay.specs.laws.Documents.{DocumentsLaw, DocumentsStopAlike}
-use Rattle.lsp_replay.proofs.Stay.KeptLogLemmas.{are_kept, each_located, kept_due, kept_stop, line_left, located_all, located_left, reported, squash_located}
-use Rattle.lsp_replay.proofs.Canonical.NormalisedLemmas.{canonical_log_law, version_is}
+use Rattle.lsp_replay.proofs.CourseLemmas.{IsReportedAs, reads_back}
+use Rattle.lsp_replay.proofs.Stay.KeptLogLemmas.{IsKeptLog, each_placeless, kept_log, located_all, located_due, located_output, squash_placeless}
+use Rattle.lsp_replay.proofs.Canonical.NormalisedLemmas.{canonical_log_law}
 use Rattle.lsp_replay.proofs.Records.NumberedLemmas.{alike_self}
 use Rattle.lsp_replay.proofs.Squash.SquashedLemmas.{stops_alike}
-use Rattle.lsp_replay.proofs.Squash.SquashLawLemmas.{IsReportedAs}
-use Rattle.lsp_replay.proofs.Squash.SeriesLemmas.{squashed_is}
+use Rattle.lsp_replay.proofs.Squash.SeriesLemmas.{squashed_at}
 use Rattle.lsp_replay.proofs.Squash.SquashedLogLemmas.{squashed_law}
 use Rattle.lsp_replay.proofs.Runs.WroteLemmas.{IsNotOk, at_the_end, normal_not_ok}
 
@@ -20,20 +21,18 @@ stop_if settings false rs = refl
 pub documents_stop : DocumentsStopAlike
 documents_stop settings records =
     stop_if settings settings.squash (kept_records settings records).records
-    ∙ kept_stop (opened (log_config settings)) (opened (log_config settings)) nothing_selected records
-    (alike_self (opened (log_config settings)))
+    ∙ (kept_log 0 0 0 One false (opened (log_config settings)) records (opened (log_config settings)) nothing_selected
+    (alike_self (opened (log_config settings)))).stop
 
 -- ---- where the records lie changes nothing
 
-abbrev LocatedBy : (Settings → List Record → RunOutput) → Type 0
-LocatedBy f = (settings : Settings) (rs : List Record) (at : ℕ) (version : Version) → (f settings rs).stop ≡ None
-    → f settings (located_all at version rs) ≡ f settings rs
-
-steps_located : LocatedBy squashed_steps
-steps_located settings rs at version on = squash_located (opened (log_config settings)) None rs at version on
-
-squashed_located : LocatedBy squashed
-squashed_located = subst LocatedBy squashed_is steps_located
+squashed_located : (settings : Settings) (rs : List Record) (at : ℕ) (version : Version)
+    → (squashed settings rs).stop ≡ None → squashed settings (located_all at version rs) ≡ squashed settings rs
+squashed_located settings rs at version on =
+    squashed_at settings (located_all at version rs)
+    ∙ located_output squash_view squash_placeless None (opened (log_config settings)) rs at version
+    (sym (ap (λ (c : RunOutput). c.stop) (squashed_at settings rs)) ∙ on)
+    ∙ sym (squashed_at settings rs)
 
 -- ---- the records that stay, as a log
 
@@ -45,8 +44,14 @@ module _ (settings : Settings) (ranges : AreInRange settings.limits) (input : Li
   abbrev start : ℕ
   start = length (line_of log.version)
 
+  abbrev due : Bool
+  due = is_line_due log.version []
+
   abbrev k : Kept
   k = kept_records settings log.records
+
+  kept : IsKeptLog settings.limits.max_body start start log.version due s log.records s nothing_selected k
+  kept = kept_log settings.limits.max_body start start log.version due s log.records s nothing_selected (alike_self s)
 
   abbrev ks : List Record
   ks = located_all start log.version k.records
@@ -54,32 +59,21 @@ module _ (settings : Settings) (ranges : AreInRange settings.limits) (input : Li
   abbrev bytes : List ℕ
   bytes = line_of log.version ++ together log.version ks []
 
-  abbrev kept_log : Log
-  kept_log = record { version = log.version; records = ks; rest = [] }
+  abbrev short_log : Log
+  short_log = record { version = log.version; records = ks; rest = [] }
 
-  are : AreRecords settings.limits.max_body log.version start (is_line_due log.version []) ks
-  are = are_kept settings.limits.max_body log.version log.records s nothing_selected start start
-      (is_line_due log.version []) reads.each
-
-  kept_reads : IsReadAs (as_log settings) bytes kept_log
-  kept_reads = record {
-    version = version_is settings.limits.max_body log.version ks bytes are refl;
-    accepted = λ e. absurd (let wrong : false ≡ true = e in cc);
-    is = refl;
-    each = are;
-  }
+  kept_reads : IsReadAs (as_log settings) bytes short_log
+  kept_reads = reads_back settings log.version ks bytes (kept.are reads.each) refl
 
   abbrev due_at_end : Bool
   due_at_end = k.due || is_line_due log.version log.records
 
   same_due : due_at_end ≡ is_line_due log.version ks
   same_due =
-      ap (λ b. k.due || b) (line_left log.version log.records)
-      ∙ kept_due settings.limits.max_body log.version log.records s nothing_selected start
-      (is_line_due log.version []) reads.each
-      ∙ sym (line_left log.version ks ∙ located_left log.version start (is_line_due log.version []) k.records)
+      ap (λ b. k.due || b) (sym (due_now log.version log.records)) ∙ kept.same_due reads.each
+      ∙ sym (located_due log.version start due k.records) ∙ due_now log.version ks
 
-  all_same : (g : List Record → RunOutput) → g ks ≡ g k.records → all_of g kept_log ≡ (g k.records).out
+  all_same : (g : List Record → RunOutput) → g ks ≡ g k.records → all_of g short_log ≡ (g k.records).out
       ++ (g k.records).last due_at_end
   all_same g same =
       ap (λ (c : RunOutput). c.out ++ c.last (is_line_due log.version ks)) same
@@ -87,11 +81,11 @@ module _ (settings : Settings) (ranges : AreInRange settings.limits) (input : Li
 
   module _ (goes : (canonical_log settings log.records).stop ≡ None) where
     told : IsReportedAs (report settings ks) (report settings log.records)
-    told = reported log.version log.records s s nothing_selected start (alike_self s) goes
+    told = kept.reported goes
 
     -- what an output of the records that stay is, by a law of that output
     leaves_by : (g : List Record → RunOutput) → g ks ≡ g k.records → (g ks).outcome ≡ (report settings ks).outcome
-        → LeavesAlike settings ks (all_of g kept_log)
+        → LeavesAlike settings ks (all_of g short_log)
         → KeepsDocuments settings log.records (g k.records).outcome ((g k.records).out ++ (g k.records).last due_at_end)
     leaves_by g same outcome leaves =
         let reports = sym (ap (λ (c : RunOutput). c.outcome) same) ∙ outcome in
@@ -124,14 +118,14 @@ module _ (settings : Settings) (ranges : AreInRange settings.limits) (input : Li
         → KeepsDocuments settings log.records (normalised_if b settings k.records).outcome
         ((normalised_if b settings k.records).out ++ (normalised_if b settings k.records).last due_at_end)
     keeps_if false on =
-        let same = each_located s k.records start log.version on in
-        let law : IsCanonicalLog settings ks (all_of (canonical_log settings) kept_log) =
-        canonical_log_law settings ranges bytes kept_log kept_reads refl (ap (λ (c : RunOutput). c.stop) same ∙ on) in
+        let same = located_output normalising each_placeless tt s k.records start log.version on in
+        let law : IsCanonicalLog settings ks (all_of (canonical_log settings) short_log) =
+        canonical_log_law settings ranges bytes short_log kept_reads refl (ap (λ (c : RunOutput). c.stop) same ∙ on) in
         leaves_by (canonical_log settings) same law.outcome (canonical_leaves _ law)
     keeps_if true on =
         let same = squashed_located settings k.records start log.version on in
-        let law : IsSquashed settings ks (all_of (squashed settings) kept_log) =
-        squashed_law settings ranges bytes kept_log kept_reads refl (ap (λ (c : RunOutput). c.stop) same ∙ on) in
+        let law : IsSquashed settings ks (all_of (squashed settings) short_log) =
+        squashed_law settings ranges bytes short_log kept_reads refl (ap (λ (c : RunOutput). c.stop) same ∙ on) in
         leaves_by (squashed settings) same law.outcome law.leaves
 
 pub documents_law : DocumentsLaw
@@ -147,10 +141,10 @@ documents_not_ok settings rs =
 pub wrote_documents : (settings : Settings) (ranges : AreInRange settings.limits) {state : PortState}
     {left_old left_new received_old received_new : Option (List ℕ)} (result : Result Outcome EngineFault)
     → RanOver (as_log settings) (documents settings) state left_old left_new received_old received_new result
-    → IfOk result (WroteDocuments settings left_old left_new received_old received_new)
+    → IfOk result (Wrote settings (KeepsDocuments settings) left_old left_new received_old received_new)
 wrote_documents settings ranges {state} {left_old} {left_new} {received_old} {received_new} =
     at_the_end (as_log settings) (documents settings) (documents_not_ok settings)
-    (WroteDocuments settings left_old left_new received_old received_new)
+    (Wrote settings (KeepsDocuments settings) left_old left_new received_old received_new)
     (λ outcome end. record {
       input = end.input;
       read = end.read;
@@ -159,7 +153,7 @@ wrote_documents settings ranges {state} {left_old} {left_new} {received_old} {re
       whole = end.whole;
       bytes = all_of (documents settings) end.log;
       wrote = end.wrote;
-      keeps = subst (λ (o : Outcome). KeepsDocuments settings end.log.records o (all_of (documents settings) end.log))
+      holds = subst (λ (o : Outcome). KeepsDocuments settings end.log.records o (all_of (documents settings) end.log))
           (sym end.reports)
           (documents_law settings ranges end.input end.log end.reads end.whole end.continues);
     })

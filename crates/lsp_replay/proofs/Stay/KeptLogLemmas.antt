@@ -1,12 +1,9 @@
 -- The records that stay, as a log of their own.
-use Rattle.lsp_replay.proofs.Prelude.{common_steps, cases_Bool, arith, ◌≡◌, ◌≢◌, ℕ, ◌+◌, Bool, true, false, ◌||◌, List, [], ◌∷◌, length, Option, Some, None, refl, sym, ap, ◌∙◌, subst, ⊎_elim, cond_both, Result, Err, place_after, frame, reading, ChangeData, incoming_of, ServerData, EngineFault, BadLog, Version, One, Record, AreRecords, is_line_due, record_bytes, Outcome, Kept, Selection, after_kept, after_left_out, is_due, kept_first, kept_in, record_stays, with_line, RecordOutput, canonical_change_body, canonical_if, change_in, followed_by, front_of, normalising, replaying, unless_bad, written, run_output_in, IsChange, Session, Verdict, bad, judge, OpenSeries, Step, squash_step, squashed_in}
-use Rattle.lsp_replay.proofs.Records.ChangeLemmas.{IsChangeKind, IsOtherKind, kind_of}
-use Rattle.lsp_replay.proofs.Stay.LeftOutLemmas.{harmless, stays_alike}
-use Rattle.lsp_replay.proofs.Canonical.NormalisedLemmas.{went_on}
+use Rattle.lsp_replay.proofs.Prelude.{Bool, List, None, Option, Some, [], ap, ap₂, arith, false, length, refl, subst, sym, true, ℕ, ◌+◌, ◌||◌, ◌∙◌, ◌∷◌, ◌≡◌, ◌≢◌, cases_Bool, cond_both, common_steps, Err, Result, place_after, due_after, AreRecords, Record, record_bytes, Version, reading, ChangeData, RecordOutput, View, canonical_if, change_in, followed_by, front_of, normalising, output_in, replaying, unless_bad, written, Kept, Selection, after_kept, after_left_out, is_due, kept_first, kept_in, record_stays, with_line, Session, Verdict, bad, judge, Outcome, run_output_in, OpenSeries, Step, squash_view, step_if, incoming_of, ServerData, EngineFault, BadLog}
+use Rattle.lsp_replay.proofs.CourseLemmas.{IsReportedAs, none_due, passed, report_on, reported_by, reported_end, went_on}
+use Rattle.lsp_replay.proofs.Stay.LeftOutLemmas.{IsHarmless, harmless, stays_alike}
 use Rattle.lsp_replay.proofs.Records.NumberedLemmas.{IsAlike, alike_both, judged_alike}
 use Rattle.lsp_replay.proofs.Squash.SquashedLemmas.{stop_on}
-use Rattle.lsp_replay.proofs.Squash.SquashingLemmas.{step_changed, step_other}
-use Rattle.lsp_replay.proofs.Squash.SquashLawLemmas.{IsReportedAs, report_on, reported_by, reported_end}
 
 -- ---- the records that stay, by whether the first does
 
@@ -15,12 +12,8 @@ pub kept_true : (s : Session) (c : Selection) (r : Record) (rs : List Record) �
     → kept_in s c (r ∷ rs) ≡ kept_first (with_line c r) (kept_in (judge s r).session (after_kept c r.head r.body) rs)
 kept_true s c r rs e = rw e refl
 
-pub kept_false : (s : Session) (c : Selection) (r : Record) (rs : List Record) → record_stays s c.waiting r.head.side
-    r.body ≡ false → kept_in s c (r ∷ rs) ≡ kept_in s (after_left_out c r.head) rs
-kept_false s c r rs e = rw e refl
-
 -- what holds of the records that stay, by both cases of the first
-pub kept_cases : (s : Session) (c : Selection) (r : Record) (rs : List Record) (P : Kept → Type 0)
+kept_cases : (s : Session) (c : Selection) (r : Record) (rs : List Record) (P : Kept → Type 0)
     → (record_stays s c.waiting r.head.side r.body ≡ true
     → P (kept_first (with_line c r) (kept_in (judge s r).session (after_kept c r.head r.body) rs)))
     → (record_stays s c.waiting r.head.side r.body ≡ false → P (kept_in s (after_left_out c r.head) rs))
@@ -36,45 +29,13 @@ single server r v =
     (canonical_if server (change_in (incoming_of (reading r.body))) v))
 
 -- The line of version 2 doesn't decide how a record ends the run.
-written_end : (max_body : ℕ) (r : Record) (front other : List ℕ) (c : Option (List ℕ))
-    → (written max_body r front c).end ≡ (written max_body r other c).end
-written_end max_body r front other None = refl
-written_end max_body r front other (Some body) = grind (arith, common_steps, cases_Bool)
-
 line_end : (server : ServerData) (c : Selection) (r : Record) (v : Verdict) → (single server (with_line c r) v).end
     ≡ (single server r v).end
-line_end server c r bad = refl
-line_end server c r v = written_end server.config.limits.max_body r (front_of (with_line c r).head)
-    (front_of r.head) (canonical_if server (change_in (incoming_of (reading r.body))) v)
-
--- ---- where the run ends
+line_end server c r v = grind (arith, common_steps, cases_Bool)
 
 single_none : (server : ServerData) (r : Record) (v : Verdict) → v ≢ bad
     → canonical_if server (change_in (incoming_of (reading r.body))) v ≡ None → (single server r v).end ≡ None
-single_none server r bad not_bad none = absurd (not_bad refl)
-single_none server r _ not_bad none =
-    ap (λ c. (written server.config.limits.max_body r (front_of r.head) c).end) none
-
-pub kept_stop : (s t : Session) (c : Selection) (rs : List Record) → IsAlike s t
-    → (run_output_in normalising t (kept_in t c rs).records).stop ≡ (run_output_in normalising s rs).stop
-kept_stop s t c [] like = refl
-kept_stop s t c (r ∷ rs) like =
-    kept_cases t c r rs
-    (λ (k : Kept). (run_output_in normalising t k.records).stop ≡ (run_output_in normalising s (r ∷ rs)).stop)
-    (λ e. stop_on _ _ _ _ _ _ same_end
-    (kept_stop (judge s r).session (judge t r).session (after_kept c r.head r.body) rs (judged_alike s t r like).1))
-    (λ e.
-    let h = harmless s c.waiting r (sym (stays_alike s t c.waiting r.head.side r.body like) ∙ e) in
-    kept_stop (judge s r).session t (after_left_out c r.head) rs (alike_both s (judge s r).session t h.alike like)
-    ∙ sym (ap (λ (o : Option (Result Outcome EngineFault)). (followed_by (single s.server r (judge s r).verdict).out o
-    (run_output_in normalising (judge s r).session rs)).stop) (single_none s.server r (judge s r).verdict h.not_bad
-    h.none)))
-  where
-    same_end : (single t.server (with_line c r) (judge t r).verdict).end ≡ (single s.server r (judge s r).verdict).end
-    same_end =
-        line_end t.server c r (judge t r).verdict
-        ∙ ap (λ (u : Session). (single u.server r (judge t r).verdict).end) like.2
-        ∙ ap (λ (v : Verdict). (single s.server r v).end) (judged_alike s t r like).0
+single_none server r v not_bad none = grind (arith, common_steps)
 
 -- ---- records at other places
 
@@ -89,72 +50,123 @@ or_false : (b : Bool) → (b || false) ≡ b
 or_false true = refl
 or_false false = refl
 
--- The records that stay are those of a log.
-pub are_kept : (max_body : ℕ) (version : Version) (rs : List Record) (s : Session) (c : Selection) (at before : ℕ)
-    (due : Bool) → AreRecords max_body version before due rs
-    → AreRecords max_body version at (c.due || due) (located_all at version (kept_in s c rs).records)
-are_kept max_body version [] s c at before due each = tt
-are_kept max_body version (r ∷ rs) s c at before due each =
-    kept_cases s c r rs
-    (λ (k : Kept). AreRecords max_body version at (c.due || due) (located_all at version k.records))
-    (λ e. (
+pub located_due : (version : Version) (at : ℕ) (due : Bool) (rs : List Record)
+    → due_after due (located_all at version rs) ≡ due_after due rs
+located_due version at due [] = refl
+located_due version at due (r ∷ rs) = refl
+
+-- ---- all records
+
+-- The records that stay of some are those of a log.
+pub record IsKeptLog (max_body at before : ℕ) (version : Version) (due : Bool) (s : Session) (rs : List Record)
+    (t : Session) (c : Selection) (k : Kept) : Type 0 where
+  pub stop : (run_output_in normalising t k.records).stop ≡ (run_output_in normalising s rs).stop
+  -- `replay` reports the same documents of them, the same status and as many refusals
+  pub reported : (run_output_in normalising s rs).stop ≡ None
+      → IsReportedAs (run_output_in replaying t (located_all at version k.records)) (run_output_in replaying s rs)
+  pub are : AreRecords max_body version before due rs
+      → AreRecords max_body version at (c.due || due) (located_all at version k.records)
+  -- whether the line of version 2 is still to be written after them
+  pub same_due : AreRecords max_body version before due rs
+      → (k.due || due_after due rs) ≡ due_after (c.due || due) k.records
+
+module _ (max_body at before : ℕ) (version : Version) (due : Bool) (s : Session) (r : Record) (rs : List Record)
+    (t : Session) (c : Selection) (k : Kept) (like : IsAlike s t) where
+  goes_on : (run_output_in normalising s (r ∷ rs)).stop ≡ None
+      → ((single s.server r (judge s r).verdict).end ≡ None)
+      × ((run_output_in normalising (judge s r).session rs).stop ≡ None)
+  goes_on goes = went_on (single s.server r (judge s r).verdict).out (single s.server r (judge s r).verdict).end
+      (run_output_in normalising (judge s r).session rs) goes
+
+  stays_first : IsKeptLog max_body (at + length (record_bytes version r)) (before + length (record_bytes version r))
+      version false (judge s r).session rs (judge t r).session (after_kept c r.head r.body) k
+      → IsKeptLog max_body at before version due s (r ∷ rs) t c (kept_first (with_line c r) k)
+  stays_first more = record {
+    stop =
+        stop_on _ _ _ _ _ _
+        (line_end t.server c r (judge t r).verdict
+        ∙ ap (λ (u : Session). (single u.server r (judge t r).verdict).end) like.2
+        ∙ ap (λ (v : Verdict). (single s.server r v).end) (judged_alike s t r like).0) more.stop;
+    reported = λ goes.
+        let on = goes_on goes in
+        let not_bad : (judge s r).verdict ≢ bad = passed r (judge s r).verdict _ on.0 in
+        reported_by _ _ _ _ (report_on t (located at (with_line c r)) (located_all
+        (at + length (record_bytes version r)) version k.records)
+        (λ (wrong : (judge t r).verdict ≡ bad). not_bad (sym (judged_alike s t r like).0 ∙ wrong)))
+        (report_on s r rs not_bad) (more.reported on.1);
+    are = λ each. (
       record {
         is_frame_of = each.0.is_frame_of;
         side = each.0.side;
         of_version = each.0.of_version;
         placed = refl;
-        due = same_due;
+        due = ap (λ b. c.due || b) each.0.due;
       },
-      are_kept max_body version rs (judge s r).session (after_kept c r.head r.body)
-          (at + length (record_bytes version r)) (before + length (record_bytes version r)) false each.1,
-    ))
-    (λ e. subst (λ (b : Bool). AreRecords max_body version at b
-    (located_all at version (kept_in s (after_left_out c r.head) rs).records)) (or_false (is_due c r.head) ∙ same_due)
-    (are_kept max_body version rs s (after_left_out c r.head) at (before + length (record_bytes version r)) false
-    each.1))
-  where
-    same_due : is_due c r.head ≡ (c.due || due)
-    same_due = ap (λ b. c.due || b) each.0.due
+      more.are each.1,
+    );
+    same_due = λ each. ap (λ b. k.due || b) (sym (none_due rs)) ∙ more.same_due each.1 ∙ none_due k.records;
+  }
 
--- Whether the line of version 2 is still to be written after records.
-abbrev pub left_due : Bool → List Record → Bool
-left_due due [] = due
-left_due due (r ∷ rs) = false
+  left_first : IsHarmless s (change_in (incoming_of (reading r.body))) (judge s r)
+      → IsKeptLog max_body at (before + length (record_bytes version r)) version false (judge s r).session rs t
+      (after_left_out c r.head) k → IsKeptLog max_body at before version due s (r ∷ rs) t c k
+  left_first h more = record {
+    stop =
+        more.stop
+        ∙ sym (ap (λ (o : Option (Result Outcome EngineFault)).
+        (followed_by (single s.server r (judge s r).verdict).out o
+        (run_output_in normalising (judge s r).session rs)).stop)
+        (single_none s.server r (judge s r).verdict h.not_bad h.none));
+    reported = λ goes. reported_by _ _ _ _ refl (report_on s r rs h.not_bad) (more.reported (goes_on goes).1);
+    are = λ each. subst (λ b. AreRecords max_body version at b (located_all at version k.records)) (is_same each.0.due)
+        (more.are each.1);
+    same_due = λ each. ap (λ b. k.due || b) (sym (none_due rs)) ∙ more.same_due each.1
+        ∙ ap (λ b. due_after b k.records) (is_same each.0.due);
+  }
+    where
+      is_same : r.head.line_due ≡ due → (is_due c r.head || false) ≡ (c.due || due)
+      is_same e = or_false (is_due c r.head) ∙ ap (λ b. c.due || b) e
 
-none_due : (rs : List Record) → left_due false rs ≡ false
-none_due [] = refl
-none_due (r ∷ rs) = refl
-
-pub kept_due : (max_body : ℕ) (version : Version) (rs : List Record) (s : Session) (c : Selection) (before : ℕ)
-    (due : Bool) → AreRecords max_body version before due rs
-    → ((kept_in s c rs).due || left_due due rs) ≡ left_due (c.due || due) (kept_in s c rs).records
-kept_due max_body version [] s c before due each = refl
-kept_due max_body version (r ∷ rs) s c before due each =
-    let later = before + length (record_bytes version r) in
-    kept_cases s c r rs (λ (k : Kept). (k.due || false) ≡ left_due (c.due || due) k.records)
+pub kept_log : (max_body at before : ℕ) (version : Version) (due : Bool) (s : Session) (rs : List Record) (t : Session)
+    (c : Selection) → IsAlike s t → IsKeptLog max_body at before version due s rs t c (kept_in t c rs)
+kept_log max_body at before version due s [] t c like =
+    record { stop = refl; reported = λ goes. reported_end s t like; are = λ each. tt; same_due = λ each. refl }
+kept_log max_body at before version due s (r ∷ rs) t c like =
+    let len = length (record_bytes version r) in
+    kept_cases t c r rs (λ (k : Kept). IsKeptLog max_body at before version due s (r ∷ rs) t c k)
+    (λ e. stays_first max_body at before version due s r rs t c
+    (kept_in (judge t r).session (after_kept c r.head r.body) rs) like
+    (kept_log max_body (at + len) (before + len) version false (judge s r).session rs (judge t r).session
+    (after_kept c r.head r.body) (judged_alike s t r like).1))
     (λ e.
-    let k = kept_in (judge s r).session (after_kept c r.head r.body) rs in
-    ap (λ b. k.due || b) (sym (none_due rs))
-    ∙ kept_due max_body version rs (judge s r).session (after_kept c r.head r.body) later false each.1
-    ∙ none_due k.records)
-    (λ e.
-    let k = kept_in s (after_left_out c r.head) rs in
-    ap (λ b. k.due || b) (sym (none_due rs))
-    ∙ kept_due max_body version rs s (after_left_out c r.head) later false each.1
-    ∙ ap (λ b. left_due b k.records) (or_false (is_due c r.head) ∙ ap (λ b. c.due || b) each.0.due))
-
-pub line_left : (version : Version) (rs : List Record) → is_line_due version rs ≡ left_due (is_line_due version []) rs
-line_left One [] = refl
-line_left One (r ∷ rs) = refl
-line_left _ [] = refl
-line_left _ (r ∷ rs) = refl
-
-pub located_left : (version : Version) (at : ℕ) (due : Bool) (rs : List Record)
-    → left_due due (located_all at version rs) ≡ left_due due rs
-located_left version at due [] = refl
-located_left version at due (r ∷ rs) = refl
+    let h = harmless s c.waiting r (sym (stays_alike s t c.waiting r.head.side r.body like) ∙ e) in
+    left_first max_body at before version due s r rs t c (kept_in t (after_left_out c r.head) rs) like h
+    (kept_log max_body at (before + len) version false (judge s r).session rs t (after_left_out c r.head)
+    (alike_both s (judge s r).session t h.alike like)))
 
 -- ---- the same is written at other places
+
+-- Where the records lie changes nothing of what a command writes.
+abbrev pub IsPlaceless : {State : Type 0} → View State → Type 0
+IsPlaceless {State} view = (state : State) (s : Session) (r : Record) (at : ℕ)
+    → (view.record_output state s r (judge s r)).end ≡ None
+    → (view.record_output state s (located at r) (judge s r) ≡ view.record_output state s r (judge s r))
+    × (view.next state s (located at r) (judge s r) ≡ view.next state s r (judge s r))
+
+module _ {State : Type 0} (view : View State) (same : IsPlaceless view) where
+  pub located_output : (state : State) (s : Session) (rs : List Record) (at : ℕ) (version : Version)
+      → (output_in view state s rs).stop ≡ None
+      → output_in view state s (located_all at version rs) ≡ output_in view state s rs
+  located_output state s [] at version goes = refl
+  located_output state s (r ∷ rs) at version goes =
+      let given = view.record_output state s r (judge s r) in
+      let next = view.next state s r (judge s r) in
+      let on = went_on given.out given.end (output_in view next (judge s r).session rs) goes in
+      let here = same state s r at on.0 in
+      let later = at + length (record_bytes version r) in
+      ap₂ (λ (g : RecordOutput) (n : State). followed_by g.out g.end
+      (output_in view n (judge s r).session (located_all later version rs))) here.0 here.1
+      ∙ ap (followed_by given.out given.end) (located_output next (judge s r).session rs later version on.1)
 
 located_written : (max_body at : ℕ) (r : Record) (front : List ℕ) (c : Option (List ℕ))
     → (written max_body r front c).end ≡ None → written max_body (located at r) front c ≡ written max_body r front c
@@ -167,81 +179,16 @@ located_single server at r bad e = absurd (let wrong : Some (Err (BadLog r.head.
 located_single server at r v e = located_written server.config.limits.max_body at r (front_of r.head)
     (canonical_if server (change_in (incoming_of (reading r.body))) v) e
 
-pub each_located : (s : Session) (rs : List Record) (at : ℕ) (version : Version) → (run_output_in normalising s rs).stop
-    ≡ None → run_output_in normalising s (located_all at version rs) ≡ run_output_in normalising s rs
-each_located s [] at version goes = refl
-each_located s (r ∷ rs) at version goes =
-    let given = single s.server r (judge s r).verdict in
-    let on = went_on given.out given.end (run_output_in normalising (judge s r).session rs) goes in
-    let later = located_all (at + length (record_bytes version r)) version rs in
-    ap (λ (g : RecordOutput). followed_by g.out g.end (run_output_in normalising (judge s r).session later))
-    (located_single s.server at r (judge s r).verdict on.0)
-    ∙ ap (followed_by given.out given.end) (each_located (judge s r).session rs (at + length (record_bytes version r))
-    version on.1)
+pub each_placeless : IsPlaceless normalising
+each_placeless _ s r at e = (located_single s.server at r (judge s r).verdict e, refl)
 
-module _ (s : Session) (series : Option OpenSeries) (at : ℕ) (r : Record) where
-  abbrev change : Option ChangeData
-  change = change_in (incoming_of (reading r.body))
+located_step : (server : ServerData) (at : ℕ) (r : Record) (front : List ℕ) (series : Option OpenSeries)
+    (change : Option ChangeData) (v : Verdict) → (step_if server r front series change v).end ≡ None
+    → step_if server (located at r) front series change v ≡ step_if server r front series change v
+located_step server at r front series change v e = grind (arith, common_steps, cases_Bool)
 
-  located_step : (squash_step s series r (judge s r)).end ≡ None → squash_step s series (located at r) (judge s r)
-      ≡ squash_step s series r (judge s r)
-  located_step e =
-      ⊎_elim
-      (λ (kind : IsOtherKind s.server change (judge s r).verdict).
-      step_other s.server (located at r) (front_of r.head) series change (judge s r).verdict kind.0 kind.1
-      ∙ sym (step_other s.server r (front_of r.head) series change (judge s r).verdict kind.0 kind.1))
-      (λ (kind : IsChangeKind s.server change (judge s r).verdict).
-      let is : IsChange s.server change (judge s r).verdict (frame (canonical_change_body s.server kind.0)) =
-      record { params = kind.0; is = kind.1; accepted = kind.2; framed = record { is = refl; within = kind.3 } } in
-      step_changed s.server (located at r) (front_of r.head) (frame (canonical_change_body s.server kind.0)) series
-      change
-      (judge s r).verdict is
-      ∙ sym (step_changed s.server r (front_of r.head) (frame (canonical_change_body s.server kind.0)) series change
-      (judge s r).verdict is))
-      (kind_of s.server r (front_of r.head) series change (judge s r).verdict e)
-
-pub squash_located : (s : Session) (series : Option OpenSeries) (rs : List Record) (at : ℕ) (version : Version)
-    → (squashed_in s series rs).stop ≡ None → squashed_in s series (located_all at version rs) ≡ squashed_in s series rs
-squash_located s series [] at version goes = refl
-squash_located s series (r ∷ rs) at version goes =
-    let step = squash_step s series r (judge s r) in
-    let on = went_on step.out step.end (squashed_in (judge s r).session step.series rs) goes in
-    let later = located_all (at + length (record_bytes version r)) version rs in
-    ap (λ (g : Step). followed_by g.out g.end (squashed_in (judge s r).session g.series later))
-    (located_step s series at r on.0)
-    ∙ ap (followed_by step.out step.end) (squash_located (judge s r).session step.series rs
-    (at + length (record_bytes version r)) version on.1)
-
--- ---- what `replay` reports
-
-verdict_not_bad : (r : Record) (v : Verdict) (g : RecordOutput) → (unless_bad r v g).end ≡ None → v ≢ bad
-verdict_not_bad r bad g e = absurd (let wrong : Some (Err (BadLog r.head.place)) ≡ None = e in cc)
-verdict_not_bad r v g e = λ (wrong : v ≡ bad). cc
-
--- `replay` reports the same documents of the records that stay, the same status and as many refusals.
-pub reported : (version : Version) (rs : List Record) (s t : Session) (c : Selection) (at : ℕ) → IsAlike s t
-    → (run_output_in normalising s rs).stop ≡ None
-    → IsReportedAs (run_output_in replaying t (located_all at version (kept_in t c rs).records))
-    (run_output_in replaying s rs)
-reported version [] s t c at like goes = reported_end s t like
-reported version (r ∷ rs) s t c at like goes =
-    let given = single s.server r (judge s r).verdict in
-    let on = went_on given.out given.end (run_output_in normalising (judge s r).session rs) goes in
-    let not_bad : (judge s r).verdict ≢ bad = verdict_not_bad r (judge s r).verdict _ on.0 in
-    let here = report_on s r rs not_bad in
-    kept_cases t c r rs (λ (k : Kept). IsReportedAs (run_output_in replaying t (located_all at version k.records))
-    (run_output_in replaying s (r ∷ rs)))
-    (λ e.
-    let q = located at (with_line c r) in
-    let later = located_all (at + length (record_bytes version r)) version
-    (kept_in (judge t r).session (after_kept c r.head r.body) rs).records in
-    let also : (judge t q).verdict ≢ bad =
-    λ (wrong : (judge t q).verdict ≡ bad). not_bad (sym (judged_alike s t r like).0 ∙ wrong) in
-    reported_by _ _ _ _ (report_on t q later also) here
-    (reported version rs (judge s r).session (judge t r).session (after_kept c r.head r.body)
-    (at + length (record_bytes version r)) (judged_alike s t r like).1 on.1))
-    (λ e.
-    let h = harmless s c.waiting r (sym (stays_alike s t c.waiting r.head.side r.body like) ∙ e) in
-    reported_by _ _ _ _ refl here
-    (reported version rs (judge s r).session t (after_left_out c r.head) at
-    (alike_both s (judge s r).session t h.alike like) on.1))
+pub squash_placeless : IsPlaceless squash_view
+squash_placeless series s r at e =
+    let same = located_step s.server at r (front_of r.head) series (change_in (incoming_of (reading r.body)))
+    (judge s r).verdict e in
+    (ap (λ (step : Step). record { out = step.out; end = step.end }) same, ap (λ (step : Step). step.series) same)

@@ -1,6 +1,6 @@
 -- A record that is left out changes nothing of a session but its counts.
-use Rattle.lsp_replay.proofs.Prelude.{cond_both, ◌≡◌, ◌≢◌, ℕ, Bool, true, false, ◌&&◌, List, Option, Some, None, is_some, refl, sym, ap, ◌∙◌, subst, option_map, Data, IdData, Reading, reading, OutgoingData, error_reply, ChangeData, MethodNotFound, Phase, New, Running, Down, Ended, AnswerData, reply, dropped, ignored, as_sent, IncomingData, response, other_request, other_notification, incoming_of, one_more, Version, One, Two, Sender, Client, Server, Record, is_answer_to, message_stays, record_stays, canonical_if, change_in, Session, answered, recorded, bad, Judged, judged, judge, judge_from, judge_client, handled, judge_server, encoding_for, encoding_in, counted, count_if, result_for, is_change, is_early, is_ended, is_new, is_refused, is_running, expected_of}
-use Rattle.lsp_server.specs.Step.{ServerData, Step, unchanged_step, step_in, step_on}
+use Rattle.lsp_replay.proofs.Prelude.{Bool, List, None, Option, Some, ap, arith, false, is_some, refl, subst, sym, true, ℕ, ◌&&◌, ◌≡◌, ◌≢◌, cases_Bool, common_steps, option_map, Record, Sender, Client, Server, Version, One, Two, IdData, Reading, reading, ChangeData, canonical_if, change_in, is_answer_to, message_stays, record_stays, Judged, Session, answered, bad, counted, encoding_for, encoding_in, expected_of, handled, is_change, is_early, is_ended, is_refused, is_running, judge, judge_client, judge_from, judge_server, judged, recorded, result_for, AnswerData, Sent, as_sent, IncomingData, incoming_of, other_notification, other_request, response, Phase, Down, Ended, New, Running, one_more, Data}
+use Rattle.lsp_server.specs.Step.{ServerData, step_in, step_on}
 use Rattle.std.proofs.lemmas.Bool.{or_parts}
 use Rattle.lsp_replay.proofs.Canonical.CanonicalLogLemmas.{heard_has_none}
 use Rattle.lsp_replay.proofs.Records.NumberedLemmas.{IsAlike}
@@ -15,98 +15,54 @@ pub record IsHarmless (s : Session) (change : Option ChangeData) (j : Judged) : 
 -- ---- a client's message
 
 -- A step that answers and changes nothing, and isn't a refusal.
-record IsIdle (phase : Phase) (server : ServerData) (m : IncomingData) : Type 0 where
-  goes_on : is_ended phase ≡ false
-  answer : AnswerData OutgoingData
-  step : step_in phase server m ≡ unchanged_step server answer
-  accepted : is_refused (as_sent answer) ≡ false
-  no_change : is_change m ≡ false
-  nothing : change_in m ≡ None
-  one : (expected : Option IdData) → expected_of One m expected ≡ expected
-  two : (expected : Option IdData) → expected_of Two m expected ≡ expected
+abbrev IsIdle : Phase → ServerData → IncomingData → Type 0
+IsIdle phase server m =
+    (is_ended phase ≡ false) × ((step_in phase server m).state ≡ server)
+    × (is_refused (as_sent (step_in phase server m).answer) ≡ false) × (is_change m ≡ false) × (change_in m ≡ None)
+    × ((expected : Option IdData) → expected_of One m expected ≡ expected)
+    × ((expected : Option IdData) → expected_of Two m expected ≡ expected)
 
-module _ (server : ServerData) where
-  idle_by : (phase : Phase) (m : IncomingData) (answer : AnswerData OutgoingData) → is_ended phase ≡ false
-      → step_in phase server m ≡ unchanged_step server answer → is_refused (as_sent answer) ≡ false
-      → is_change m ≡ false → change_in m ≡ None → ((e : Option IdData) → expected_of One m e ≡ e)
-      → ((e : Option IdData) → expected_of Two m e ≡ e) → IsIdle phase server m
-  idle_by phase m answer goes step accepted no_change nothing one two = record {
-    goes_on = goes;
-    answer = answer;
-    step = step;
-    accepted = accepted;
-    no_change = no_change;
-    nothing = nothing;
-    one = one;
-    two = two;
-  }
-
-  wrong : (phase : Phase) (m : IncomingData) → true ≡ false → IsIdle phase server m
-  wrong phase m e = absurd (cc)
-
-  idle : (phase : Phase) (m : IncomingData) → message_stays phase m ≡ false → IsIdle phase server m
-  idle New (response id) e = idle_by New (response id) ignored refl refl refl refl refl (λ x. refl) (λ x. refl)
-  idle Running (response id) e = idle_by Running (response id) ignored refl refl refl refl refl (λ x. refl) (λ x. refl)
-  idle Down (response id) e = idle_by Down (response id) ignored refl refl refl refl refl (λ x. refl) (λ x. refl)
-  idle Running (other_request id method) e =
-      idle_by Running (other_request id method) (reply (error_reply (Some id) MethodNotFound)) refl refl refl refl refl
-      (λ x. refl) (λ x. refl)
-  idle New (other_notification method) e =
-      idle_by New (other_notification method) dropped refl refl refl refl refl (λ x. refl) (λ x. refl)
-  idle Running (other_notification method) e =
-      idle_by Running (other_notification method) ignored refl refl refl refl refl (λ x. refl) (λ x. refl)
-  idle Down (other_notification method) e =
-      idle_by Down (other_notification method) dropped refl refl refl refl refl (λ x. refl) (λ x. refl)
-  idle Ended (response id) e = wrong Ended (response id) e
-  idle phase m e = wrong phase m e
-
-expects : {phase : Phase} {server : ServerData} {m : IncomingData} → IsIdle phase server m → (version : Version)
-    (expected : Option IdData) → expected_of version m expected ≡ expected
-expects is One expected = is.one expected
-expects is Two expected = is.two expected
+idle : (server : ServerData) (phase : Phase) (m : IncomingData) → message_stays phase m ≡ false → IsIdle phase server m
+idle server New (response id) e = (refl, refl, refl, refl, refl, λ x. refl, λ x. refl)
+idle server Running (response id) e = (refl, refl, refl, refl, refl, λ x. refl, λ x. refl)
+idle server Down (response id) e = (refl, refl, refl, refl, refl, λ x. refl, λ x. refl)
+idle server Running (other_request id method) e = (refl, refl, refl, refl, refl, λ x. refl, λ x. refl)
+idle server New (other_notification method) e = (refl, refl, refl, refl, refl, λ x. refl, λ x. refl)
+idle server Running (other_notification method) e = (refl, refl, refl, refl, refl, λ x. refl, λ x. refl)
+idle server Down (other_notification method) e = (refl, refl, refl, refl, refl, λ x. refl, λ x. refl)
+idle server Ended (response id) e = absurd (let wrong : true ≡ false = e in cc)
+idle server _ _ e = absurd (let wrong : true ≡ false = e in cc)
 
 early : (a b c : Bool) → c ≡ false → (a && b && c) ≡ false
-early a b true e = absurd (cc)
-early true true false e = refl
-early false false false e = refl
-early _ _ false e = refl
+early a b c e = grind (arith, common_steps, cases_Bool)
 
 module _ (s : Session) (version : Version) (m : IncomingData) (left_out : message_stays s.server.phase m ≡ false) where
   here : IsIdle s.server.phase s.server m
   here = idle s.server s.server.phase m left_out
 
+  abbrev answer : AnswerData Sent
+  answer = as_sent (step_on s.server m).answer
+
+  expects : (v : Version) → expected_of v m s.expected ≡ s.expected
+  expects One = here.5 s.expected
+  expects Two = here.6 s.expected
+
   not_early : is_early s m ≡ false
-  not_early = early (is_some s.expected) (is_running s.server.phase) (is_change m) here.no_change
+  not_early = early (is_some s.expected) (is_running s.server.phase) (is_change m) here.3
 
-  abbrev quiet : Judged
-  quiet = judged (answered (as_sent here.answer)) (record s { messages = one_more s.messages })
+  is_handled : judge_client s version m ≡ handled s version m (step_on s.server m).state answer
+  is_handled = rw (here.0, not_early) refl
 
-  is_handled : judge_client s version m ≡ handled s version m (step_on s.server m).state
-      (as_sent (step_on s.server m).answer)
-  is_handled = rw (here.goes_on, not_early) refl
-
-  is_quiet : judge_client s version m ≡ quiet
-  is_quiet =
-      is_handled ∙ ap (λ (step : Step). handled s version m step.state (as_sent step.answer)) here.step
-      ∙ ap (λ (e : Option IdData). judged (answered (as_sent here.answer)) (record s {
-        expected = e;
-        messages = one_more s.messages;
-        refusals = count_if (is_refused (as_sent here.answer)) s.refusals;
-      }))
-      (cond_both (is_new s.server.phase) (expected_of version m s.expected) s.expected (λ e. e ≡ s.expected)
-      (λ _. expects here version s.expected) (λ _. refl))
-      ∙ ap (λ (b : Bool). judged (answered (as_sent here.answer)) (record s {
-        messages = one_more s.messages;
-        refusals = count_if b s.refusals;
-      })) here.accepted
+  is_quiet : judge_client s version m ≡ judged (answered answer) (record s { messages = one_more s.messages })
+  is_quiet = grind (arith, common_steps, cases_Bool, is_handled, expects, here.1, here.2)
 
   client_harmless : IsHarmless s (change_in m) (judge_client s version m)
   client_harmless =
       subst (IsHarmless s (change_in m)) (sym is_quiet)
       (record {
         alike = (s.records, one_more s.messages, refl);
-        not_bad = λ (wrong : answered (as_sent here.answer) ≡ bad). cc;
-        none = ap (λ (c : Option ChangeData). canonical_if s.server c (answered (as_sent here.answer))) here.nothing;
+        not_bad = λ (wrong : answered answer ≡ bad). cc;
+        none = ap (λ (c : Option ChangeData). canonical_if s.server c (answered answer)) here.4;
       })
 
 -- ---- a server's record
@@ -160,18 +116,7 @@ harmless s waiting r e = counted_harmless s _ (judge_from s r.head.version r.hea
     (from_harmless s waiting r.head.version r.head.side r.body e)
 
 -- Whether a record stays doesn't depend on the counts.
-stays_numbered : (n m : ℕ) (s : Session) (waiting : Option IdData) (side : Sender) (body : List ℕ)
-    → record_stays (record {
-      server = s.server;
-      expected = s.expected;
-      records = n;
-      messages = m;
-      refusals = s.refusals;
-    }) waiting side body ≡ record_stays s waiting side body
-stays_numbered n m s waiting Client body = refl
-stays_numbered n m s waiting Server body = refl
-
 pub stays_alike : (s t : Session) (waiting : Option IdData) (side : Sender) (body : List ℕ) → IsAlike s t
     → record_stays t waiting side body ≡ record_stays s waiting side body
-stays_alike s t waiting side body like = ap (λ (u : Session). record_stays u waiting side body) like.2
-    ∙ stays_numbered like.0 like.1 s waiting side body
+stays_alike s t waiting Client body like = ap (λ (u : Session). record_stays u waiting Client body) like.2
+stays_alike s t waiting Server body like = ap (λ (u : Session). record_stays u waiting Server body) like.2

@@ -1,10 +1,10 @@
 -- The body of a record, as a session reads it once.
 use Rattle.std.specs.Prelude.{◌≡◌}
-use Rattle.lsp_replay.specs.Prelude.{ℕ, List, Option, Some, None, Version, Sender, reading, ChangeData, Running, IncomingData, did_change, incoming_of, incoming_view, RecordBody}
+use Rattle.lsp_replay.specs.Prelude.{ℕ, List, Option, Some, None, Head, Version, Sender, reading, ChangeData, Running, IncomingData, did_change, incoming_of, incoming_view, RecordBody}
 use Rattle.lsp_log.specs.declared.record.Sender.TheVariants as side
 use Rattle.lsp_replay.specs.declared.session.RecordBody.TheVariants.{Client, Server}
 use Rattle.lsp_replay.specs.Commands.{change_in}
-use Rattle.lsp_replay.specs.Session.{Session, Judged, Verdict, counted, encoding_for, judge_client, judge_server}
+use Rattle.lsp_replay.specs.Session.{Session, Judged, Verdict, counted, encoding_for, judge_client, judge_from, judge_server}
 
 -- What a client's record in a log of a version asks of the server, or the body of a server's
 -- record.
@@ -22,10 +22,19 @@ abbrev pub body_read : Version → Sender → List ℕ → BodyData
 body_read version side.Client body = from_client version (incoming_of (reading body))
 body_read version side.Server body = from_server body
 
--- The judgement of a record.
+-- The judgement of a record with this head and body.
+abbrev pub judge_at : Session → Head → List ℕ → Judged
+judge_at s head body = counted (judge_from s head.version head.side body)
+
+-- The judgement of a record by what was read of its body.
 abbrev pub judge_read : Session → BodyData → Judged
 judge_read s (from_client version m) = judge_client s version m
 judge_read s (from_server body) = judge_server s (encoding_for s.expected (reading body))
+
+-- What is said of a client's record by what it asks. Of a server's it is `none`.
+abbrev pub on_client : {A : Type 0} → A → (IncomingData → A) → BodyData → A
+on_client none says (from_client version m) = says m
+on_client none says (from_server body) = none
 
 -- The parameters of a client's `didChange`, if they are valid.
 abbrev pub change_of : BodyData → Option ChangeData

@@ -1,6 +1,6 @@
 -- What a command writes of the records that stay, if some are left out.
-use Rattle.std.specs.Prelude.{◌≡◌, ◌||◌}
-use Rattle.lsp_replay.specs.Prelude.{ℕ, Bool, false, List, Option, Some, None, Head, Record}
+use Rattle.std.specs.Prelude.{◌≡◌}
+use Rattle.lsp_replay.specs.Prelude.{ℕ, List, Option, Some, None, Head, Record}
 use Rattle.lsp_replay.specs.Documents.{Selection, kept_in, output_of_kept}
 use Rattle.lsp_replay.specs.RunOutput.{RunOutput}
 use Rattle.lsp_replay.specs.Session.{Session}
@@ -26,13 +26,3 @@ abbrev pub IsAdmitted : Session → Option Selection → Option Selection → He
 IsAdmitted s None new head body written = (new ≡ None) × (written ≡ Some head)
 IsAdmitted s (Some old) None head body written = ⊥
 IsAdmitted s (Some old) (Some new) head body written = IsSelection s old new head body written
-
--- Is the line of version 2 to be written at the end?
-abbrev pub written_due : Option Selection → Bool → Bool
-written_due None line_due = line_due
-written_due (Some c) line_due = c.due || line_due
-
--- It is written once.
-abbrev pub once_written : Option Selection → Option Selection
-once_written None = None
-once_written (Some c) = Some (record c { due = false })

@@ -2,8 +2,7 @@
 -- that are written if its one message is refused. That it is the same is shown in
 -- `proofs/Squash/SeriesLemmas.antt`.
 use Rattle.std.specs.Prelude.{◌≡◌, ◌++◌, if◌then◌else◌}
-use Rattle.lsp_replay.specs.Prelude.{ℕ, nat_lt, length, map, List, [], Option, Some, None, Result, Err, bytes_eq, frame, reading, DocumentItem, ChangeData, SquashData, squash_of, squash_after, squash_frame, squash_refusal, entry_at, incoming_of, ServerData, session_encoding, content_change_from_data, changed, Settings, Outcome, EngineFault, BadLog, BodyTooLong, Record}
-use Rattle.lsp_store.specs.Table.{Refusal}
+use Rattle.lsp_replay.specs.Prelude.{ℕ, is_none, nat_lt, length, map, List, [], Option, Some, None, Result, Err, bytes_eq, frame, reading, DocumentItem, ChangeData, SquashData, squash_of, squash_after, squash_frame, squash_refusal, entry_at, incoming_of, ServerData, session_encoding, content_change_from_data, changed, Settings, Outcome, EngineFault, BadLog, BodyTooLong, Record}
 use Rattle.lsp_replay.specs.RunOutput.{RunOutput}
 use Rattle.lsp_replay.specs.Commands.{View, output_in, front_of, change_in, canonical_change_body, line_if, log_config}
 use Rattle.lsp_replay.specs.Session.{Session, Verdict, answered, bad, Judged, judge, opened, session_outcome}
@@ -21,13 +20,9 @@ pub record OpenSeries : Type 0 where
 
 -- A series is written as the one canonical message of all its batches. If that has too many changes
 -- or is too long, the series is written as without squash.
-abbrev pub open_written : OpenSeries → Option Refusal → List ℕ
-open_written series None = series.front ++ squash_frame series.squash
-open_written series (Some refusal) = series.singles
-
--- The bytes of a series, by whether its one message is possible.
 abbrev pub open_bytes : OpenSeries → List ℕ
-open_bytes series = open_written series (squash_refusal series.squash)
+open_bytes series = if is_none (squash_refusal series.squash)
+    then series.front ++ squash_frame series.squash else series.singles
 
 -- The output when the open series ends, if one is open.
 abbrev pub end_bytes : Option OpenSeries → List ℕ

@@ -4,9 +4,8 @@ use Rattle.lsp_replay.specs.Prelude.{ℕ, Bool, is_none, List, Option, Some, Non
 use Rattle.lsp_replay.specs.Commands.{change_in}
 use Rattle.lsp_replay.specs.Notes.{ranged_for}
 use Rattle.lsp_replay.specs.Session.{Session, Verdict, answered, is_running}
-use Rattle.lsp_replay.specs.inside.Bodies.{BodyData, IsChangeTaken, body_read, change_of, from_client, from_server}
+use Rattle.lsp_replay.specs.inside.Bodies.{BodyData, IsChangeTaken, body_read, change_of, from_client, from_server, judge_at}
 use Rattle.lsp_replay.specs.inside.Joining.{refusal_of, server_after}
-use Rattle.lsp_replay.specs.inside.Session.{judge_at}
 use Rattle.lsp_replay.specs.inside.Verdicts.{verdict_view}
 
 -- The params of a change that a running server receives.

@@ -1,9 +1,11 @@
--- The values of the types of `src/session.rt` and `src/session/` in the definitions.
+-- The values of types of the code in the definitions.
 use Rattle.std.specs.Prelude.{◌≡◌, ◌<◌, ◌≤◌, ◌++◌}
-use Rattle.lsp_replay.specs.Prelude.{ℕ, List, length, Option, Some, None, answer_view, Appended}
+use Rattle.lsp_replay.specs.Prelude.{ℕ, List, length, Option, Some, None, units_in, answer_view, Appended}
 use Rattle.lsp_replay.specs.declared.session.Verdict.{Verdict}
 use Rattle.lsp_replay.specs.declared.session.Verdict.TheVariants.{Answered, Recorded, Bad}
 use Rattle.lsp_replay.specs.declared.session.canonical.Appended.TheVariants as appended
+use Rattle.lsp_replay.specs.declared.notes.changes.Terms.{Terms}
+use Rattle.lsp_replay.specs.Notes as notes
 use Rattle.lsp_replay.specs.Session as spec
 
 -- A judgement as its value.
@@ -19,3 +21,11 @@ IsAppended max_body (Some body) None old new = ⊥
 IsAppended max_body (Some body) (Some appended.Body) old new = (new ≡ old ++ body)
     × (length body ≤ max_body)
 IsAppended max_body (Some body) (Some appended.TooLong) old new = max_body < length body
+
+-- The terms of notes as their value.
+abbrev pub terms_view : Terms → notes.Terms
+terms_view terms = record {
+  units = units_in terms.encoding;
+  lengths = terms.lengths.now;
+  ranged = terms.ranged;
+}

@@ -1,10 +1,19 @@
 -- What holds of every log, and of the logs that the commands write of it.
 use Rattle.std.specs.Prelude.{◌≡◌, ◌≤◌, ◌∷◌}
-use Rattle.lsp_replay.specs.Prelude.{ℕ, Bool, List, [], length, Option, None, Consumes, Appends, frame, AreInRange, reply, Settings, Outcome, Record, Log, IsReadAs}
+use Rattle.lsp_replay.specs.Prelude.{ℕ, Bool, List, [], length, Option, None, Consumes, Appends, frame, AreInRange, reply, Settings, Outcome, Record, Log, LogRules, IsReadAs}
+use Rattle.lsp_replay.specs.RunOutput.{RunOutput}
 use Rattle.lsp_replay.specs.Engine.{all_of}
 use Rattle.lsp_replay.specs.Commands.{report, canonical_log, converted, as_log, as_converted, log_config}
 use Rattle.lsp_replay.specs.Session.{Session, Verdict, answered, judge, opened}
 use Rattle.lsp_replay.specs.Squashed.{squashed}
+
+-- This holds of what is written of each log in which no record ends the run.
+abbrev pub LogLaw : (Settings → LogRules) → (Settings → List Record → RunOutput)
+    → (Settings → List Record → List ℕ → Type 0) → Type 0
+LogLaw rules g Holds =
+    (settings : Settings) → AreInRange settings.limits → (input : List ℕ) (log : Log) →
+    IsReadAs (rules settings) input log → log.rest ≡ [] → (g settings log.records).stop ≡ None →
+    Holds settings log.records (all_of (g settings) log)
 
 -- The bytes are a log, records and nothing else. `replay` reports of it what it reports of these
 -- records: the same documents, status and counts.
@@ -25,17 +34,18 @@ pub record IsCanonicalLog (settings : Settings) (records : List Record)
   pub continues : (canonical_log settings reports.log.records).stop ≡ None
   pub again : all_of (canonical_log settings) reports.log ≡ bytes
 
--- What `normalise` writes of a log in which no record ends the run.
+-- What `normalise` writes.
 abbrev pub CanonicalLogLaw : Type 0
-CanonicalLogLaw =
-    (settings : Settings) → AreInRange settings.limits → (input : List ℕ) (log : Log) →
-    IsReadAs (as_log settings) input log → log.rest ≡ []
-    → (canonical_log settings log.records).stop ≡ None →
-    IsCanonicalLog settings log.records (all_of (canonical_log settings) log)
+CanonicalLogLaw = LogLaw as_log canonical_log IsCanonicalLog
 
--- An engine came to the end of a log. It wrote bytes of which `Holds` is true, and its outcome has
--- the status and the counts of `replay`.
-pub record Wrote (settings : Settings) (Holds : List Record → List ℕ → Type 0)
+-- The outcome has the status and the counts of `replay`, and of the bytes this holds.
+abbrev pub IsReported : Settings → (List Record → List ℕ → Type 0) → List Record → Outcome
+    → List ℕ → Type 0
+IsReported settings Holds records outcome bytes =
+    (outcome ≡ (report settings records).outcome) × Holds records bytes
+
+-- An engine came to the end of a log, and wrote bytes of which this holds.
+pub record Wrote (settings : Settings) (Holds : List Record → Outcome → List ℕ → Type 0)
     (left_old left_new received_old received_new : Option (List ℕ))
     (outcome : Outcome) : Type 0 where
   -- the bytes that were read
@@ -45,11 +55,10 @@ pub record Wrote (settings : Settings) (Holds : List Record → List ℕ → Typ
   pub log : Log
   pub reads : IsReadAs (as_log settings) input log
   pub whole : log.rest ≡ []
-  pub reports : outcome ≡ (report settings log.records).outcome
   -- the output
   pub bytes : List ℕ
   pub wrote : Appends received_old received_new bytes
-  pub holds : Holds log.records bytes
+  pub holds : Holds log.records outcome bytes
 
 -- ---- `convert`
 
@@ -72,13 +81,9 @@ pub record IsConverted (settings : Settings) (records : List Record) (bytes : Li
   pub reports : AreRepliesWithin settings.limits.max_body (opened (log_config settings)) records →
       ReportsAlike settings records bytes
 
--- What `convert` writes of a log in which no record ends the run.
+-- What `convert` writes.
 abbrev pub ConvertedLaw : Type 0
-ConvertedLaw =
-    (settings : Settings) → AreInRange settings.limits → (input : List ℕ) (log : Log) →
-    IsReadAs (as_converted settings) input log → log.rest ≡ []
-    → (converted settings log.records).stop ≡ None →
-    IsConverted settings log.records (all_of (converted settings) log)
+ConvertedLaw = LogLaw as_converted converted IsConverted
 
 -- ---- reading
 
@@ -111,13 +116,9 @@ pub record IsSquashed (settings : Settings) (records : List Record) (bytes : Lis
   pub continues : (squashed settings leaves.log.records).stop ≡ None
   pub again : all_of (squashed settings) leaves.log ≡ bytes
 
--- What `normalise` writes of a log with squash, if no record ends the run of the command.
+-- What `normalise` writes with squash.
 abbrev pub SquashedLaw : Type 0
-SquashedLaw =
-    (settings : Settings) → AreInRange settings.limits → (input : List ℕ) (log : Log) →
-    IsReadAs (as_log settings) input log → log.rest ≡ []
-    → (squashed settings log.records).stop ≡ None →
-    IsSquashed settings log.records (all_of (squashed settings) log)
+SquashedLaw = LogLaw as_log squashed IsSquashed
 
 -- With squash a log ends as without: at the same record, for the same cause, with the same status
 -- and counts.

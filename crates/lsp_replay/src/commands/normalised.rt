@@ -4,10 +4,13 @@
 ghost use Rattle.std.specs.Prelude.{◌≡◌, true, false};
 ghost use Rattle.lsp_frame.specs.Limits.{AreInRange};
 ghost use Rattle.lsp_stream.specs.Ports.{ports};
+ghost use Rattle.lsp_replay.specs.Commands.{log_config};
 ghost use Rattle.lsp_replay.specs.Documents.{WritesDocuments, documents_engine};
 ghost use Rattle.lsp_replay.specs.laws.Written.{IsCanonicalLog, IsSquashed};
-ghost use Rattle.lsp_replay.specs.Run.{IsEngineRun, WritesLog, normalise_engine};
-ghost use Rattle.lsp_replay.specs.inside.Run.{selected_engine};
+ghost use Rattle.lsp_replay.specs.Run.{IsEngineRun, WritesLog, log_engine, normalise_engine};
+ghost use Rattle.lsp_replay.specs.Session.{opened};
+ghost use Rattle.lsp_replay.specs.Squashed.{normalised};
+ghost use Rattle.lsp_replay.specs.inside.Piped.{piped};
 
 use crate::commands::Settings;
 use crate::outcome::Outcome;
@@ -99,14 +102,15 @@ fn normalise_selected<R: Source, W: Sink>(
     selection: Option<Selection>,
     max_turns: u64,
 ) -> Result<Outcome, EngineFault>
-    ensures run { IsEngineRun (selected_engine selection settings) max_turns
+    ensures run { IsEngineRun (log_engine settings
+        (piped selection (normalised settings) (opened (log_config settings)))) max_turns
         (ports (R.seen reader.old) (W.seen writer.old))
         (ports (R.seen reader.new) (W.seen writer.new)) result }
     ensures in_range { AreInRange settings.limits }
 {
     let rules = settings.rules(false);
     let session = settings.session(alloc);
-    if settings.joins_series() {
+    if settings.squash {
         let squashing = Squashing::new(alloc, session);
         return run(
             alloc, reader, writer, squashing, selection, rules, max_turns,

@@ -12,9 +12,9 @@ use std::marker::Model;
 /// What was counted, how often it came, and the number of the first record with it.
 #[derive(Drop)]
 pub struct Tally {
-    words: String,
+    pub words: String,
     count: u64,
-    first: u64,
+    pub first: u64,
 }
 
 impl Model for Tally {
@@ -57,25 +57,11 @@ impl Tally {
         self.count = one_more(self.count);
     }
 
-    /// Returns what was counted, in words.
-    pub fn words(&self) -> &str
-        ensures { result.now ≡ self.now.words }
-    {
-        self.words.as_str()
-    }
-
     /// Returns how often it came.
     pub fn count(&self) -> u64
         ensures { result ≡ self.now.count }
     {
         self.count
-    }
-
-    /// Returns the number of the first record with it.
-    pub fn first(&self) -> u64
-        ensures { result ≡ self.now.first }
-    {
-        self.first
     }
 }
 
@@ -90,14 +76,7 @@ pub fn has_tallies(tallies: &[Tally]) -> bool
 pub fn has_repeated(tallies: &[Tally]) -> bool
     ensures { result ≡ has_repeated tallies.now }
 {
-    let mut next = 0;
-    'tallies: while next < tallies.len() {
-        if tallies[next].count() > 1 {
-            return true;
-        }
-        next += 1;
-    }
-    false
+    tallies.iter().any(|tally| tally.count > 1)
 }
 
 /// Returns how often something came.

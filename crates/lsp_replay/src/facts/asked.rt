@@ -1,20 +1,12 @@
-//! What a body asks: whether it is a change, and which document it is about.
+//! Which document a body is about.
 
 ghost use Rattle.std.specs.Prelude.{◌≡◌, IfOk, option_map, string_bytes};
 ghost use Rattle.lsp_server.specs.Seen.{incoming_view};
 ghost use Rattle.lsp_replay.specs.Lines.{uri_of};
-ghost use Rattle.lsp_replay.specs.Session.{is_change};
 
 use lsp_log::Sender;
 use lsp_server::Incoming;
 use std::alloc::{AllocError, Global};
-
-/// Returns whether a body asks for a change.
-pub fn is_change(incoming: &Incoming) -> bool
-    ensures { result ≡ is_change (incoming_view incoming.now) }
-{
-    matches!(incoming, Incoming::DidChange(_))
-}
 
 /// Returns the URI in valid parameters of an editor's message about a document.
 pub fn uri_of(side: Sender, incoming: &Incoming) -> Option<&str>

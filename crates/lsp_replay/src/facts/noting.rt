@@ -1,6 +1,6 @@
 //! What is suspicious of a message on the documents before it.
 
-ghost use Rattle.std.specs.Prelude.{◌≡◌, ◌++◌, IfOk, OnOk, option_map, List, string_bytes, true, ℕ};
+ghost use Rattle.std.specs.Prelude.{◌≡◌, IfOk, option_map, List, string_bytes, true, ℕ};
 ghost use Rattle.serde_json.specs.View.{view};
 ghost use Rattle.lsp_message.specs.Lengths.{is_save};
 ghost use Rattle.lsp_message.specs.Message.{reading};
@@ -9,14 +9,14 @@ ghost use Rattle.lsp_server.specs.Seen.{incoming_view};
 ghost use Rattle.lsp_store.specs.Table.{entry_at};
 ghost use Rattle.lsp_replay.specs.Explained.{saved_in};
 ghost use Rattle.lsp_replay.specs.Notes.{changing_notes, notes_if, notes_on, opening_notes};
-ghost use Rattle.lsp_replay.specs.Notes.{return_notes, saving_notes, terms_in, version_notes};
+ghost use Rattle.lsp_replay.specs.Notes.{terms_in};
 ghost use Rattle.lsp_replay.specs.inside.Bodies.{body_view};
 ghost use Rattle.lsp_replay.specs.inside.Facts.{IsAbout};
 ghost use Rattle.lsp_replay.specs.inside.Reads.{IsNotedOf};
 ghost use Rattle.lsp_replay.specs.inside.Verdicts.{verdict_view};
 
 use crate::facts::About;
-use crate::facts::asked::{copied_text, is_change, uri_of};
+use crate::facts::asked::{copied_text, uri_of};
 use crate::notes::Note;
 use crate::notes::changes::{Terms, push_batch_notes};
 use crate::notes::returns::{has_feed, has_lone_return};
@@ -26,7 +26,6 @@ use lsp_log::Sender;
 use lsp_message::{ChangeParams, Noted, OpenParams};
 use lsp_server::{Answer, Incoming, Server};
 use lsp_text::Encoding;
-use serde_json::Value;
 use std::alloc::{AllocError, Global};
 
 /// Returns what a record is about that was read. A server's record is about no document.
@@ -43,14 +42,12 @@ pub(super) fn about_of(
         return Ok(About {
             uri: None,
             saved: None,
-            is_change: false,
             notes: Vec::new(alloc),
         });
     };
     Ok(About {
         uri: copied_text(alloc, uri_of(Sender::Client, incoming))?,
         saved: copied_text(alloc, saved_in(incoming, noted))?,
-        is_change: is_change(incoming),
         notes: notes_on(alloc, server, ranged, incoming, noted)?,
     })
 }
@@ -92,7 +89,11 @@ fn notes_on(
             changing_notes(alloc, server, ranged, &noted.lengths, params)
         }
         Incoming::OtherNotification { method } => {
-            saving_notes(alloc, server, method, noted.params.as_ref())
+            let mut notes = Vec::new(alloc);
+            if is_save(method) {
+                push_saved_note(alloc, &mut notes, server.store(), noted.params.as_ref())?;
+            }
+            Ok(notes)
         }
         _ => Ok(Vec::new(alloc)),
     }
@@ -112,19 +113,11 @@ fn opening_notes(
     if server.store().get(&params.uri).is_some() {
         notes.push(Note::OpenAlready)?;
     }
-    push_return_note(&mut notes, &params.text)?;
-    Ok(notes)
-}
-
-/// Notes a text in which a carriage return ends a line by itself, and a line feed another.
-fn push_return_note(notes: &mut Vec<Note>, text: &str) -> Result<(), AllocError>
-    ensures { OnOk result (notes.new.items ≡ notes.old.items ++ return_notes text.now) }
-{
-    let bytes = text.as_bytes();
+    let bytes = params.text.as_bytes();
     if has_lone_return(bytes) && has_feed(bytes) {
         notes.push(Note::LoneReturn)?;
     }
-    Ok(())
+    Ok(notes)
 }
 
 /// Notes what is suspicious of a change, if its document is open.
@@ -149,25 +142,12 @@ fn changing_notes(
         lengths,
         ranged,
     };
-    push_version_note(&mut notes, params.version, document.version())?;
-    push_batch_notes(alloc, &mut notes, document.text(), &terms, &params.changes)?;
-    Ok(notes)
-}
-
-/// Notes a text that was saved and isn't its document's.
-fn saving_notes(
-    alloc: Global,
-    server: &Server,
-    method: &str,
-    params: Option<&Value>,
-) -> Result<Vec<Note>, AllocError>
-    ensures { IfOk result (λ notes. notes.items ≡ saving_notes server.now.table method.now
-        (option_map (λ params. view params.now) params.entry)) }
-{
-    let mut notes = Vec::new(alloc);
-    if is_save(method) {
-        push_saved_note(alloc, &mut notes, server.store(), params)?;
+    let sent = params.version;
+    let current = document.version();
+    if sent <= current {
+        notes.push(Note::OldVersion { sent, current })?;
     }
+    push_batch_notes(alloc, &mut notes, document.text(), &terms, &params.changes)?;
     Ok(notes)
 }
 
@@ -182,14 +162,4 @@ pub(super) fn notes_if(mut notes: Vec<Note>, verdict: &Verdict) -> Vec<Note>
             notes
         }
     }
-}
-
-/// Notes a version that isn't greater than the current one.
-fn push_version_note(notes: &mut Vec<Note>, sent: i32, current: i32) -> Result<(), AllocError>
-    ensures { OnOk result (notes.new.items ≡ notes.old.items ++ version_notes sent current) }
-{
-    if sent <= current {
-        notes.push(Note::OldVersion { sent, current })?;
-    }
-    Ok(())
 }

@@ -5,8 +5,8 @@ ghost use Rattle.std.specs.Str.{bytes_eq, chars};
 ghost use Rattle.lsp_text.specs.Units.{units_in};
 ghost use Rattle.lsp_edit.specs.Edited.{content_change};
 ghost use Rattle.lsp_replay.specs.Notes.{batch_notes, change_notes, end_notes, is_same, length_at, length_notes};
-ghost use Rattle.lsp_replay.specs.Notes.{range_notes, same_notes, taken_as, whole_notes};
-ghost use Rattle.lsp_replay.specs.inside.Noting.{terms_view};
+ghost use Rattle.lsp_replay.specs.Notes.{range_notes, same_notes, taken_as};
+ghost use Rattle.lsp_replay.specs.inside.Verdicts.{terms_view};
 
 pub(crate) mod replaced;
 
@@ -84,26 +84,12 @@ fn push_change_notes(
     let encoding = terms.encoding;
     let replaced = replaced_by(alloc, text, encoding, change.range)?;
     let replaced = replaced.as_deref();
-    push_whole_note(notes, terms.ranged, index, change.range)?;
+    if terms.ranged && change.range.is_none() {
+        notes.push(Note::WholeText { change: index })?;
+    }
     push_range_notes(notes, text, encoding, index, change.range)?;
     push_length_note(notes, encoding, index, terms.length(index), replaced)?;
     push_same_note(notes, index, &change.text, replaced)
-}
-
-/// Notes a whole text where ranges were asked for.
-fn push_whole_note(
-    notes: &mut Vec<Note>,
-    ranged: bool,
-    index: usize,
-    range: Option<Range>,
-) -> Result<(), AllocError>
-    ensures { OnOk result
-        (notes.new.items ≡ notes.old.items ++ whole_notes ranged index range) }
-{
-    if ranged && range.is_none() {
-        notes.push(Note::WholeText { change: index })?;
-    }
-    Ok(())
 }
 
 /// Notes a `rangeLength` that is neither the units of what is replaced nor its UTF-16 units, with

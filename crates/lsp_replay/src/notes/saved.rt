@@ -56,7 +56,7 @@ pub fn push_saved_note(
 }
 
 /// Returns the document with this URI, if it is open.
-fn document_of<'a>(store: &'a Store, uri: Option<&str>) -> Option<Document<'a>>
+pub fn document_of<'a>(store: &'a Store, uri: Option<&str>) -> Option<Document<'a>>
     ensures { result ≡ option_and_then (entry_at store.now.table)
         (option_map (λ uri. uri.now) uri.entry) }
 {

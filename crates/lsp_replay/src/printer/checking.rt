@@ -7,6 +7,7 @@ ghost use Rattle.lsp_replay.specs.inside.Commands.{state_in};
 ghost use Rattle.lsp_replay.specs.inside.Verdicts.{verdict_view};
 
 use crate::handler::{Finished, Given, Output, Printed};
+use crate::members::push_number;
 use crate::printer::Printer;
 use crate::session::{RecordBody, Session, Verdict};
 use itoa::Buffer;
@@ -45,12 +46,10 @@ fn push_verdict_line(buffer: &mut Vec<u8>, number: u64, verdict: &Verdict) -> Re
     ensures { OnOk result
         (buffer.new.items ≡ buffer.old.items ++ check_line number (verdict_view verdict.now)) }
 {
-    let mut digits = Buffer::new();
-    buffer.extend_from_slice(digits.format(number).as_bytes())?;
+    push_number(buffer, number)?;
     buffer.extend_from_slice(b" ")?;
     push_verdict(buffer, verdict)?;
-    buffer.extend_from_slice(b"\n")?;
-    Ok(())
+    buffer.extend_from_slice(b"\n")
 }
 
 /// Writes a record's word.

@@ -1,13 +1,13 @@
 //! `compare`: whether a document's last text is that of a file, and else which message made it so.
 
-ghost use Rattle.std.specs.Prelude.{◌≡◌, IfOk, OnOk, option_map, string_bytes};
+ghost use Rattle.std.specs.Prelude.{◌≡◌, IfOk, None, OnOk, option_map, string_bytes};
 ghost use Rattle.line_diff.specs.Compared.{equality};
 ghost use Rattle.lsp_store.specs.Table.{entry_at};
-ghost use Rattle.lsp_replay.specs.Compared.{compared_outcome, comparing, learned, taken_if};
+ghost use Rattle.lsp_replay.specs.Compared.{compared_outcome, comparing, if_ends_so, learned, splices_in, taken_if};
+ghost use Rattle.lsp_replay.specs.Lines.{uri_of};
 ghost use Rattle.lsp_replay.specs.Session.{session_outcome};
-ghost use Rattle.lsp_replay.specs.inside.Bodies.{body_view};
+ghost use Rattle.lsp_replay.specs.inside.Bodies.{body_view, on_client};
 ghost use Rattle.lsp_replay.specs.inside.Commands.{state_in};
-ghost use Rattle.lsp_replay.specs.inside.Compared.{ending_read, splices_read};
 ghost use Rattle.lsp_replay.specs.inside.Verdicts.{verdict_view};
 
 mod splices;
@@ -35,7 +35,8 @@ impl Compare {
     /// Returns the document that a record is about, if its URI ends as that which is compared.
     fn uri_in(&self, read: &RecordBody<'_>) -> Result<Option<String>, AllocError>
         ensures { IfOk result (λ uri. option_map string_bytes uri
-            ≡ ending_read self.now.comparison.ending (body_view read.now)) }
+            ≡ on_client None (λ m. if_ends_so self.now.comparison.ending (uri_of Sender.Client m))
+            (body_view read.now)) }
     {
         let RecordBody::Client(_, incoming, _) = read else {
             return Ok(None);
@@ -50,7 +51,7 @@ impl Compare {
     /// as that which is compared.
     fn splices_in(&self, read: &RecordBody<'_>) -> Result<Option<Vec<Splice>>, AllocError>
         ensures { IfOk result (λ splices. option_map (λ splices. splices.items) splices
-            ≡ splices_read self.now.comparison.ending self.now.session.server
+            ≡ on_client None (splices_in self.now.comparison.ending self.now.session.server)
             (body_view read.now)) }
     {
         match read {

@@ -1,21 +1,20 @@
 //! `check` with reasons: what a server answers to each record of a log, why it was refused, and
 //! what is suspicious of it.
 
-ghost use Rattle.std.specs.Prelude.{◌≡◌, ◌++◌, ◌&&◌, not, OnOk, codes, decimal, flat_map, option_map, string_bytes, true};
-ghost use Rattle.lsp_message.specs.Seen.{change_view};
+ghost use Rattle.std.specs.Prelude.{◌≡◌, ◌++◌, ◌&&◌, not, OnOk, codes, decimal, flat_map, option_map, true};
 ghost use Rattle.lsp_replay.specs.Counts.{counts_words};
 ghost use Rattle.lsp_replay.specs.Lines.{lines};
 ghost use Rattle.lsp_replay.specs.Tallies.{has_repeated, tally_words};
 ghost use Rattle.lsp_replay.specs.Explained.{advice, closing_lines, document_words, explaining, explanation, first_advice};
-ghost use Rattle.lsp_replay.specs.Explained.{is_listed, line_with, remark, see_words};
+ghost use Rattle.lsp_replay.specs.Explained.{is_listed, line_with, listed_line, remark, see_words};
 ghost use Rattle.lsp_replay.specs.inside.Commands.{state_in};
-ghost use Rattle.lsp_replay.specs.inside.Facts.{explained_by, listed_by, noted_by, seen_by};
+ghost use Rattle.lsp_replay.specs.inside.Facts.{facts_view, listed_by, noted_by};
 ghost use Rattle.lsp_replay.specs.inside.Verdicts.{verdict_view};
 
 use crate::commands::Listing;
 use crate::counts::Counts;
 use crate::counts::tallies::{Tally, has_repeated, has_tallies};
-use crate::facts::{Facts, Known, has_notes};
+use crate::facts::{Facts, Known};
 use crate::handler::{Finished, Given, Output, Printed};
 use crate::members::{push_if, push_json_string, push_number, push_words};
 use crate::notes::Note;
@@ -44,7 +43,8 @@ impl Explain {
     /// Writes the line of a record, if it has one.
     fn push_facts(&self, buffer: &mut Vec<u8>, facts: &Facts) -> Result<(), AllocError>
         ensures { OnOk result (buffer.new.items ≡ buffer.old.items
-            ++ explained_by self.now.listing self.now.session.server.config.limits facts.now) }
+            ++ listed_line self.now.listing self.now.session.server.config.limits
+            (facts_view facts.now) (noted_by facts.now) (listed_by self.now.listing facts.now)) }
     {
         let notes = listed_notes(self.listing, facts);
         if !is_listed(self.listing, &facts.verdict, notes) {
@@ -62,7 +62,7 @@ impl Explain {
         if self.session.records() == 0 {
             return push_words(buffer, "The log has no messages.\n");
         }
-        push_counts(buffer, self.session.messages(), self.known.counts())?;
+        push_counts(buffer, self.session.outcome().messages, &self.known.counts)?;
         self.push_advice(buffer)
     }
 
@@ -71,12 +71,12 @@ impl Explain {
         ensures { OnOk result (buffer.new.items ≡ buffer.old.items
             ++ advice self.now.listing self.now.session.refusals self.now.known) }
     {
-        let noted = self.known.counts().noted();
-        let refusals = self.session.refusals();
+        let noted = self.known.counts.noted.as_slice();
+        let refusals = self.session.outcome().refused;
         push_words(buffer, first_advice(refusals, has_tallies(noted)))?;
         push_if(
             buffer,
-            self.known.has_strict_refusal(),
+            self.known.strict_refusal,
             "Many servers don't refuse what is S1 or S5 here. `--lenient` doesn't either.\n",
         )?;
         push_if(
@@ -90,7 +90,7 @@ impl Explain {
     fn hides_notes(&self) -> bool
         ensures { result ≡ (not self.now.listing.all && has_repeated self.now.known.counts.noted) }
     {
-        !self.listing.all && has_repeated(self.known.counts().noted())
+        !self.listing.all && has_repeated(&self.known.counts.noted)
     }
 }
 
@@ -136,7 +136,7 @@ fn listed_notes(listing: Listing, facts: &Facts) -> &[Note]
 fn is_listed(listing: Listing, verdict: &Verdict, notes: &[Note]) -> bool
     ensures { result ≡ is_listed listing (verdict_view verdict.now) notes.now }
 {
-    !listing.brief || refuses(verdict) || has_notes(notes)
+    !listing.brief || refuses(verdict) || !notes.is_empty()
 }
 
 /// Writes the line of a record, with these notes.
@@ -148,9 +148,7 @@ fn push_line(
     notes: &[Note],
 ) -> Result<(), AllocError>
     ensures { OnOk result (buffer.new.items ≡ buffer.old.items
-        ++ line_with limits facts.now.number (option_map string_bytes facts.now.uri)
-        (noted_by facts.now) (option_map change_view facts.now.change) (seen_by facts.now)
-        (verdict_view facts.now.verdict) notes.now) }
+        ++ line_with limits (facts_view facts.now) (noted_by facts.now) notes.now) }
 {
     push_number(buffer, facts.number)?;
     buffer.extend_from_slice(b" ")?;
@@ -168,9 +166,7 @@ fn push_explanation(
     facts: &Facts,
 ) -> Result<(), AllocError>
     ensures { OnOk result (buffer.new.items ≡ buffer.old.items
-        ++ explanation limits (option_map string_bytes facts.now.uri)
-        (option_map change_view facts.now.change) (seen_by facts.now)
-        (verdict_view facts.now.verdict)) }
+        ++ explanation limits (facts_view facts.now) (verdict_view facts.now.verdict)) }
 {
     let Verdict::Answered(answer) = &facts.verdict else {
         return Ok(());
@@ -234,11 +230,11 @@ fn push_counts(buffer: &mut Vec<u8>, messages: u64, counts: &Counts) -> Result<(
     push_words(buffer, "messages of the editor: ")?;
     push_number(buffer, messages)?;
     push_words(buffer, ", changed documents: ")?;
-    push_number(buffer, counts.changed())?;
+    push_number(buffer, counts.changed)?;
     push_words(buffer, "\n")?;
-    push_tallies(buffer, "", counts.dropped())?;
-    push_tallies(buffer, "refused by ", counts.refused())?;
-    push_tallies(buffer, "noted ", counts.noted())
+    push_tallies(buffer, "", &counts.dropped)?;
+    push_tallies(buffer, "refused by ", &counts.refused)?;
+    push_tallies(buffer, "noted ", &counts.noted)
 }
 
 /// Writes a line for each thing that was counted.
@@ -258,11 +254,11 @@ fn push_tally(buffer: &mut Vec<u8>, front: &str, tally: &Tally) -> Result<(), Al
         (buffer.new.items ≡ buffer.old.items ++ tally_words front.now tally.now) }
 {
     push_words(buffer, front)?;
-    push_words(buffer, tally.words())?;
+    push_words(buffer, &tally.words)?;
     push_words(buffer, ": ")?;
     push_number(buffer, tally.count())?;
     push_words(buffer, ", first message ")?;
-    push_number(buffer, tally.first())?;
+    push_number(buffer, tally.first)?;
     push_words(buffer, "\n")
 }
 

@@ -39,13 +39,5 @@ pub fn push_front(output: &mut Vec<u8>, head: Head) -> Result<(), AllocError>
     ensures { OnOk result (output.new.items ≡ output.old.items ++ front_of head) }
 {
     push_line(output, head.line_due)?;
-    push_mark(output, head)
-}
-
-/// Writes the mark of a record.
-fn push_mark(buffer: &mut Vec<u8>, head: Head) -> Result<(), AllocError>
-    ensures { OnOk result
-        (buffer.new.items ≡ buffer.old.items ++ mark_of head.version head.side) }
-{
-    buffer.extend_from_slice(mark_bytes(head))
+    output.extend_from_slice(mark_bytes(head))
 }

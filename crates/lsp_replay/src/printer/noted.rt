@@ -2,8 +2,8 @@
 
 ghost use Rattle.std.specs.Prelude.{◌≡◌, ◌++◌, OnOk, codes, decimal};
 ghost use Rattle.std.specs.Fmt.{signed_decimal};
-ghost use Rattle.lsp_replay.specs.Notes.{change_words, note_words, notes_words, past_words, side_words};
-ghost use Rattle.lsp_replay.specs.Reasons.{position_words};
+ghost use Rattle.lsp_replay.specs.Notes.{note_words, notes_words, past_words, side_words};
+ghost use Rattle.lsp_replay.specs.Reasons.{change_words, position_words};
 
 use crate::members::{push_number, push_signed, push_words};
 use crate::notes::Note;
@@ -133,9 +133,8 @@ fn push_wrong_length(
 
 /// Writes that another text was saved, and the first line that differs.
 fn push_other_saved(buffer: &mut Vec<u8>, line: usize) -> Result<(), AllocError>
-    ensures { OnOk result (buffer.new.items ≡ buffer.old.items
-        ++ codes "the saved text is not the document's: they differ in line " ++ decimal line
-        ++ codes " first") }
+    ensures { OnOk result
+        (buffer.new.items ≡ buffer.old.items ++ note_words (Note.OtherSaved line)) }
 {
     push_words(
         buffer,

@@ -3,9 +3,9 @@
 ghost use Rattle.std.specs.Prelude.{◌≡◌, ◌++◌, IfOk, OnOk};
 ghost use Rattle.lsp_replay.specs.Session.{session_outcome};
 ghost use Rattle.lsp_replay.specs.Commands.{report_from};
-ghost use Rattle.lsp_replay.specs.Parts.{is_last, part_bytes, part_data, part_outcome, replaying_part};
+ghost use Rattle.lsp_replay.specs.Parts.{is_last, part_bytes, part_data, part_outcome, replaying_part, text_found};
 ghost use Rattle.lsp_replay.specs.inside.Commands.{state_in};
-ghost use Rattle.lsp_replay.specs.inside.Parts.{found_now, text_now};
+ghost use Rattle.lsp_replay.specs.inside.Parts.{found_now};
 
 pub(crate) mod chosen;
 
@@ -44,10 +44,10 @@ impl ReplayPart {
     /// Writes what is printed of the part, and returns the outcome.
     fn push_report(&self, buffer: &mut Vec<u8>) -> Result<Outcome, AllocError>
         ensures bytes { OnOk result (buffer.new.items ≡ buffer.old.items
-            ++ part_bytes (part_data self.now.part).uri (text_now self.now)
+            ++ part_bytes (part_data self.now.part).uri (text_found (found_now self.now))
             self.now.session.server.table) }
         ensures outcome { IfOk result (λ outcome. outcome
-            ≡ part_outcome (part_data self.now.part).uri (text_now self.now)
+            ≡ part_outcome (part_data self.now.part).uri (text_found (found_now self.now))
             (session_outcome self.now.session)) }
     {
         let outcome = self.session.outcome();

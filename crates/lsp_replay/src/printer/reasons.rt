@@ -5,8 +5,7 @@ ghost use Rattle.std.specs.Fmt.{signed_decimal};
 ghost use Rattle.lsp_edit.specs.declared.fault.Side.TheVariants.{Start, Stop};
 ghost use Rattle.lsp_message.specs.Seen.{change_view};
 ghost use Rattle.lsp_server.specs.Seen.{answer_view};
-ghost use Rattle.lsp_stream.specs.Ports as ports;
-ghost use Rattle.lsp_replay.specs.Reasons.{edit_reason, end_words, error_reason, position_words, range_sent};
+ghost use Rattle.lsp_replay.specs.Reasons.{change_words, edit_reason, end_words, error_reason, position_words, range_sent};
 ghost use Rattle.lsp_replay.specs.Reasons.{idle_words, is_idle, reason_words, renamed_words, store_reason, version_words};
 
 use crate::members::{push_if, push_number, push_signed, push_words};
@@ -187,9 +186,8 @@ fn push_inside(
     side: Side,
     range: Option<Range>,
 ) -> Result<(), AllocError>
-    ensures { OnOk result (buffer.new.items ≡ buffer.old.items ++ codes "change "
-        ++ decimal (ports.one_more index) ++ end_words side range
-        ++ codes ", inside a character") }
+    ensures { OnOk result (buffer.new.items ≡ buffer.old.items ++ change_words index
+        ++ end_words side range ++ codes ", inside a character") }
 {
     push_change(buffer, index)?;
     push_side(buffer, side, range)?;
@@ -198,9 +196,8 @@ fn push_inside(
 
 /// Writes that a change's range starts after its end.
 fn push_reversed(buffer: &mut Vec<u8>, index: usize, range: Option<Range>) -> Result<(), AllocError>
-    ensures { OnOk result (buffer.new.items ≡ buffer.old.items ++ codes "change "
-        ++ decimal (ports.one_more index) ++ end_words Start range ++ codes ", after it"
-        ++ end_words Stop range) }
+    ensures { OnOk result (buffer.new.items ≡ buffer.old.items ++ change_words index
+        ++ end_words Start range ++ codes ", after it" ++ end_words Stop range) }
 {
     push_change(buffer, index)?;
     push_side(buffer, Side::Start, range)?;
@@ -210,8 +207,7 @@ fn push_reversed(buffer: &mut Vec<u8>, index: usize, range: Option<Range>) -> Re
 
 /// Writes the number of a change, from 1.
 pub fn push_change(buffer: &mut Vec<u8>, index: usize) -> Result<(), AllocError>
-    ensures { OnOk result (buffer.new.items ≡ buffer.old.items ++ codes "change "
-        ++ decimal (ports.one_more index)) }
+    ensures { OnOk result (buffer.new.items ≡ buffer.old.items ++ change_words index) }
 {
     buffer.extend_from_slice(b"change ")?;
     push_number(buffer, one_more(index as u64))

@@ -1,17 +1,15 @@
 //! `serve`: runs a server's end between a reader and a writer.
 
-ghost use Rattle.std.specs.Prelude.{◌≡◌, [], Ok, option_map};
+ghost use Rattle.std.specs.Prelude.{◌≡◌};
 ghost use Rattle.lsp_replay.specs.Session.{session_outcome};
-ghost use Rattle.lsp_replay.specs.Session as spec;
-ghost use Rattle.lsp_replay.specs.Commands.{serving, serve_output};
+ghost use Rattle.lsp_replay.specs.Commands.{serving};
 ghost use Rattle.lsp_replay.specs.inside.Commands.{state_in};
-ghost use Rattle.lsp_replay.specs.inside.Verdicts.{verdict_view};
 
 use crate::handler::{Finished, Given, Output, Printed};
 use crate::outcome::Outcome;
 use crate::printer::Printer;
 use crate::session::witness::Nothing;
-use crate::session::{RecordBody, Session, Verdict};
+use crate::session::{RecordBody, Session, Taken, Verdict};
 use lsp_log::Record;
 use lsp_server::Answer;
 
@@ -30,28 +28,6 @@ impl Serve {
             ..self.session.outcome()
         }
     }
-
-    /// Returns the outcome with which a record ends the run, if it does: `exit` does, with its
-    /// status.
-    fn end(&self, verdict: &Verdict) -> Option<Outcome>
-        ensures { (serve_output self.now.session (verdict_view verdict.now)).end
-            ≡ option_map Ok result }
-    {
-        match verdict {
-            Verdict::Answered(Answer::Exit(status)) => Some(self.outcome(*status)),
-            _ => None,
-        }
-    }
-}
-
-/// Writes the frame of a reply, if the verdict is one. The output is empty before.
-fn put_reply(buffer: &mut Vec<u8>, verdict: Verdict)
-    requires { buffer.old.items ≡ [] }
-    ensures { (s : spec.Session) → (serve_output s (verdict_view verdict)).out ≡ buffer.new.items }
-{
-    if let Verdict::Answered(Answer::Reply { frame, .. }) = verdict {
-        *buffer = frame;
-    }
 }
 
 impl Printer for Serve {
@@ -65,13 +41,18 @@ impl Printer for Serve {
 
     fn print(&mut self, _item: &Record<'_>, read: RecordBody<'_>, buffer: &mut Vec<u8>) -> Printed {
         let mut witness = Nothing;
-        let taken = self.session.take(read, &mut witness)?;
-        let end = self.end(&taken.verdict);
-        put_reply(buffer, taken.verdict);
-        Ok(Given {
-            output: Output::Bytes,
-            end,
-        })
+        let Taken { verdict, .. } = self.session.take(read, &mut witness)?;
+        match verdict {
+            Verdict::Answered(Answer::Exit(status)) => Ok(Given {
+                output: Output::Bytes,
+                end: Some(self.outcome(status)),
+            }),
+            Verdict::Answered(Answer::Reply { frame, .. }) => {
+                *buffer = frame;
+                Ok(Given::more(Output::Bytes))
+            }
+            _ => Ok(Given::more(Output::Bytes)),
+        }
     }
 
     fn finish(&mut self, _line_due: bool, _buffer: &mut Vec<u8>) -> Finished {

@@ -52,30 +52,22 @@ impl Texts {
         self.singles.extend_from_slice(frame)
     }
 
-    /// Writes a series that has ended, as the one canonical message of its batches. If that has too
-    /// many changes or is too long, the series is written as without squash.
-    fn push_series(&self, output: &mut Vec<u8>, batches: &Batches) -> Result<(), AllocError>
+    /// Writes the series that has ended, if there is one, as the one canonical message of its
+    /// batches. If that has too many changes or is too long, the series is written as without
+    /// squash.
+    fn push_end(&self, output: &mut Vec<u8>, ended: &Option<Batches>) -> Result<(), AllocError>
         ensures { OnOk result (output.new.items ≡ output.old.items
-            ++ end_bytes
-            (series_of self.now.front.items self.now.singles.items (Some batches.now))) }
+            ++ end_bytes (series_of self.now.front.items self.now.singles.items ended.now)) }
     {
+        let Some(batches) = ended else {
+            return Ok(());
+        };
         match unless_refused(batches.message())? {
             Some(frame) => {
                 output.extend_from_slice(&self.front)?;
                 output.extend_from_slice(&frame)
             }
             None => output.extend_from_slice(&self.singles),
-        }
-    }
-
-    /// Writes the series that has ended, if there is one.
-    fn push_end(&self, output: &mut Vec<u8>, ended: &Option<Batches>) -> Result<(), AllocError>
-        ensures { OnOk result (output.new.items ≡ output.old.items
-            ++ end_bytes (series_of self.now.front.items self.now.singles.items ended.now)) }
-    {
-        match ended {
-            Some(batches) => self.push_series(output, batches),
-            None => Ok(()),
         }
     }
 }
@@ -118,13 +110,6 @@ impl Squashing {
             },
             batches: None,
         }
-    }
-
-    /// Writes the open series, if there is one.
-    fn push_open(&self, output: &mut Vec<u8>) -> Result<(), AllocError>
-        ensures { OnOk result (output.new.items ≡ output.old.items ++ end_bytes self.now.series) }
-    {
-        self.texts.push_end(output, &self.batches)
     }
 
     /// Takes the record that was read. Writes it as it is, or joins it to the open series if it is
@@ -187,7 +172,7 @@ impl Printer for Squashing {
     }
 
     fn finish(&mut self, line_due: bool, buffer: &mut Vec<u8>) -> Finished {
-        self.push_open(buffer)?;
+        self.texts.push_end(buffer, &self.batches)?;
         push_line(buffer, line_due)?;
         Ok(Some(self.session.outcome()))
     }

@@ -2,18 +2,18 @@
 //!
 //! `first` writes the members that say what a record is, `values` the others.
 
-ghost use Rattle.std.specs.Prelude.{◌≡◌, ◌++◌, ◌&&◌, IfOk, OnOk, codes, decimal, option_map, true};
+ghost use Rattle.std.specs.Prelude.{◌≡◌, ◌++◌, ◌&&◌, IfOk, OnOk, codes, decimal, option_map, string_bytes, true};
 ghost use Rattle.lsp_message.specs.Message.{reading};
 ghost use Rattle.lsp_message.specs.Seen.{change_view};
 ghost use Rattle.lsp_server.specs.Incoming.{incoming_of};
 ghost use Rattle.lsp_stream.specs.Ports as ports;
 ghost use Rattle.lsp_replay.specs.inside.Commands.{state_in};
-ghost use Rattle.lsp_replay.specs.inside.Facts.{members_by, reason_of};
+ghost use Rattle.lsp_replay.specs.inside.Facts.{canonical_json, facts_view};
 ghost use Rattle.lsp_replay.specs.inside.Reads.{IsReadOf};
 ghost use Rattle.lsp_replay.specs.inside.Verdicts.{verdict_view};
 ghost use Rattle.lsp_replay.specs.Lines.{lines};
 ghost use Rattle.lsp_replay.specs.Session.{has_changed};
-ghost use Rattle.lsp_replay.specs.Trace.{document_after, first_members, is_json, member, notes_json, tracing};
+ghost use Rattle.lsp_replay.specs.Trace.{document_after, facts_members, first_members, is_json, member, notes_json, reason_json, tracing};
 
 mod first;
 mod values;
@@ -23,6 +23,7 @@ use crate::facts::{Facts, Known};
 use crate::handler::{Finished, Given, Output, Printed};
 use crate::members::{push_number, push_words};
 use crate::notes::Note;
+use crate::notes::saved::document_of;
 use crate::printer::Printer;
 use crate::printer::noted::push_notes;
 use crate::printer::reasons::{push_reason, push_renamed};
@@ -35,7 +36,6 @@ use crate::session::counting::{has_changed, is_refused, one_more};
 use crate::session::{RecordBody, Session, Verdict};
 use lsp_frame::Limits;
 use lsp_log::{Head, Record};
-use lsp_store::{Document, Store};
 use std::alloc::{AllocError, Global};
 
 /// Writes a line for each record.
@@ -89,7 +89,10 @@ impl Trace {
         facts: &Facts,
     ) -> Result<(), AllocError>
         ensures { OnOk result (buffer.new.items ≡ buffer.old.items
-            ++ members_by self.now.details self.now.session self.now.canonical is_json facts.now
+            ++ facts_members self.now.details self.now.session.server.config.limits
+            (facts_view facts.now)
+            (document_after self.now.session.server.table (option_map string_bytes facts.now.uri))
+            (canonical_json self.now.canonical.appended self.now.canonical.bytes.items) is_json
             body.now) }
     {
         let store = self.session.server().store();
@@ -153,7 +156,7 @@ impl Printer for Trace {
 /// Writes why a record was refused, if it was.
 fn push_why(buffer: &mut Vec<u8>, limits: Limits, facts: &Facts) -> Result<(), AllocError>
     ensures { OnOk result (buffer.new.items ≡ buffer.old.items
-        ++ member (codes ",\"reason\":") (reason_of limits
+        ++ member (codes ",\"reason\":") (reason_json limits
         (option_map change_view facts.now.change) facts.now.renamed
         (verdict_view facts.now.verdict))) }
 {
@@ -168,13 +171,6 @@ fn push_why(buffer: &mut Vec<u8>, limits: Limits, facts: &Facts) -> Result<(), A
     push_reason(buffer, limits, facts.change.as_ref(), answer)?;
     push_renamed(buffer, facts.renamed)?;
     buffer.extend_from_slice(b"\"")
-}
-
-/// Returns the document with this URI, if it is open.
-fn document_of<'a>(store: &'a Store, uri: Option<&str>) -> Option<Document<'a>>
-    ensures { result ≡ document_after store.now.table (option_map (λ uri. uri.now) uri.entry) }
-{
-    store.get(uri?)
 }
 
 /// Writes which record to look at, if there is one.

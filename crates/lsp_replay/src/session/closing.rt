@@ -23,13 +23,7 @@ impl Session {
         let Some(uri) = uri else {
             return Ok(None);
         };
-        let RecordBody::Client(_, incoming, _) = read else {
-            return Ok(None);
-        };
-        let Incoming::DidClose(params) = incoming else {
-            return Ok(None);
-        };
-        let Some(params) = params else {
+        let RecordBody::Client(_, Incoming::DidClose(Some(params)), _) = read else {
             return Ok(None);
         };
         if params.uri.as_str() != uri {

@@ -3,7 +3,7 @@
 ghost use Rattle.std.specs.Prelude.{◌≡◌};
 ghost use Rattle.lsp_server.specs.Seen.{answer_view};
 ghost use Rattle.lsp_stream.specs.Ports.{one_more};
-ghost use Rattle.lsp_replay.specs.Session.{has_changed, is_refused, is_refusing, refuses};
+ghost use Rattle.lsp_replay.specs.Session.{has_changed, is_refused, refuses};
 ghost use Rattle.lsp_replay.specs.inside.Verdicts.{verdict_view};
 
 use crate::session::Verdict;
@@ -22,7 +22,7 @@ pub fn is_refused(answer: &Answer) -> bool
     ensures { result ≡ is_refused (answer_view answer.now) }
 {
     match answer {
-        Answer::Reply { code, .. } => is_refusing(*code),
+        Answer::Reply { code, .. } => !matches!(code, None | Some(ErrorCode::MethodNotFound)),
         Answer::Refused(_) => true,
         Answer::Exit(status) => *status != 0,
         Answer::Changed | Answer::Dropped | Answer::Ignored => false,
@@ -44,14 +44,4 @@ pub fn has_changed(verdict: &Verdict) -> bool
     ensures { result ≡ has_changed (verdict_view verdict.now) }
 {
     matches!(verdict, Verdict::Answered(Answer::Changed))
-}
-
-/// Returns whether an error reply counts as refused.
-fn is_refusing(code: Option<ErrorCode>) -> bool
-    ensures { result ≡ is_refusing code }
-{
-    match code {
-        None | Some(ErrorCode::MethodNotFound) => false,
-        Some(_) => true,
-    }
 }

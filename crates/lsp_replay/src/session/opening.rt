@@ -1,10 +1,8 @@
 //! The document that a record may open.
 
-ghost use Rattle.std.specs.Prelude.{◌≡◌, IfOk, option_map, string_bytes};
-ghost use Rattle.lsp_server.specs.Seen.{incoming_view};
+ghost use Rattle.std.specs.Prelude.{◌≡◌, IfOk, None, option_map, string_bytes};
 ghost use Rattle.lsp_replay.specs.Openings.{opened_if, uri_opened};
-ghost use Rattle.lsp_replay.specs.inside.Bodies.{body_view};
-ghost use Rattle.lsp_replay.specs.inside.Openings.{open_read};
+ghost use Rattle.lsp_replay.specs.inside.Bodies.{body_view, on_client};
 ghost use Rattle.lsp_replay.specs.inside.Verdicts.{verdict_view};
 
 use crate::facts::asked::copied_text;
@@ -14,25 +12,17 @@ use lsp_log::Sender;
 use lsp_server::Incoming;
 use std::alloc::{AllocError, Global};
 
-/// Returns the URI in valid parameters of an editor's `didOpen`.
-fn uri_opened(incoming: &Incoming) -> Option<&str>
-    ensures { option_map (λ uri. uri.now) result
-        ≡ uri_opened Sender.Client (incoming_view incoming.now) }
-{
-    match incoming {
-        Incoming::DidOpen(Some(params)) => Some(params.uri.as_str()),
-        _ => None,
-    }
-}
-
 /// Returns a copy of the URI of the document that a record asks to open.
 pub fn opened_uri(alloc: Global, read: &RecordBody<'_>) -> Result<Option<String>, AllocError>
-    ensures { IfOk result (λ uri. option_map string_bytes uri ≡ open_read (body_view read.now)) }
+    ensures { IfOk result (λ uri. option_map string_bytes uri
+        ≡ on_client None (uri_opened Sender.Client) (body_view read.now)) }
 {
-    let RecordBody::Client(_, incoming, _) = read else {
-        return Ok(None);
-    };
-    copied_text(alloc, uri_opened(incoming))
+    match read {
+        RecordBody::Client(_, Incoming::DidOpen(Some(params)), _) => {
+            copied_text(alloc, Some(params.uri.as_str()))
+        }
+        _ => Ok(None),
+    }
 }
 
 /// Returns the URI that a record asked to open, if it was accepted.

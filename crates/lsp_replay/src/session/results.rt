@@ -7,7 +7,7 @@ ghost use Rattle.lsp_message.specs.Agreement.{announced_of};
 ghost use Rattle.lsp_message.specs.Message.{reading};
 ghost use Rattle.lsp_message.specs.Message as spec;
 ghost use Rattle.lsp_message.specs.Seen.{id_view, message_view};
-ghost use Rattle.lsp_replay.specs.Notes.{asks_ranges, is_incremental};
+ghost use Rattle.lsp_replay.specs.Notes.{asks_ranges};
 ghost use Rattle.lsp_replay.specs.Session.{encoding_for, encoding_in, judge_server, result_for, same_id};
 ghost use Rattle.lsp_replay.specs.inside.Bodies.{from_server};
 ghost use Rattle.lsp_replay.specs.inside.Taken.{IsHeard};
@@ -52,7 +52,7 @@ impl Session {
         let Ok(announced) = result_initialize(self.alloc, value) else {
             return heard(Verdict::Bad, Some(false));
         };
-        let ranged = Some(is_incremental(announced.kind));
+        let ranged = Some(matches!(announced.kind, SyncKind::Incremental));
         let Some(encoding) = announced.encoding else {
             return heard(Verdict::Bad, ranged);
         };
@@ -71,13 +71,6 @@ fn heard(verdict: Verdict, ranged: Option<bool>) -> Taken
         change: None,
         ranged,
     }
-}
-
-/// Returns whether a kind of synchronisation asks for ranges.
-fn is_incremental(kind: SyncKind) -> bool
-    ensures { result ≡ is_incremental kind }
-{
-    matches!(kind, SyncKind::Incremental)
 }
 
 /// Returns a copy of an id.

@@ -1,10 +1,10 @@
 //! The records that stay where others are left out.
 
 ghost use Rattle.std.specs.Prelude.{◌≡◌, ◌||◌, ℕ, false, IfOk, List, MatchOption, None, Option, Some, if◌then◌else◌, option_map};
-ghost use Rattle.lsp_message.specs.Message.{IdData, message, reading};
-ghost use Rattle.lsp_message.specs.Seen.{id_view, message_view};
+ghost use Rattle.lsp_message.specs.Message.{IdData, reading};
+ghost use Rattle.lsp_message.specs.Seen.{id_view};
 ghost use Rattle.lsp_server.specs.Seen.{incoming_view};
-ghost use Rattle.lsp_replay.specs.Documents.{is_answer_to, is_due, is_kept_method, message_stays, nothing_selected, waiting_for};
+ghost use Rattle.lsp_replay.specs.Documents.{is_answer_to, message_stays, nothing_selected, waiting_for};
 ghost use Rattle.lsp_replay.specs.inside.Bodies.{body_view};
 ghost use Rattle.lsp_replay.specs.inside.Reads.{IsReadOf, IsSelection, asked_id, is_waited, stays_read, waiting_read};
 
@@ -57,13 +57,6 @@ impl Selection {
         due
     }
 
-    /// Returns whether the line of version 2 is to be written before a record, if that stays.
-    fn is_due_before(&self, head: Head) -> bool
-        ensures { result ≡ is_due self.now head }
-    {
-        self.due || head.line_due
-    }
-
     /// Returns the head under which the record that was read is written: with the line of version
     /// 2, if that is still due. Returns `None` if the record is left out.
     pub fn select(
@@ -75,7 +68,7 @@ impl Selection {
         ensures { IfOk result (λ written. (body : List ℕ) → IsReadOf head body read.now
             → IsSelection session.now self.old self.new head body written) }
     {
-        let line_due = self.is_due_before(head);
+        let line_due = self.due || head.line_due;
         if !self.stays(session, read)? {
             self.due = line_due;
             return Ok(None);
@@ -144,18 +137,14 @@ fn message_stays(phase: Phase, incoming: &Incoming) -> bool
         Incoming::Response { .. } => phase == Phase::Ended,
         Incoming::OtherRequest { .. } => phase != Phase::Running,
         Incoming::OtherNotification { method } => {
-            phase == Phase::Ended || is_kept_method(method.as_str())
+            let method = method.as_str();
+            phase == Phase::Ended
+                || method == "initialized"
+                || method == "shutdown"
+                || method == "textDocument/didSave"
         }
         _ => true,
     }
-}
-
-/// Returns whether a notification with this method stays, beside `exit` and those of open
-/// documents.
-fn is_kept_method(method: &str) -> bool
-    ensures { result ≡ is_kept_method method.now }
-{
-    method == "initialized" || method == "shutdown" || method == "textDocument/didSave"
 }
 
 /// Returns the id of a request.
@@ -177,20 +166,8 @@ fn answered_id(alloc: Global, body: &[u8]) -> Result<Option<Id>, AllocError>
         is_answer_to waiting (reading body.now) ≡ is_waited waiting (option_map id_view id)) }
 {
     match message_of(read(alloc, body))? {
-        Some(message) => Ok(response_id(message)),
-        None => Ok(None),
-    }
-}
-
-/// Returns the id of a response.
-fn response_id(answer: Message) -> Option<Id>
-    ensures { (waiting : Option IdData) →
-        is_answer_to waiting (message (message_view answer)) ≡ is_waited waiting
-        (option_map id_view result) }
-{
-    match answer {
-        Message::Response { id, .. } => id,
-        _ => None,
+        Some(Message::Response { id, .. }) => Ok(id),
+        _ => Ok(None),
     }
 }
 

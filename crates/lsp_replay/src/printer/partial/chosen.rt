@@ -2,9 +2,10 @@
 
 ghost use Rattle.std.specs.Prelude.{◌≡◌, ◌&&◌, IfOk, not, option_map, string_bytes};
 ghost use Rattle.line_diff.specs.Compared.{ends_so};
-ghost use Rattle.lsp_replay.specs.Parts.{found_if, found_with, is_named, last_text_in, none_found, only, refreshed, text_found, with_ending};
+ghost use Rattle.lsp_replay.specs.Parts.{found_if, is_named, none_found, only, refreshed, text_found, with_ending};
 ghost use Rattle.lsp_replay.specs.inside.Kept.{kept_after};
 
+use crate::facts::asked::copied_text;
 use crate::openings::ends_so;
 use lsp_store::Store;
 use std::alloc::{AllocError, Global};
@@ -96,12 +97,6 @@ impl Chosen {
         let Some(uri) = opened else {
             return;
         };
-        self.take_with(asked, uri)
-    }
-
-    fn take_with(&mut self, asked: &str, uri: String)
-        ensures { self.new ≡ found_with asked.now (string_bytes uri) self.old }
-    {
         if uri.as_str() == asked {
             *self = Chosen::only(uri);
             return;
@@ -139,22 +134,12 @@ impl Chosen {
         if self.several {
             return Ok(None);
         }
-        self.last_text(alloc, documents)
-    }
-
-    fn last_text(&self, alloc: Global, documents: &Store) -> Result<Option<String>, AllocError>
-        ensures { IfOk result (λ text. option_map string_bytes text
-            ≡ last_text_in self.now.uri self.now.text documents.now.table) }
-    {
         let Some(uri) = &self.uri else {
             return Ok(None);
         };
         if let Some(document) = documents.get(uri) {
             return Ok(Some(document.text().to_string(alloc)?));
         }
-        match &self.kept {
-            Some(kept) => Ok(Some(String::from_str(alloc, kept)?)),
-            None => Ok(None),
-        }
+        copied_text(alloc, self.kept.as_deref())
     }
 }

@@ -9,7 +9,7 @@ returns-clause-facts g c =
     let taken = c.in_ok-taken.ensures c.args.item.now.head c.args.item.now.body.now c.requires.is_read in
     facts_are c.args.self.now c.args.session.now c.args.item.now.head c.args.item.now.body.now
     (body_view c.args.read) c.requires.is_read c.in_ok-about.about about c.take.new.self c.in_ok-taken.taken taken
-    c.records.result c.records.ensures _
+    c.records.result c.records.ensures c.args.item.now.raw.now _
     c.in_ok-learn.ensures.facts
 
 pub returns-clause-known : goal.returns-clause-known

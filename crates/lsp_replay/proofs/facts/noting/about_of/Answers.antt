@@ -38,7 +38,6 @@ returns c = λ body given.
       uri = c.in_ok-copied_text.ensures ∙ c.uri_of.ensures;
       saved = c.in_ok-copied_text-2.ensures ∙ c.saved_in.ensures ∙ ap (saved_in Client m) read.params
           ∙ saved_same m (reading body);
-      is_change = c.is_change.ensures;
       notes = c.in_ok-notes_on.ensures
           ∙ ap₂ (λ (lengths : List (Option ℕ)) (params : Option Data). notes_on c.args.server.now c.args.ranged lengths
           params m) read.lengths read.params

@@ -1,4 +1,4 @@
-use Rattle.lsp_replay.proofs.Prelude.{[], codes, decimal, flat_map, tally_words}
+use Rattle.lsp_replay.proofs.Prelude.{[], ap, codes, decimal, flat_map, tally_words}
 use Rattle.lsp_replay.proofs.Reports.MemberLemmas.{eight_words}
 use Rattle.lsp_replay.proofs.printer.explaining.push_counts.Goals as goal
 
@@ -17,8 +17,11 @@ returns c =
       c.in_ok-push_words-2.ensures,
       c.in_ok-push_number.ensures,
       c.in_ok-push_words.ensures,
-      c.changed.ensures,
-      c.dropped.ensures,
-      c.refused.ensures,
-      c.noted.ensures,
+      c.deref.ensures.value,
+      c.deref-2.ensures.value,
+      c.deref-3.ensures.value,
+      ap (λ k. k.changes) c.counts.view_is,
+      ap (λ k. k.drops) c.counts.view_is,
+      ap (λ k. k.refusals) c.counts.view_is,
+      ap (λ k. k.noted) c.counts.view_is,
     ) at c.push_tallies-3.ensures)

@@ -1,4 +1,4 @@
-use Rattle.lsp_replay.proofs.Prelude.{codes, decimal}
+use Rattle.lsp_replay.proofs.Prelude.{ap, codes, decimal}
 use Rattle.lsp_replay.proofs.Reports.MemberLemmas.{seven_words}
 use Rattle.lsp_replay.proofs.printer.explaining.push_tally.Goals as goal
 
@@ -14,7 +14,8 @@ returns c =
       c.in_ok-push_words-3.ensures,
       c.in_ok-push_words-2.ensures,
       c.in_ok-push_words.ensures,
-      c.words.ensures,
+      c.deref.ensures,
+      ap (λ t. t.words) c.tally.view_is,
       c.count.ensures,
-      c.first.ensures,
+      ap (λ t. t.first) c.tally.view_is,
     ) at c.push_words-5.ensures)

@@ -1,22 +1,18 @@
-use Rattle.lsp_replay.proofs.Prelude.{◌&&◌, not}
+use Rattle.lsp_replay.proofs.Prelude.{rules, ℕ, List, Bool, subst, ◌≡◌, ◌++◌, ◌&&◌, not}
 use Rattle.lsp_replay.specs.Explained.{first_advice, habit_advice, lenient_advice}
 use Rattle.lsp_replay.specs.Tallies.{has_repeated, has_tallies}
 use Rattle.lsp_replay.proofs.Reports.MemberLemmas.{three_words}
 use Rattle.lsp_replay.proofs.printer.explaining.Explain.push_advice.Goals as goal
 
+advised : (one two : List ℕ) {a b : Bool} → two ≡ one ++ lenient_advice a → a ≡ b → two ≡ one ++ lenient_advice b
+advised one two is same = subst (λ (b : Bool). two ≡ one ++ lenient_advice b) same is
+
 pub returns : goal.returns
 returns c =
     let known = c.args.self.now.known in
-    three_words c.push_if-2.result _ c.args.buffer.now.items _ _
-    (first_advice c.args.self.now.session.refusals (has_tallies known.counts.noted))
-    (lenient_advice known.strict_refusal)
-    (habit_advice (not c.args.self.now.listing.all && has_repeated known.counts.noted))
-    (rw (
-      c.first_advice.ensures,
-      c.refusals-refusals.ensures,
-      c.has_tallies.ensures,
-      c.noted-noted.ensures,
-      c.counts.ensures,
-    ) at c.in_ok-push_words.ensures)
-    (rw c.has_strict_refusal.ensures at c.in_ok-push_if.ensures)
+    let advice = first_advice c.args.self.now.session.refusals (has_tallies known.counts.noted) in
+    let first : c.push_words.new.buffer.items ≡ c.args.buffer.now.items ++ advice = search rules in
+    three_words c.push_if-2.result _ c.args.buffer.now.items _ _ advice (lenient_advice known.strict_refusal)
+    (habit_advice (not c.args.self.now.listing.all && has_repeated known.counts.noted)) first
+    (advised c.push_words.new.buffer.items c.push_if.new.buffer.items c.in_ok-push_if.ensures (search rules))
     (rw c.hides_notes.ensures at c.push_if-2.ensures)

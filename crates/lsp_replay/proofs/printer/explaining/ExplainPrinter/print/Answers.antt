@@ -13,7 +13,7 @@ returns-clause-ok c = λ more.
     let session = c.in_ok-facts.ensures.session in
     let limits = ap (λ (u : Session). u.server.config.limits) session in
     rw c.more.ensures
-    (line_first (explaining listing) known s r (λ e. c.in_ok-facts.ensures.in_log (facts.verdict ∙ e))
+    (line_first (explaining listing) known s r (λ e. c.in_ok-facts.ensures.in_log (ap (λ f. f.verdict) facts.are ∙ e))
     c.push_facts.new.buffer.items
     (line_is listing known s r c.take.new.session.server.config.limits limits c.in_ok-facts.facts facts
     c.args.buffer.now.items _ c.requires.empty c.in_ok-push_facts.ensures)

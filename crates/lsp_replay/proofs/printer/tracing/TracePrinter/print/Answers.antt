@@ -1,4 +1,4 @@
-use Rattle.lsp_replay.proofs.Prelude.{◌≡◌, ◌++◌, ◌∷◌, sym, subst, ◌∙◌, nil_from_length, reading, incoming_of, one_more, written_first, first_members, tracing, record_of, output_in, lines}
+use Rattle.lsp_replay.proofs.Prelude.{◌≡◌, ◌++◌, ◌∷◌, sym, ap, subst, ◌∙◌, nil_from_length, reading, incoming_of, one_more, written_first, first_members, tracing, record_of, output_in, lines}
 use Rattle.lsp_replay.specs.declared.printer.tracing.Trace.{Trace}
 use Rattle.lsp_replay.proofs.KnownLemmas.{line_first}
 use Rattle.lsp_replay.proofs.Records.TakenLemmas.{seen_written}
@@ -23,7 +23,8 @@ returns-clause-ok c = λ more.
     rw c.more.ensures
     (subst (λ (trace : Trace). output_in (lines (tracing trace.details)) trace.known trace.session (r ∷ more)
     ≡ written_first bytes (output_in (lines (tracing old.details)) c.take.new.self t more)) same
-    (line_first (tracing old.details) old.known old.session r (λ e. c.in_ok-facts.ensures.in_log (facts.verdict ∙ e))
+    (line_first (tracing old.details) old.known old.session r (λ e. c.in_ok-facts.ensures.in_log (ap (λ f. f.verdict)
+    facts.are ∙ e))
     bytes
     (line_is old.details old.known old.session r t session c.in_ok-facts.facts facts c.take.new.witness
     before.bytes.items (nil_from_length before.bytes.items c.in_ok-clear.ensures.room) written c.in_ok-is_json.is_json
