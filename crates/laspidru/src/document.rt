@@ -112,8 +112,8 @@ pub extern "C" fn laspidru_document_change(
     })
 }
 
-/// Returns how many bytes and how many lines the text has, in constant time. Codes: EMPTY,
-/// OTHER_KIND.
+/// Returns how many bytes and how many lines the text has. Codes: EMPTY, OTHER_KIND. Costs a search
+/// for the last block.
 #[tactic(auto, using(lsp_text::proofs::TextLines::IndexesLemmas::indexes_count))]
 #[unsafe(no_mangle)]
 pub extern "C" fn laspidru_document_size(alloc: Global, handle: &mut Handle, out: &mut Size) -> u32

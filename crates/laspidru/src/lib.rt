@@ -3,10 +3,8 @@
 //!
 //! Each function but `laspidru_close` and `laspidru_version` checks the bytes, numbers and handles
 //! that C passes, and returns a code. Pointers, lengths and bools are the caller's
-//! (`include/CODES.md`). If the code isn't [`OK`], nothing has changed. Only after the four faults
-//! of a log, [`CUT`] to [`BAD_LOG`], the output up to the fault is kept; after [`BAD_FRAME`] no more
-//! of a stream is taken; and after [`OUT_OF_MEMORY`] `laspidru_take` may keep a message that waits
-//! for memory.
+//! (`include/CODES.md`). If the code isn't [`OK`], nothing has changed, with the exceptions that
+//! are listed there.
 //!
 //! - `document`: the functions on documents in handles, with those on positions and lines
 //!   (`positions`); `batch`: those on canonical batches; `edits`: those on text edits; `framer`:

@@ -26,7 +26,8 @@ impl Client {
     /// In phase Ready; else [`ClientFault::WrongPhase`]. Refuses as
     /// [`Store::open`](lsp_store::Store::open), then with
     /// [`StoreFault::BodyTooLong`](lsp_store::StoreFault::BodyTooLong). The texts are moved in, and
-    /// copied once, into the message. Costs what `Store::open` costs, and the message's bytes.
+    /// copied into the message and its frame. Costs what `Store::open` costs, and the message's
+    /// bytes.
     pub fn open(
         &mut self,
         uri: String,

@@ -19,7 +19,7 @@ pub enum ClientFault {
     /// [`StoreFault::NoMemory`].
     #[error("{0}")]
     Store(StoreFault),
-    /// C3: out of memory. A caller can repeat the same call.
+    /// C3: out of memory. A caller can repeat the same call (an `open` by copies).
     #[error("out of memory")]
     NoMemory,
 }

@@ -15,8 +15,8 @@ use std::alloc::{AllocError, Global};
 /// How many units of the session's encoding a line may have.
 const LIMIT: u32 = 100;
 
-/// Returns the range of each long line that is over the limit, in exact positions. Costs one step a
-/// line, and in UTF-16 and UTF-32 the text.
+/// Returns the range of each long line that is over the limit, in exact positions. Costs two
+/// searches for blocks a line, and in UTF-16 and UTF-32 the text.
 pub fn long_lines(
     alloc: Global,
     document: &Document<'_>,

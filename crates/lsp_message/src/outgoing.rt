@@ -11,8 +11,8 @@ use crate::message::Id;
 use crate::params::{ChangeParams, CloseParams, OpenParams};
 use lsp_text::Encoding;
 
-/// A client's message, or a server's reply. The ids of a client's requests are 1 (`initialize`) and
-/// 2 (`shutdown`).
+/// A client's message, or a reply. The ids of a client's requests are 1 (`initialize`) and 2
+/// (`shutdown`).
 #[derive(Debug, PartialEq, Eq, Drop)]
 pub enum Outgoing {
     /// The request `initialize`, with id 1 and the encodings that the client offers.

@@ -35,9 +35,9 @@ const USUAL_LENGTH: usize = 256;
 
 /// Writes the body of a message: compact JSON, with members in the order of their names' bytes.
 ///
-/// Fails only where memory runs out. The receiver reads the body as the same message, and its
-/// parameters or result as those that were written. No other message has the same body. Linear in
-/// the body; texts are copied only into it.
+/// Fails only where memory runs out. The receiver reads the body as the same message (an error as a
+/// failure), and its parameters or result as those that were written. No other message has the same
+/// body. Linear in the body; texts are copied only into it.
 #[tactic(auto, using(crate::proofs::ReadBack::written_laws))]
 pub fn write(alloc: Global, message: &Outgoing) -> Result<Vec<u8>, AllocError>
     ensures body { IfOk result (λ body. body.items ≡ spec.body_of (outgoing_view message.now)) }

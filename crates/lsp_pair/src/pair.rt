@@ -145,9 +145,9 @@ impl Pair {
     /// end sends is appended to the other's queue.
     ///
     /// After [`AllocError`] the pair is unchanged, with the frame still first, and a caller can
-    /// repeat the same step. Costs what the client's call costs, or what the message costs the end
-    /// that handles it, and a copy of its frame. Taking the first frame of a queue costs constant
-    /// time.
+    /// repeat the same step. Costs what the client's call costs (an open also copies its texts), or
+    /// what the message costs the end that handles it, and a copy of its frame. Taking the first
+    /// frame of a queue costs constant time.
     pub fn step(&mut self, event: &Event) -> Result<Happened, AllocError>
         ensures step { IfOk result (λ happened.
             IsStep self.old (event_view event.now) happened self.new) }

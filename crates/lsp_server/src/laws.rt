@@ -4,7 +4,7 @@ ghost use Rattle.lsp_server.specs.laws.Steps.{RequestLaw, NotificationLaw, Respo
 
 /// Does nothing: its contract states what holds of every step.
 ///
-/// - `request`: each request has one reply, with its id.
+/// - `request`: each request before `exit` has one reply, with its id.
 /// - `notification`, `response`: a notification and a response have no reply.
 /// - `forward`, `config`: a session never returns to an earlier phase, and its configuration stays.
 /// - `documents`: only what is answered as a change changes the documents.

@@ -1,10 +1,10 @@
 //! The server's end of a session of the Language Server Protocol 3.17: one body in, one answer out.
 //!
 //! A [`Server`] keeps a copy of each open document as the editor's messages say, and answers the
-//! messages of a session's lifecycle. Where both ends are this project's, the copies are equal to
-//! the editor's texts (`lsp_pair`). You bring the bytes and the features. `lsp_frame` splits a
-//! stream into bodies, and each body is passed to [`Server::handle`]. A reply comes back as a
-//! frame, whole with its header:
+//! messages of a session's lifecycle. Where both ends are this project's, the copies are the
+//! editor's texts at its last message that was handled (`lsp_pair`). You bring the bytes and the
+//! features. `lsp_frame` splits a stream into bodies, and each body is passed to
+//! [`Server::handle`]. A reply comes back as a frame, whole with its header:
 //!
 //! ```text
 //! let config = Config::default();

@@ -97,7 +97,8 @@ impl Server {
         self.phase
     }
 
-    /// Returns a reference to the open documents. Only document notifications change them.
+    /// Returns a reference to the open documents. Only document notifications and plans change
+    /// them.
     pub fn store(&self) -> &Store
         ensures { result.now ≡ record { limits = self.now.config.limits; table = self.now.table } }
     {

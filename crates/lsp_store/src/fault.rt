@@ -36,7 +36,7 @@ pub enum StoreFault {
     /// S8: the message's body has this many bytes, more than `max_body`.
     #[error("the body has {len} bytes, more than the limit")]
     BodyTooLong { len: usize },
-    /// S9: out of memory. A caller can repeat the same call.
+    /// S9: out of memory. A caller can repeat the same call (an `open` by copies).
     #[error("out of memory")]
     NoMemory,
 }

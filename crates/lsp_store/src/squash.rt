@@ -209,8 +209,7 @@ impl Squash {
         Ok(Squash { batches, reached })
     }
 
-    /// Adds a batch on the text reached so far, under a version greater than the one reached (LSP
-    /// 3.17, DidChangeTextDocumentParams).
+    /// Adds a batch on the text reached so far (LSP 3.17, DidChangeTextDocumentParams).
     ///
     /// Refuses, on that text and version, as [`crate::Store::change`] does from
     /// [`StoreFault::StaleVersion`] on. A refused batch changes nothing. Costs what the change of a

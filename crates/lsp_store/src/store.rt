@@ -114,11 +114,11 @@ impl Store {
     /// Refuses, in this order, with [`StoreFault::NotOpen`], [`StoreFault::StaleVersion`] within
     /// strict limits, [`StoreFault::TooManyChanges`], [`StoreFault::Edit`] and
     /// [`StoreFault::TextTooLong`]; and with [`StoreFault::NoMemory`]. Only the text after the
-    /// whole batch has to be within `max_text` bytes. Costs a hash look-up, and what the batch
-    /// costs to apply ([`lsp_edit::IndexedText::change`]): for one change of a range its two
-    /// positions, its block of the text, and an addition for each 32 blocks before it. The first one
-    /// after an open, or after a change of the whole text, costs the text once: it is cut into
-    /// blocks then.
+    /// whole batch has to be within `max_text` bytes. Costs what
+    /// [`ordered_map::OrderedMap::get_full`] costs, and what the batch costs to apply
+    /// ([`lsp_edit::IndexedText::change`]): for one change of a range its two positions, its block
+    /// of the text, and an addition for each 32 blocks before it. The first one after an open, or
+    /// after a change of the whole text, costs the text once: it is cut into blocks then.
     pub fn change(
         &mut self,
         uri: &str,
@@ -153,7 +153,7 @@ impl Store {
     /// Resolves a batch on an open document, and makes all refusals of [`Store::change`], in their
     /// order. The plan borrows the changes, and nothing of the store.
     ///
-    /// Costs a hash look-up, and what the batch costs to resolve
+    /// Costs what [`ordered_map::OrderedMap::get_full`] costs, and what the batch costs to resolve
     /// ([`lsp_edit::IndexedText::delta`]): for one change of a range its two positions, and no
     /// memory.
     pub fn plan<'a>(

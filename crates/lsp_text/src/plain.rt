@@ -1,7 +1,7 @@
 //! The definitions as a plain and slow program over the characters of a text.
 //!
-//! It has a function for each definition of `TextLines`, `Units` and `Positions` in `specs/`, to be
-//! read, and to be compared with `Lines`. An index is counted in characters, from 0 to their
+//! It has functions for the main definitions of `TextLines`, `Units` and `Positions` in `specs/`,
+//! to be read, and to be compared with `Lines`. An index is counted in characters, from 0 to their
 //! number. Nothing is stored or allocated. A position costs up to the square of the text's length,
 //! either way.
 

@@ -14,7 +14,7 @@ use crate::structs::{CPosition, Line};
 use std::alloc::Global;
 
 /// Returns the byte offsets at which a line starts, and at which it ends without its line end.
-/// Codes, in this order: EMPTY, OTHER_KIND, OUT_OF_RANGE. Costs two binary searches.
+/// Codes, in this order: EMPTY, OTHER_KIND, OUT_OF_RANGE. Costs three searches for blocks.
 #[unsafe(no_mangle)]
 pub extern "C" fn laspidru_document_line(
     alloc: Global,

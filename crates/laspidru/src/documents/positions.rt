@@ -72,7 +72,7 @@ pub extern "C" fn laspidru_open_position(
 
 /// Returns the byte offsets at which a line of an open document starts, and at which it ends
 /// without its line end. URIs are compared byte for byte. Codes, in this order: NOT_UTF8 of the
-/// URI, EMPTY, OTHER_KIND, NOT_OPEN, OUT_OF_RANGE. Costs a hash look-up and two binary searches.
+/// URI, EMPTY, OTHER_KIND, NOT_OPEN, OUT_OF_RANGE. Costs a hash look-up and three searches.
 #[unsafe(no_mangle)]
 pub extern "C" fn laspidru_open_line(
     alloc: Global,

@@ -17,7 +17,7 @@ use std::ops::Range;
 
 impl TextBuffer {
     /// Returns the byte offsets of a line's content, without its line end, or `None` if there is no
-    /// such line. Costs two searches for blocks.
+    /// such line. Costs three searches for blocks.
     pub fn line(&self, line: u32) -> Option<Range<usize>>
         ensures content { IfSome result (IsContentOf self.now line) }
         ensures some { OnSome result (line ≤ line_ends (chars self.now)) }

@@ -69,8 +69,9 @@ impl Incoming {
     /// Reads what a body asks. Fails only where memory runs out, and never for a body that isn't
     /// UTF-8.
     ///
-    /// One pass, linear in the body. Beside the memory of its result it takes a scratch: 16 KB and
-    /// the body's length. To read many bodies, keep one scratch and call [`Incoming::read_with`].
+    /// One pass, two over an `initialize`, linear in the body. Beside the memory of its result it
+    /// takes a scratch: 16 KB and the body's length. To read many bodies, keep one scratch and call
+    /// [`Incoming::read_with`].
     #[inline(never)]
     pub fn read(alloc: Global, body: &[u8]) -> Result<Incoming, AllocError>
         ensures ok { IfOk result (λ m. incoming_view m ≡ incoming_of (reading body.now)) }
@@ -100,9 +101,10 @@ impl Incoming {
 
     /// Reads what a body asks, as [`Incoming::read_with`], and what notes of it go by.
     ///
-    /// A keystroke is read by its bytes, and a body that notes don't go by by its tokens. Of another
-    /// change, and of a `textDocument/didSave`, a tree is built. A body is read once, unless one of
-    /// these two escapes the name of its method, or hides it between other members.
+    /// A keystroke is read by its bytes, and a body that notes don't go by by its tokens. Of
+    /// another change, and of a `textDocument/didSave`, a tree is built. A body is read once,
+    /// unless it is an `initialize`, or one of these two escapes the name of its method, or hides
+    /// it between other members.
     pub fn read_noted(
         alloc: Global,
         body: &[u8],

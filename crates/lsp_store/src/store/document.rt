@@ -78,8 +78,8 @@ impl<'a> Document<'a> {
         self.stored.text.text()
     }
 
-    /// Returns how many lines there are: one more than line ends, so at least one. In constant
-    /// time.
+    /// Returns how many lines there are: one more than line ends, so at least one. Costs a search
+    /// for the last block.
     pub fn line_count(&self) -> usize
         ensures { result ≡ line_ends (chars self.now.text) + 1 }
     {
@@ -89,7 +89,7 @@ impl<'a> Document<'a> {
     /// Returns the byte offsets of a line's content, without its line end (LSP 3.17, Position).
     /// [`TextBuffer::slice`] copies that part of [`Document::text`]. Lines are counted from 0.
     ///
-    /// Returns `None` if the text has no such line. Costs two binary searches over the blocks.
+    /// Returns `None` if the text has no such line. Costs three searches for blocks.
     pub fn line(&self, line: u32) -> Option<Range<usize>>
         ensures content { IfSome result (IsContentOf self.now.text line) }
         ensures some { OnSome result (line ≤ line_ends (chars self.now.text)) }
@@ -102,8 +102,8 @@ impl<'a> Document<'a> {
     /// end of the text where there is no such line, and the end of the line's content for a
     /// character after it.
     ///
-    /// Fails where the position is inside a character. Costs a binary search over the blocks, and
-    /// the line's text in its block up to the position; in UTF-8 the search alone.
+    /// Fails where the position is inside a character. Costs a search for the block, and the line's
+    /// text up to the position in it; in UTF-8 the search alone.
     pub fn resolve(&self, encoding: Encoding, position: Position) -> Result<usize, InsideCharacter>
         ensures value { result_ok result ≡ option_map (place_of (chars self.now.text))
             (denoted (units_in encoding) (chars self.now.text) position) }
@@ -116,8 +116,8 @@ impl<'a> Document<'a> {
     /// Returns the exact position of a byte offset of the text (LSP 3.17, Position). No offset past
     /// the end, inside a character, or between the two characters of a CRLF has one.
     ///
-    /// Costs a binary search over the blocks, one over a block's lines, and the line's text in the
-    /// block up to the offset; in UTF-8 the searches alone.
+    /// Costs a search for the block, one over its lines, and the line's text in it up to the
+    /// offset; in UTF-8 the searches alone.
     pub fn position(&self, encoding: Encoding, offset: usize) -> Option<Position>
         ensures exact { IfSome result (λ position. (k : ℕ) → k ≤ length (chars self.now.text)
             → place_of (chars self.now.text) k ≡ offset
@@ -136,7 +136,7 @@ impl<'a> Document<'a> {
     /// [`Document::offset_of_units`] is its inverse.
     ///
     /// Returns `None` for an offset past the end or inside a character. Costs the text up to the
-    /// offset, in UTF-8 a binary search over the blocks. Takes no memory.
+    /// offset, in UTF-8 a search for the block. Takes no memory.
     pub fn units_before(&self, encoding: Encoding, offset: usize) -> Option<usize>
         ensures { (units : ℕ) → (result ≡ Some units)
             ↔ HasUnitsBefore (units_in encoding) (chars self.now.text) offset units }
