@@ -60,7 +60,7 @@ To change it (docs/DEVELOPING.md)
   make quick           every test of every crate, before any proof (CRATE)                 rt                          some minutes
   make ready           what is to be mended before a push (CRATE="lsp_store ..")           rt                          under a minute
   make pages           its part on pages: links, versions, widths, words, and so on        python3                     seconds
-  make gate            all proofs, tests and must-fail edits, then `make test`             rt                          90 minutes, later less
+  make gate            all proofs, tests and must-fail edits, then `make test`             rt                          1-3 hours, later less
   make minutes         the gate, and where its minutes and its memory go                   rt, python3                 as the gate
   make edits           must-fail edits, also those that the gate leaves out (CRATE)        rt, python3                 minutes a crate
   make refused         out of memory at each request that a test makes (CRATE)             rt, after the gate          seconds
