@@ -27,8 +27,8 @@ pub const SMALL: usize = CUT / 4;
 /// Returns whether a text can be cut at an offset that leaves both parts enough bytes: a character
 /// begins there, and the one before it is no carriage return.
 fn can_cut(text: &str, at: usize) -> bool
-    requires enough { SMALL ≤ at }
-    requires left { at + SMALL ≤ length text.now }
+    requires enough { 1024 ≤ at }
+    requires left { at + 1024 ≤ length text.now }
     ensures cut { IsTrue result → IsCut text.now at }
     ensures boundary { IsTrue result → IsCharBoundary text.now at }
 {
@@ -37,8 +37,8 @@ fn can_cut(text: &str, at: usize) -> bool
 
 /// Returns where a text can be cut at an offset or after it, in the middle of a line.
 fn cut_from(text: &str, first: usize) -> Option<usize>
-    requires enough { SMALL ≤ first }
-    requires left { SMALL ≤ length text.now }
+    requires enough { 1024 ≤ first }
+    requires left { 1024 ≤ length text.now }
     ensures cut { IfSome result (IsCut text.now) }
     ensures boundary { IfSome result (IsCharBoundary text.now) }
 {
@@ -52,9 +52,9 @@ fn cut_from(text: &str, first: usize) -> Option<usize>
 
 /// Returns the last line feed of the first `CUT` bytes.
 fn feed_of(bytes: &[u8]) -> Option<usize>
-    requires { CUT ≤ length bytes.now }
+    requires { 4096 ≤ length bytes.now }
     ensures feed { IfSome result (IsFeed bytes.now) }
-    ensures front { IfSome result (λ at. at < CUT) }
+    ensures front { IfSome result (λ at. at < 4096) }
 {
     let (front, _) = bytes.split_at(CUT);
     memrchr(b'\n', front)

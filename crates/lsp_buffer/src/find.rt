@@ -1,9 +1,10 @@
 //! The search for the block that a byte offset or a position is in.
-ghost use Rattle.std.specs.Prelude.{◌≡◌, ◌≤◌, ◌↔◌, IsTrue, length};
+ghost use Rattle.std.specs.Prelude.{◌≡◌, ◌≤◌, ◌↔◌, IsTrue, length, take};
 ghost use Rattle.std.specs.List.{concat};
-ghost use Rattle.lsp_buffer.specs.Blocks.{AreBlocks, IsTextBuffer};
+ghost use Rattle.lsp_buffer.specs.Blocks.{AreBlocks, IsTextBuffer, counts_of};
+ghost use Rattle.lsp_buffer.specs.declared.counts.Counts.{Counts};
 ghost use Rattle.lsp_buffer.specs.declared.find.Target.TheVariants.{Offset};
-ghost use Rattle.lsp_buffer.specs.inside.Parts.{BeginsBefore, IsFound, Reaches};
+ghost use Rattle.lsp_buffer.specs.inside.Parts.{BeginsBefore, IsFound, IsPassed, Reaches};
 
 use crate::block::Block;
 use crate::counts::Counts;
@@ -55,6 +56,80 @@ fn find_group(blocks: &[Block], groups: &[Counts], target: Target) -> Found
     Found { index, before }
 }
 
+/// A block, and how many bytes and line ends come before it.
+#[derive(Clone, Copy)]
+struct Passed {
+    index: usize,
+    len: u32,
+    ends: u32,
+}
+
+/// Returns whether what begins after so many bytes and line ends does so at the target or before
+/// it. In a position's own line it isn't sure.
+fn passes(target: Target, len: u32, ends: u32) -> bool
+    ensures { IsTrue result → (before : Counts) → before.len ≡ len → before.ends ≡ ends
+        → Reaches target before }
+{
+    match target {
+        Target::Offset(offset) => len as usize <= offset,
+        Target::Denoted(_, position) => ends < position.line,
+    }
+}
+
+/// Returns a block that begins at the target or before it, from one on that does: the last that
+/// bytes and line ends show.
+fn pass(blocks: &[Block], first: Found, target: Target) -> Passed
+    requires are { AreBlocks blocks.now }
+    requires size { length (concat blocks.now) ≤ 2147483648 }
+    requires first { BeginsBefore blocks.now target first }
+    ensures passed { IsPassed blocks.now target result.index result.len result.ends }
+    ensures order { first.index ≤ result.index }
+{
+    let mut len = first.before.len;
+    let mut ends = first.before.ends;
+    let last = blocks.len() - 1;
+    for index in first.index..last {
+        let counts = blocks[index].counts();
+        let next_len = len + counts.len;
+        let next_ends = ends + counts.ends;
+        if !passes(target, next_len, next_ends) {
+            return Passed { index, len, ends };
+        }
+        len = next_len;
+        ends = next_ends;
+    }
+    let index = last;
+    Passed { index, len, ends }
+}
+
+/// Returns what comes before a block that was passed to. Costs an addition for each block from the
+/// last line end on.
+fn before_of(blocks: &[Block], first: Found, target: Target, passed: Passed) -> Counts
+    requires are { AreBlocks blocks.now }
+    requires size { length (concat blocks.now) ≤ 2147483648 }
+    requires first { BeginsBefore blocks.now target first }
+    requires passed { IsPassed blocks.now target passed.index passed.len passed.ends }
+    requires order { first.index ≤ passed.index }
+    ensures { result ≡ counts_of (concat (take passed.index blocks.now)) }
+{
+    let mut from = passed.index;
+    let mut tail = Counts::none();
+    while from > first.index && tail.ends == 0 {
+        from -= 1;
+        tail = blocks[from].counts().plus(tail);
+    }
+    if tail.ends == 0 {
+        return first.before.plus(tail);
+    }
+    Counts {
+        len: passed.len,
+        ends: passed.ends,
+        utf8: tail.utf8,
+        utf16: tail.utf16,
+        utf32: tail.utf32,
+    }
+}
+
 /// Returns the last block that begins at the target or before it, from one on that does.
 fn find_from(blocks: &[Block], first: Found, target: Target) -> Found
     requires are { AreBlocks blocks.now }
@@ -62,9 +137,10 @@ fn find_from(blocks: &[Block], first: Found, target: Target) -> Found
     requires first { BeginsBefore blocks.now target first }
     ensures { IsFound blocks.now target result }
 {
+    let passed = pass(blocks, first, target);
+    let mut before = before_of(blocks, first, target, passed);
     let last = blocks.len() - 1;
-    let mut before = first.before;
-    for index in first.index..last {
+    for index in passed.index..last {
         let next = before.plus(blocks[index].counts());
         if !reaches(target, next) {
             return Found { index, before };
@@ -78,7 +154,7 @@ fn find_from(blocks: &[Block], first: Found, target: Target) -> Found
 }
 
 /// Returns the last block that begins at the target or before it. Costs an addition for each group
-/// before it, and one for each block before it in its group.
+/// before it, and for each block before it in its group one of bytes and line ends.
 pub fn find(blocks: &[Block], groups: &[Counts], target: Target) -> Found
     requires { IsTextBuffer blocks.now groups.now }
     ensures { IsFound blocks.now target result }

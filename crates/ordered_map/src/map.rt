@@ -88,7 +88,7 @@ impl<V> OrderedMap<V> {
     pub fn slots(&self) -> usize
         ensures slots { result ≡ self.now.slots }
         ensures all { length self.now.entries ≤ result }
-        ensures few { result ≤ 2 * length self.now.entries + MAX_VACANT }
+        ensures few { result ≤ 2 * length self.now.entries + 64 }
     {
         self.slots.len()
     }

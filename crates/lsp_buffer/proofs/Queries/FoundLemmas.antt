@@ -1,10 +1,10 @@
 -- The block that is found for a byte offset or a position, and what it says of the text.
-use Rattle.lsp_buffer.proofs.Prelude.{ℕ, ◌≡◌, ◌+◌, ◌-◌, ◌*◌, ◌<◌, ◌≤◌, ◌⊎◌, false, List, [], ◌++◌, length, take, drop, get_or, Option, option_map, ⊎_elim, inl, inr, refl, sym, ap, ◌∙◌, arith, subst, concat, chars, IsUtf8, IsCharBoundary, cases_lt, append-nil, drop_all, length-append, length-drop, get_or_default, take_at, encodes-chars, length-le-encodes, IsUtf8-from_is_utf8, Position, Encoding, Utf8, Utf16, Utf32, place_of, line_ends, line_at, line_start, splits_crlf, IsPlace, units_in, units_between, exact_position, denoted, place_one, units_total, Counts, Found, Denoted, Offset, AreBlocks, IsFull, IsTextBuffer, carried, block_ends, counts_of, head_of, HaveRoom, counts_sum, head_in, AreThree, BeginsBefore, IsFound, IsPart, IsPartAt, Reaches, IsAtOrAfter, IsBefore, position_after, position_from, common_steps}
+use Rattle.lsp_buffer.proofs.Prelude.{ℕ, zero, suc, ◌≡◌, ◌+◌, ◌-◌, ◌*◌, ◌<◌, ◌≤◌, ◌⊎◌, false, List, [], ◌∷◌, ◌++◌, length, take, drop, get_or, Option, option_map, ⊎_elim, inl, inr, refl, sym, ap, ap₂, ◌∙◌, arith, subst, concat, chars, IsUtf8, IsCharBoundary, cases_lt, append-nil, drop_all, drop_more, length-append, length-drop, get_or_default, take_at, encodes-chars, length-le-encodes, IsUtf8-from_is_utf8, Position, Encoding, Utf8, Utf16, Utf32, place_of, line_ends, line_at, line_start, splits_crlf, IsPlace, units_in, units_between, exact_position, denoted, place_one, units_total, Counts, Found, Denoted, Offset, AreBlocks, AreFull, IsFull, IsTextBuffer, carried, block_ends, counts_of, head_of, IsPassed, HaveRoom, counts_sum, head_in, AreThree, BeginsBefore, IsFound, IsPart, IsPartAt, Reaches, IsAtOrAfter, IsBefore, position_after, position_from, common_steps}
 use Rattle.lsp_text.proofs.Positions.ExactLemmas.{line_low}
 use Rattle.lsp_text.specs.laws.Units.{utf8_bounds, utf16_bounds, utf32_bounds}
 use Rattle.lsp_buffer.specs.declared.find.Target.{Target}
 use Rattle.lsp_buffer.proofs.Blocks.BlockLemmas.{IsSplit, blocks_some, blocks_utf8, full_closes, full_utf8, split, split_text}
-use Rattle.lsp_buffer.proofs.Blocks.CountLemmas.{are_sum, ends_both, have_room, head_both, none_count, room_more, room_some, sum_more, sum_some}
+use Rattle.lsp_buffer.proofs.Blocks.CountLemmas.{are_sum, ends_both, have_room, head_both, none_count, room_more, room_some, some_full, some_low, sum_more, sum_some}
 use Rattle.lsp_buffer.proofs.Blocks.CutLemmas.{concat_more}
 use Rattle.lsp_buffer.proofs.Blocks.PartLemmas.{resolved_three, inner_index, exact_three, boundary_in, carried_low, drop_three}
 use Rattle.std.proofs.lemmas.Grind.{common_steps}
@@ -107,6 +107,125 @@ module _ (blocks : List (List ℕ)) (are : AreBlocks blocks) (size : length (con
     last = λ _ reaches. never (subst (Reaches target) (sym (next_counts next next_is)) reaches);
   }
 
+-- ---- what bytes and line ends alone show
+
+-- The counts that are known of what comes before a block.
+pub passed_begins : (blocks : List (List ℕ)) (target : Target) (index len ends : ℕ)
+    → IsPassed blocks target index len ends
+    → BeginsBefore blocks target (record { index = index; before = counts_of (concat (take index blocks)) })
+passed_begins blocks target index len ends is = record { within = is.within; before = refl; low = is.low }
+
+pub passed_first : (blocks : List (List ℕ)) (target : Target) (first : Found) → BeginsBefore blocks target first
+    → IsPassed blocks target first.index first.before.len first.before.ends
+passed_first blocks target first begins = record {
+  within = begins.within;
+  low = subst (Reaches target) begins.before begins.low;
+  len_is = ap (λ (c : Counts). c.len) begins.before;
+  ends_are = ap (λ (c : Counts). c.ends) begins.before;
+}
+
+module _ (blocks : List (List ℕ)) (are : AreBlocks blocks) (size : length (concat blocks) ≤ 2147483648)
+    (target : Target) (index len ends : ℕ) (block : List ℕ) (counts : Counts) (more : index + 1 < length blocks)
+    (block_is : block ≡ get_or blocks index block) (counts_is : counts ≡ counts_of block)
+    (is : IsPassed blocks target index len ends) where
+  abbrev known : Counts
+  known = counts_of (concat (take index blocks))
+
+  pub passed_room : HaveRoom known counts
+  passed_room = block_room blocks are size target index block counts known more block_is counts_is
+      (passed_begins blocks target index len ends is)
+
+  pub passed_next : (next_len next_ends : ℕ) → next_len ≡ len + counts.len → next_ends ≡ ends + counts.ends
+      → ((before : Counts) → before.len ≡ next_len → before.ends ≡ next_ends → Reaches target before)
+      → IsPassed blocks target (index + 1) next_len next_ends
+  passed_next next_len next_ends len_is ends_are reaches =
+      let sum : counts_sum known counts ≡ counts_of (concat (take (index + 1) blocks))
+      = next_counts blocks are size target index block counts known more block_is counts_is
+      (passed_begins blocks target index len ends is) (counts_sum known counts) refl in
+      let bytes : len + counts.len ≡ next_len = sym len_is in
+      record {
+        within = more;
+        low = subst (Reaches target) sum (reaches (counts_sum known counts) (omega (arith, is.len_is, len_is))
+            (omega (arith, is.ends_are, ends_are)));
+        len_is = omega (arith, len_is, is.len_is, ap (λ (c : Counts). c.len) sum);
+        ends_are = omega (arith, ends_are, is.ends_are, ap (λ (c : Counts). c.ends) sum);
+      }
+
+-- The counts of some blocks, with one more in front of them.
+module _ (blocks : List (List ℕ)) (are : AreBlocks blocks) (size : length (concat blocks) ≤ 2147483648)
+    (from next index : ℕ) (step : from + 1 ≡ next) (order : next ≤ index) (within : index < length blocks)
+    (block : List ℕ) (counts tail : Counts) (block_is : block ≡ get_or blocks from block)
+    (counts_is : counts ≡ counts_of block)
+    (tail_is : tail ≡ counts_of (concat (take (index - next) (drop next blocks)))) where
+  abbrev rest : List (List ℕ)
+  rest = take (index - next) (drop next blocks)
+
+  row : take (index - from) (drop from blocks) ≡ block ∷ rest
+  row =
+      let n : index - from ≡ suc (index - next) = omega arith in
+      rw n (ap (take (suc (index - next))) (drop_more blocks from block (omega arith)
+      ∙ ap₂ (λ (b : List ℕ) (m : ℕ). b ∷ drop m blocks) (sym block_is) step))
+
+  all : from + (index - from) ≡ index
+  all = omega arith
+
+  row_full : AreFull (block ∷ rest)
+  row_full = subst AreFull row (some_full blocks are from (index - from) (omega (arith, all)))
+
+  block_utf8 : IsUtf8 block
+  block_utf8 = IsUtf8-from_is_utf8 block row_full.0.utf8
+
+  pub tail_room : HaveRoom counts tail
+  tail_room = have_room block (concat rest) counts tail counts_is tail_is block_utf8 (full_utf8 rest row_full.1)
+      (omega (
+        arith,
+        some_low blocks are from (index - from) (omega (arith, all)),
+        ap (λ (bs : List (List ℕ)). length (concat bs)) row,
+        length-append block (concat rest),
+        size,
+      ))
+
+  pub tail_more : (sum : Counts) → sum ≡ counts_sum counts tail
+      → sum ≡ counts_of (concat (take (index - from) (drop from blocks)))
+  tail_more sum is = are_sum block (concat rest) counts tail counts_is tail_is sum block_utf8 (inr row_full.0.ends) is
+      ∙ ap (λ (bs : List (List ℕ)). counts_of (concat bs)) (sym row)
+
+carried_none : (ends head own : ℕ) → (ends ≡ 0 → ⊥) → own ≡ carried ends head + own
+carried_none zero head own some = absurd (some refl)
+carried_none (suc ends) head own some = omega arith
+
+-- What comes before a block is the counts before some blocks and those of these. What comes before a line end doesn't
+-- count for heads.
+module _ (blocks : List (List ℕ)) (are : AreBlocks blocks) (from index : ℕ) (order : from ≤ index)
+    (within : index < length blocks) (tail : Counts)
+    (tail_is : tail ≡ counts_of (concat (take (index - from) (drop from blocks)))) where
+  ends_at : from + (index - from) ≡ index
+  ends_at = omega arith
+
+  module _ (before : Counts) (before_is : before ≡ counts_of (concat (take from blocks))) where
+    pub whole_room : length (concat blocks) ≤ 2147483648 → HaveRoom before tail
+    whole_room = room_some blocks are from (index - from) (omega (arith, ends_at)) before tail before_is tail_is
+
+    pub whole_sum : (sum : Counts) → sum ≡ counts_sum before tail → sum ≡ counts_of (concat (take index blocks))
+    whole_sum sum is = sum_some blocks are from (index - from) (omega (arith, ends_at)) before tail before_is
+        tail_is sum is
+        ∙ ap (λ (n : ℕ). counts_of (concat (take n blocks))) ends_at
+
+  pub tail_heads : (tail.ends ≡ 0 → ⊥) → (target : Target) (len ends : ℕ) → IsPassed blocks target index len ends
+      → ◌≡◌ {A = Counts} (record { len = len; ends = ends; utf8 = tail.utf8; utf16 = tail.utf16; utf32 = tail.utf32 })
+      (counts_of (concat (take index blocks)))
+  tail_heads some target len ends is =
+      let front : Counts = counts_of (concat (take from blocks)) in
+      let sum : counts_sum front tail ≡ counts_of (concat (take index blocks)) = whole_sum front refl
+      (counts_sum front tail) refl in
+      λ i. record {
+        len = is.len_is i;
+        ends = is.ends_are i;
+        utf8 = (carried_none tail.ends front.utf8 tail.utf8 some ∙ ap (λ (c : Counts). c.utf8) sum) i;
+        utf16 = (carried_none tail.ends front.utf16 tail.utf16 some ∙ ap (λ (c : Counts). c.utf16) sum) i;
+        utf32 = (carried_none tail.ends front.utf32 tail.utf32 some ∙ ap (λ (c : Counts). c.utf32) sum) i;
+      }
+
 pub same_found : (blocks : List (List ℕ)) (place : ℕ) (found : Found) (block : List ℕ)
     → BeginsBefore blocks (Offset place) found → block ≡ get_or blocks found.index block
     → place - found.before.len < length block → IsFound blocks (Offset place) found
@@ -142,7 +261,8 @@ module _ (blocks : List (List ℕ)) (are : AreBlocks blocks) (index : ℕ) (bloc
     after =
         ⊎_elim
         (λ (e : drop (index + 1) blocks ≡ []). inl (ap concat e))
-        (λ (e : IsFull (get_or blocks index []) × AreBlocks (drop (index + 1) blocks)). grind (arith, common_steps, inr))
+        (λ (e : IsFull (get_or blocks index []) × AreBlocks (drop (index + 1) blocks)). grind
+        (arith, common_steps, inr))
         parts.after;
   }
 
@@ -236,7 +356,18 @@ module _ (bytes front block rest : List ℕ) (before : Counts) (encoding : Encod
         (λ (e : rest ≡ []). inl e)
         (λ (never : Reaches (Denoted encoding p) (counts_of (front ++ block)) → ⊥).
         inr (before_after before.ends (head_in before encoding) (block_ends block) (head_of (units_in encoding) block) p
-        part.low (grind (arith, common_steps, not_after, block_ends, head_in, head_of, units_in, counts_of, ends_next, units_next))))
+        part.low (grind (
+          arith,
+          common_steps,
+          not_after,
+          block_ends,
+          head_in,
+          head_of,
+          units_in,
+          counts_of,
+          ends_next,
+          units_next,
+        ))))
         part.last;
   }
 

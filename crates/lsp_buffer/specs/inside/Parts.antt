@@ -6,7 +6,7 @@ use Rattle.lsp_buffer.specs.declared.counts.Counts.{Counts}
 use Rattle.lsp_buffer.specs.declared.find.Found.{Found}
 use Rattle.lsp_buffer.specs.declared.find.Target.{Target}
 use Rattle.lsp_buffer.specs.declared.find.Target.TheVariants.{Denoted, Offset}
-use Rattle.lsp_buffer.specs.Blocks.{EndsClear, counts_of}
+use Rattle.lsp_buffer.specs.Blocks.{EndsClear, block_ends, counts_of}
 use Rattle.lsp_buffer.specs.inside.Counts.{head_in}
 use Rattle.lsp_buffer.specs.inside.Seams.{IsAtOrAfter}
 
@@ -37,6 +37,13 @@ pub record BeginsBefore (blocks : List (List ℕ)) (target : Target) (found : Fo
   pub within : found.index < length blocks
   pub before : found.before ≡ counts_of (concat (take found.index blocks))
   pub low : Reaches target found.before
+
+-- A block that begins at the target or before it, and how many bytes and line ends come before it.
+pub record IsPassed (blocks : List (List ℕ)) (target : Target) (index len ends : ℕ) : Type 0 where
+  pub within : index < length blocks
+  pub low : Reaches target (counts_of (concat (take index blocks)))
+  pub len_is : len ≡ length (concat (take index blocks))
+  pub ends_are : ends ≡ block_ends (concat (take index blocks))
 
 -- The last block that begins at the target or before it.
 pub record IsFound (blocks : List (List ℕ)) (target : Target) (found : Found) : Type 0 where

@@ -47,7 +47,7 @@ pub fn range_of(blocks: &[Block], groups: &[Counts], start: usize, end: usize) -
 /// Returns whether a block is short enough to take a new text in.
 fn fits(block: &Block, new: &str) -> bool
     requires { length block.now ≤ 2147483648 }
-    ensures { IsTrue result ↔ length block.now + length new.now ≤ 2 * CUT }
+    ensures { IsTrue result ↔ length block.now + length new.now ≤ 8192 }
 {
     block.len() + new.len() <= 2 * CUT
 }

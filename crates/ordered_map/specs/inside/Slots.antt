@@ -2,7 +2,6 @@
 use Rattle.std.specs.Prelude.{ℕ, ◌≡◌, ◌+◌, ◌-◌, ◌*◌, ◌/◌, ◌<◌, ◌≤◌, ◌++◌, if◌then◌else◌, nat_lt, zero, suc, Bool, true, false, List, [], ◌∷◌, length, filter_map, get_or, set, slice_get, slice_index, Option, Some, None, String}
 use Rattle.std.specs.declared.alloc.Global.{Global}
 use Rattle.ordered_map.specs.Entries.{is_key}
-use Rattle.ordered_map.specs.declared.map.TheConstants.{MAX_VACANT}
 
 -- No other slot has a key with these bytes.
 pub record IsOnly {V : Type 0} (bytes : List ℕ) (slots : List (String Global × Option V))
@@ -64,7 +63,7 @@ module _ {X : Type 0} where
     pub counted : AreCounted items counts
     pub live_is : live ≡ length (somes items)
     -- Few more slots are vacant than have an item.
-    pub few : length items ≤ 2 * live + MAX_VACANT
+    pub few : length items ≤ 2 * live + 64
 
 -- The counts, once a slot after so many has an item.
 abbrev pub counted_last : List ℕ → ℕ → List ℕ
