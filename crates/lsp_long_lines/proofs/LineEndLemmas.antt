@@ -12,7 +12,7 @@ use Rattle.lsp_text.specs.Units.{units_in, units_between}
 use Rattle.lsp_text.specs.Positions.{denoted}
 use Rattle.lsp_text.proofs.TextLines.LineLemmas.{in_content_line, line_has_stop}
 use Rattle.lsp_text.proofs.Positions.PastLemmas.{past_line}
-use Rattle.lsp_text.proofs.PlainLemmas.{units_total}
+use Rattle.lsp_text.proofs.Counting.TotalLemmas.{units_total}
 use Rattle.lsp_long_lines.specs.LongLines.{is_long, line_end, over_limit}
 use Rattle.std.proofs.lemmas.Grind.{common_steps}
 

@@ -2,3 +2,4 @@
 pub mod UnitLemmas
 pub mod LeadLemmas
 pub mod BlockLemmas
+pub mod TotalLemmas

@@ -18,8 +18,6 @@
 //! - `position`, `encoding`, `units`: a position as the protocol writes it, and how many units a
 //!   character has.
 //! - `starts`: the line of a byte offset, by a binary search whose steps are counted.
-//! - `plain`: the definitions as a plain and slow program over characters. Tests compare `Lines`
-//!   with it.
 //! - `laws`: what follows from the definitions alone. These are in `specs/`: `Text`, `TextLines`,
 //!   `Units`, `Positions`, in this order.
 #![tactic(auto)]
@@ -27,7 +25,6 @@
 mod encoding;
 mod laws;
 mod lines;
-pub mod plain;
 mod position;
 
 pub use encoding::{Encoding, UnknownEncoding};

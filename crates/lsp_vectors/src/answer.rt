@@ -1,17 +1,14 @@
 //! What the changes of a message and a list of text edits mean.
 
-ghost use Rattle.std.specs.Prelude.{◌≤◌, IfErr, IfOk, MatchResult, length, map, string_len, sum_by};
+ghost use Rattle.std.specs.Prelude.{◌≤◌, IfErr, IfOk, length, map, string_len, sum_by};
 ghost use Rattle.std.specs.Str.{chars};
 ghost use Rattle.lsp_text.specs.Units.{units_in};
-ghost use Rattle.lsp_edit.specs.Batch.{meaning};
 ghost use Rattle.lsp_edit.specs.Edited.{content_change};
-ghost use Rattle.lsp_edit.specs.Faults.{IsFaultOfChanges};
 ghost use Rattle.lsp_edit.specs.TextEdits.{IsBatchOfEdits, IsEditsFault};
 ghost use Rattle.lsp_vectors.specs.inside.Answer.{IsLeft};
 
-use lsp_edit::plain::compose;
 use lsp_edit::{
-    Change, EditFault, IndexedText, MAX_NEW_TEXT, MAX_OLD_TEXT, TextEdit, TextEditFault,
+    BatchFault, Change, IndexedText, MAX_NEW_TEXT, MAX_OLD_TEXT, TextEdit, TextEditFault,
 };
 use lsp_text::Encoding;
 use std::alloc::Global;
@@ -23,23 +20,23 @@ pub struct Left {
     pub canonical: Vec<Change>,
 }
 
-/// Applies the changes of a message by the plain program of the definitions.
+/// Applies the changes of a message to a text.
 pub fn left_by_changes(
     alloc: Global,
     text: &str,
     encoding: Encoding,
     changes: &[Change],
-) -> Result<Left, EditFault>
+) -> Result<Left, BatchFault>
     requires size { length text.now ≤ MAX_OLD_TEXT }
     requires fits { sum_by (λ change. string_len change.text) changes.now ≤ MAX_NEW_TEXT }
-    ensures { MatchResult result
-        (IsLeft (units_in encoding) text.now (map content_change changes.now))
-        (IsFaultOfChanges
-        (meaning (units_in encoding) (chars text.now) (map content_change changes.now))) }
+    ensures ok { IfOk result
+        (IsLeft (units_in encoding) text.now (map content_change changes.now)) }
 {
-    let plain = compose(alloc, text, encoding, changes)?;
-    let text = plain.text()?;
-    let canonical = plain.canonical(encoding)?;
+    let mut kept = IndexedText::new(alloc, String::from_str(alloc, text)?)?;
+    let delta = kept.delta(encoding, changes, usize::MAX)?;
+    let canonical = delta.canonical(alloc, &kept)?;
+    kept.apply(delta)?;
+    let text = kept.text().to_string(alloc)?;
     Ok(Left { text, canonical })
 }
 

@@ -1,32 +1,29 @@
 //! Cases of each kind, and what they mean as a value of JSON.
 
-ghost use Rattle.std.specs.Prelude.{◌≤◌, length, string_len, sum_by};
-
-use crate::answer::{Left, batch_of_edits, left_by_changes};
-use crate::beside::{Alike, agree, left_by_joining, left_by_kept_text, positions_alike};
+use crate::answer::{batch_of_edits, left_by_changes};
 use crate::fault::{edits_refused, invalid, refused};
 use crate::frames::frames_expected;
 use crate::offsets::offsets_of;
 use crate::session::session_expected;
 use crate::written::left_value;
 use anyhow::{Context, Result, bail};
-use lsp_edit::{Change, EditFault, MAX_NEW_TEXT, MAX_OLD_TEXT, TextEdit, fits};
+use lsp_edit::{Change, MAX_OLD_TEXT, TextEdit, fits};
 use lsp_message::{ParamsFault, params_change};
 use lsp_text::Encoding;
 use serde_json::{Map, Value, json};
 use std::alloc::Global;
 
-/// Returns what a case means, and counts what the programs agree on.
-pub fn expected(alloc: Global, case: Value, alike: &mut Alike) -> Result<Value> {
+/// Returns what a case means.
+pub fn expected(alloc: Global, case: Value) -> Result<Value> {
     let Value::Object(mut members) = case else {
         bail!("a case is an object");
     };
     if let Some(changes) = members.remove("changes") {
-        let expect = message_expected(alloc, &members, changes, alike)?;
+        let expect = message_expected(alloc, &members, changes)?;
         return with_offsets(alloc, &members, expect);
     }
     if let Some(edits) = members.remove("edits") {
-        return edits_expected(alloc, &members, edits, alike);
+        return edits_expected(alloc, &members, edits);
     }
     if let Some(messages) = members.remove("messages") {
         return session_expected(alloc, encoding_in(&members)?, messages);
@@ -35,17 +32,12 @@ pub fn expected(alloc: Global, case: Value, alike: &mut Alike) -> Result<Value> 
 }
 
 /// Returns what a message leaves of a text.
-fn message_expected(
-    alloc: Global,
-    members: &Map<String, Value>,
-    changes: Value,
-    alike: &mut Alike,
-) -> Result<Value> {
+fn message_expected(alloc: Global, members: &Map<String, Value>, changes: Value) -> Result<Value> {
     let Some(changes) = changes_in(alloc, changes)? else {
         return invalid(alloc);
     };
     let (text, encoding) = (text_in(members, "text")?, encoding_in(members)?);
-    changes_expected(alloc, text, encoding, &changes, alike)
+    changes_expected(alloc, text, encoding, &changes)
 }
 
 /// Reads the changes of a message. There are none if a number or the shape is wrong.
@@ -82,50 +74,18 @@ fn changes_expected(
     text: &str,
     encoding: Encoding,
     changes: &[Change],
-    alike: &mut Alike,
 ) -> Result<Value> {
     if text.len() > MAX_OLD_TEXT || !fits(changes) {
         bail!("a case is too long");
     }
-    let left = left_by_changes(alloc, text, encoding, changes);
-    let positions = compare_programs(alloc, text, encoding, changes, &left)?;
-    alike.messages = alike.messages.saturating_add(1);
-    alike.positions = alike.positions.saturating_add(positions);
-    match left {
+    match left_by_changes(alloc, text, encoding, changes) {
         Ok(left) => left_value(alloc, left),
         Err(fault) => refused(alloc, fault),
     }
 }
 
-/// Fails if a kept text, joined batches or known lines say otherwise than the plain program.
-/// Returns how many positions were compared.
-fn compare_programs(
-    alloc: Global,
-    text: &str,
-    encoding: Encoding,
-    changes: &[Change],
-    left: &Result<Left, EditFault>,
-) -> Result<u64>
-    requires size { length text.now ≤ MAX_OLD_TEXT }
-    requires fits { sum_by (λ change. string_len change.text) changes.now ≤ MAX_NEW_TEXT }
-{
-    if !agree(left, &left_by_kept_text(alloc, text, encoding, changes)) {
-        bail!("a kept text differs from the plain program");
-    }
-    if left.is_ok() && !agree(left, &left_by_joining(alloc, text, encoding, changes)) {
-        bail!("joined batches differ from the plain program");
-    }
-    let positions = positions_alike(alloc, text, encoding)?;
-    Ok(positions.context("known lines differ from the plain program")?)
-}
-
 /// Returns what text edits leave of a text.
-fn edits_expected(
-    alloc: Global,
-    members: &Map<String, Value>,
-    edits: Value,
-    alike: &mut Alike,
-) -> Result<Value> {
+fn edits_expected(alloc: Global, members: &Map<String, Value>, edits: Value) -> Result<Value> {
     let text = text_in(members, "text")?;
     let encoding = encoding_in(members)?;
     let Some(edits) = edits_in(alloc, edits)? else {
@@ -135,7 +95,7 @@ fn edits_expected(
         bail!("a case is too long");
     }
     match batch_of_edits(alloc, text, encoding, &edits) {
-        Ok(batch) => changes_expected(alloc, text, encoding, &batch, alike),
+        Ok(batch) => changes_expected(alloc, text, encoding, &batch),
         Err(fault) => edits_refused(alloc, fault),
     }
 }

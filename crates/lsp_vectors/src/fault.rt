@@ -1,7 +1,7 @@
 //! Why a case has no meaning, as a value of JSON.
 
 use anyhow::{Result, bail};
-use lsp_edit::{EditFault, Side, TextEditFault};
+use lsp_edit::{BatchFault, EditFault, Side, TextEditFault};
 use lsp_store::StoreFault;
 use serde_json::{Value, json};
 use std::alloc::Global;
@@ -16,7 +16,16 @@ const REVERSED: &str = "reversed-range";
 const OVERLAP: &str = "overlap";
 
 /// Returns why a message has no result.
-pub fn refused(alloc: Global, fault: EditFault) -> Result<Value> {
+pub fn refused(alloc: Global, fault: BatchFault) -> Result<Value> {
+    match fault {
+        BatchFault::Edit(fault) => edit_refused(alloc, fault),
+        BatchFault::TooLong => bail!("a case is too long"),
+        BatchFault::NoMemory => bail!("out of memory"),
+    }
+}
+
+/// Returns which of its changes has no result.
+fn edit_refused(alloc: Global, fault: EditFault) -> Result<Value> {
     match fault {
         EditFault::InsideCharacter { change, side } => {
             let end = end_of(side);

@@ -1,7 +1,5 @@
 //! Writes conformance vectors: cases of text synchronisation with what they mean by the proved
-//! programs of `lsp_text`, `lsp_edit`, `lsp_store` and `lsp_frame`. Changes and text edits are
-//! applied by the plain program of the definitions, then by those that a server uses; it stops where
-//! the two differ.
+//! programs of `lsp_text`, `lsp_edit`, `lsp_store` and `lsp_frame`.
 //!
 //! A case is a line of JSON, an object of one of four kinds. Its member `changes` is the content of
 //! one `textDocument/didChange`, `edits` a list of text edits, `messages` several messages in a
@@ -10,12 +8,10 @@
 //! already is dropped, and computed anew.
 //!
 //! Without arguments the cases of standard input are written with their meanings. Each argument
-//! names a file of vectors; of those the lines are written that are not as computed, and how many,
-//! and on how many messages and positions the programs agreed.
+//! names a file of vectors; of those the lines are written that are not as computed, and how many.
 //!
 //! - `case`: cases of each kind, and what they mean.
-//! - `answer`: what changes and text edits mean; of changes by the plain program.
-//! - `beside`: the same by the programs that a server uses.
+//! - `answer`: what changes and text edits mean.
 //! - `session`: several messages in a row, and the documents after them.
 //! - `frames`: the frames of a stream.
 //! - `offsets`: the byte offsets of positions.
@@ -24,7 +20,6 @@
 #![tactic(auto)]
 
 mod answer;
-mod beside;
 mod case;
 mod fault;
 mod frames;
@@ -32,7 +27,6 @@ mod offsets;
 mod session;
 mod written;
 
-use crate::beside::Alike;
 use crate::case::expected;
 use anyhow::{Context, Result};
 use serde_json::Value;
@@ -50,9 +44,8 @@ fn main(rt: HostRuntime) -> Result<()> {
     let paths: Vec<String> = env::args(&rt)?.collect(alloc)?;
     if paths.len() < 2 {
         let input = BufReader::new(alloc, rt.stdin())?;
-        let mut alike = Alike::default();
         for line in input.lines(alloc) {
-            writeln!(output, "{}", complete(alloc, &line?, &mut alike)?)?;
+            writeln!(output, "{}", complete(alloc, &line?)?)?;
         }
     }
     for path in paths.iter().skip(1) {
@@ -62,17 +55,15 @@ fn main(rt: HostRuntime) -> Result<()> {
     Ok(())
 }
 
-/// Writes the lines of a file that are not as computed, as they should be, and how many there are;
-/// then how much was compared.
+/// Writes the lines of a file that are not as computed, as they should be, and how many there are.
 fn compare<W: Write>(rt: &HostRuntime, path: &str, output: &mut W) -> Result<()> {
     let alloc = rt.alloc();
     let input = BufReader::new(alloc, File::open(rt, path)?)?;
     let mut lines = 0u64;
     let mut wrong = 0u64;
-    let mut alike = Alike::default();
     for line in input.lines(alloc) {
         let line = line?;
-        let computed = complete(alloc, &line, &mut alike)?;
+        let computed = complete(alloc, &line)?;
         lines = lines.saturating_add(1);
         if computed != line {
             wrong = wrong.saturating_add(1);
@@ -80,19 +71,14 @@ fn compare<W: Write>(rt: &HostRuntime, path: &str, output: &mut W) -> Result<()>
         }
     }
     writeln!(output, "{path}: {lines} cases, {wrong} not as computed")?;
-    let Alike {
-        messages,
-        positions,
-    } = alike;
-    writeln!(output, "alike: {messages} messages, {positions} positions")?;
     Ok(())
 }
 
 /// Returns the line of a case with what it means.
-fn complete(alloc: Global, line: &str, alike: &mut Alike) -> Result<String> {
+fn complete(alloc: Global, line: &str) -> Result<String> {
     let input = input_of(line).context("a case is an object")?;
     let case = Value::from_str(alloc, &format!(in alloc; "{input}}}")?)?;
-    let expect = expected(alloc, case, alike)?.to_string(alloc)?;
+    let expect = expected(alloc, case)?.to_string(alloc)?;
     Ok(format!(in alloc; "{input}{MARK}{expect}}}")?)
 }
 

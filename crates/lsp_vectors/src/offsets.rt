@@ -1,12 +1,10 @@
-//! The byte offsets of the positions that a case names, by the plain program.
+//! The byte offsets of the positions that a case names.
 
 ghost use Rattle.std.specs.Prelude.{◌≤◌, length};
 
-use crate::beside::characters;
 use anyhow::{Context, Result};
 use lsp_edit::MAX_OLD_TEXT;
-use lsp_text::plain::resolved;
-use lsp_text::{Encoding, Position};
+use lsp_text::{Encoding, Lines, Position};
 use serde_json::{Value, json};
 use std::alloc::Global;
 
@@ -14,13 +12,13 @@ use std::alloc::Global;
 pub fn offsets_of(alloc: Global, text: &str, encoding: Encoding, positions: &Value) -> Result<Value>
     requires { length text.now ≤ MAX_OLD_TEXT }
 {
-    let characters = characters(alloc, text)?;
+    let lines = Lines::new(alloc, text)?;
     let mut offsets = Vec::new(alloc);
     for position in positions.as_array().context("positions are a list")? {
         let position = position_of(position).context("an item is no position")?;
-        match resolved(&characters, encoding, position) {
-            Some(offset) => offsets.push(json!(in alloc; offset)?)?,
-            None => offsets.push(Value::Null)?,
+        match lines.resolve(text, encoding, position) {
+            Ok(offset) => offsets.push(json!(in alloc; offset)?)?,
+            Err(_) => offsets.push(Value::Null)?,
         }
     }
     Ok(Value::Array(offsets))

@@ -2,7 +2,6 @@
 
 mod joined_batches;
 mod pieces;
-mod plain;
 mod text_edits;
 
 ghost use Rattle.std.specs.Prelude.{◌≡◌, IfOk};
@@ -123,16 +122,17 @@ fn refused_batches_leave_their_texts(rt: HostRuntime) -> Result<(), Fail> {
 }
 
 /// Makes a batch that deletes the first character of the first line, again and again, also when
-/// there is none left.
+/// there is none left. After each deletion it changes nothing at the end of the text.
 fn deletions(alloc: Global) -> Result<Vec<Change>, AllocError> {
     let mut changes = Vec::with_capacity(alloc, 2_048)?;
-    for _ in 0..2_048 {
+    for _ in 0..1_024 {
         changes.push(change(alloc, (0, 0, 0, 1, ""))?)?;
+        changes.push(change(alloc, (9, 0, 9, 0, ""))?)?;
     }
     Ok(changes)
 }
 
-/// Returns whether so many changes, which are composed in series, are one deletion.
+/// Returns whether so many changes to and fro, which are composed by halves, are one deletion.
 fn are_one_deletion(alloc: Global, refused: &mut usize) -> Result<bool, BatchFault> {
     let text = kept_again(alloc, "one\ntwo \u{1F600} three\n\nfour", refused)?;
     let changes = again!(refused, AllocError, deletions(alloc))?;
@@ -141,7 +141,7 @@ fn are_one_deletion(alloc: Global, refused: &mut usize) -> Result<bool, BatchFau
 }
 
 #[test]
-fn refused_canonical_in_series(rt: HostRuntime) -> Result<(), Fail> {
+fn refused_canonical_by_halves(rt: HostRuntime) -> Result<(), Fail> {
     let mut refused: usize = 0;
     assert!(rt; are_one_deletion(rt.alloc(), &mut refused)?);
     println!(rt; "refused {refused}")?;
