@@ -4,6 +4,5 @@ pub mod ComposeLemmas
 pub mod LawLemmas
 pub mod LocatedLemmas
 pub mod LocatedRowLemmas
-pub mod PlainLemmas
 pub mod DraftLemmas
 pub mod TextEditLemmas

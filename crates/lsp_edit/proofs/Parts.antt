@@ -9,4 +9,5 @@ pub mod PutLemmas
 pub mod MarkLemmas
 pub mod ThroughLemmas
 pub mod SpansLemmas
+pub mod SplitLemmas
 pub mod IndexLemmas

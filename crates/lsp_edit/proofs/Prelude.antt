@@ -28,7 +28,6 @@ pub use Rattle.lsp_edit.specs.Joined.{IsJoined, IsReached, JoinedData, joined_te
 pub use Rattle.lsp_edit.specs.Keeps.{Keeps}
 pub use Rattle.lsp_edit.specs.Layers.{AllOver, AreKept, IsOver, items_over, layer_parts, owned_parts}
 pub use Rattle.lsp_edit.specs.Parts.{AreParts, Ascend, IsApart, IsPartOf, NewPart, NoneEmpty, NoneTouch, OldPart, Part, bytes_in, bytes_of, index_of, items_in, items_of, new_parts, part_len, part_of, parts_of, touch}
-pub use Rattle.lsp_edit.specs.Plain.{ArePlain, item_of, items_in_order}
 pub use Rattle.lsp_edit.specs.TextEdits.{ComesBefore, EditsOverlap, HasRangeFault, IsBatchOfEdits, IsEditsFault, LocatedEdit, NoneOverlap, fault_of, is_taken_out, items_left, left_at, located, located_first, new_at}
 pub use Rattle.lsp_edit.specs.declared.change.Change.{Change}
 pub use Rattle.lsp_edit.specs.declared.fault.EditFault.{EditFault}
@@ -36,6 +35,7 @@ pub use Rattle.lsp_edit.specs.declared.fault.EditFault.TheVariants.{NoMemory, Re
 pub use Rattle.lsp_edit.specs.declared.indexed.fault.BatchFault.TheVariants.{TooLong}
 pub use Rattle.lsp_edit.specs.declared.joined.layer.Layer.{Layer}
 pub use Rattle.lsp_edit.specs.declared.pieces.span.Span.{Span}
+pub use Rattle.lsp_edit.specs.declared.pieces.split.SplitSpans.{SplitSpans}
 pub use Rattle.lsp_edit.specs.declared.text_edits.Placed.{Placed}
 pub use Rattle.lsp_edit.specs.declared.text_edits.TextEdit.{TextEdit}
 pub use Rattle.lsp_edit.specs.declared.text_edits.TextEditFault.{TextEditFault}
@@ -44,8 +44,9 @@ pub use Rattle.lsp_edit.specs.inside.Batch.{replaced}
 pub use Rattle.lsp_edit.specs.inside.Before.{text_before}
 pub use Rattle.lsp_edit.specs.inside.Faults.{HasRange, numbered}
 pub use Rattle.lsp_edit.specs.inside.Gaps.{change_at, gap_at, gap_between}
-pub use Rattle.lsp_edit.specs.inside.Layers.{AreSameItems, IsLayer}
-pub use Rattle.lsp_edit.specs.inside.Parts.{AreBefore, AreCut, AreOrdered, ArePassed, AreThrough, EndAfter, IsCutAt, IsFirstCut, IsMark, IsOrdered, IsThrough, back_part, back_parts, between_parts, first_front, front_part, front_parts, joined, put_first_back, put_part, put_parts, put_through, replaced_parts, span_len, through_part, through_parts, old_parts}
+pub use Rattle.lsp_edit.specs.inside.Layers.{AreSameItems, IsLayer, AreResolved}
+pub use Rattle.lsp_edit.specs.inside.Parts.{AreBefore, AreCut, AreOrdered, ArePassed, AreThrough, EndAfter, IsCutAt, IsFirstCut, IsMark, IsOrdered, IsThrough, back_part, back_parts, between_parts, first_front, front_part, front_parts, joined, put_first_back, put_part, put_parts, put_through, replaced_parts, span_len, through_part, through_parts, old_parts, put_between_parts}
+pub use Rattle.lsp_edit.specs.inside.Splits.{HasPassed, IsSplitAt, after_split, before_split, split_parts, spliced_parts}
 pub use Rattle.lsp_edit.specs.inside.Drafts.{BeginsAnew, IsAfter}
 pub use Rattle.lsp_edit.specs.inside.TextEdits.{AreApart, AreLeftByEdits, ArePlaced, DoOverlap, IsInOrder, Lies, located_after, located_of, parts_left}
 pub use Rattle.lsp_edit.specs.laws.Batches.{AllHaveExactEnds, CanonicalLaw, HasExactEnds, KeepsPairs, RangesStay}

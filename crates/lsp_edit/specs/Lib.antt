@@ -11,7 +11,6 @@ pub mod Indexed
 pub mod TextEdits
 pub mod Joined
 pub mod Delta
-pub mod Plain
 pub mod inside
 pub mod laws
 pub mod Layers

@@ -6,4 +6,5 @@ pub mod Drafts
 pub mod TextEdits
 pub mod Faults
 pub mod Parts
+pub mod Splits
 pub mod Layers

@@ -6,23 +6,27 @@
 //! two offsets. `apply` may run out of memory: to reserve first, each clause would have to show
 //! the room of two buffers.
 
-ghost use Rattle.std.specs.Prelude.{◌≡◌, ◌≤◌, IfOk, IfSome, List, Ok, length, map, string_bytes};
+ghost use Rattle.std.specs.Prelude.{◌≡◌, IfOk, List, Ok, length, map, string_bytes};
 ghost use Rattle.std.specs.List.{replace_range};
 ghost use Rattle.std.specs.Str.{chars};
 ghost use Rattle.lsp_text.specs.Units.{units_in};
 ghost use Rattle.lsp_edit.specs.Canonical.{canonical};
 ghost use Rattle.lsp_edit.specs.Layers.{layer_parts};
+ghost use Rattle.lsp_edit.specs.Parts.{parts_of};
 ghost use Rattle.lsp_edit.specs.inside.Layers.{IsLayer};
+ghost use Rattle.lsp_edit.specs.inside.Parts.{put_between_parts};
 ghost use Rattle.lsp_edit.specs.Edited.{content_change};
 ghost use Rattle.lsp_edit.specs.Items.{Item};
 ghost use Rattle.lsp_edit.specs.Delta.{IsOn, IsPut, bytes_after, delta_encoding, meant_by};
 
+mod spans;
+
 use crate::change::Change;
+use crate::delta::spans::spans_after;
 use crate::indexed::IndexedText;
 use crate::joined::layer::Layer;
-use crate::joined::{Joined, SERIES};
-use crate::pieces::Pieces;
-use crate::pieces::before::Before;
+use crate::pieces::canonical::canonical_of;
+use crate::pieces::span::{Span, push_new, push_old};
 use lsp_text::Encoding;
 use std::alloc::{AllocError, Global};
 
@@ -71,6 +75,33 @@ impl<'a> Put<'a> {
     {
         text.len() - (self.stop - self.start) + self.new.len()
     }
+
+    /// Returns the text that the replacement leaves of a text.
+    fn text(&self, alloc: Global, text: &IndexedText) -> Result<String, AllocError>
+        requires put { IsPut (units_in self.now.encoding) text.now self.now.start self.now.stop
+            self.now.new.now }
+        ensures { IfOk result (λ left. string_bytes left
+            ≡ replace_range text.now self.now.start self.now.stop self.now.new.now) }
+    {
+        let mut left = String::with_capacity(alloc, self.len_on(text))?;
+        let buffer = text.text();
+        buffer.push_range(&mut left, 0, self.start)?;
+        left.push_str(self.new)?;
+        buffer.push_range(&mut left, self.stop, text.len())?;
+        Ok(left)
+    }
+
+    /// Returns the replacement in a text of `len` bytes, in spans of it and the new text.
+    fn spans(&self, alloc: Global, len: usize) -> Result<Vec<Span<'a>>, AllocError>
+        ensures { IfOk result (λ spans. parts_of spans.items ≡ put_between_parts len self.now.start
+            self.now.stop self.now.new.now) }
+    {
+        let mut spans = Vec::with_capacity(alloc, 3)?;
+        push_old(&mut spans, 0, self.start)?;
+        push_new(&mut spans, self.new)?;
+        push_old(&mut spans, self.stop, len)?;
+        Ok(spans)
+    }
 }
 
 impl<'a> Delta<'a> {
@@ -103,34 +134,21 @@ impl<'a> Delta<'a> {
         ensures { IfOk result (λ left. string_bytes left ≡ bytes_after text.now self.now) }
     {
         match self {
-            Delta::Put(_) => self.pieces(alloc, text)?.text(),
+            Delta::Put(put) => put.text(alloc, text),
             Delta::Left(batch) => batch.text.text().to_string(alloc),
         }
     }
 
-    /// Returns the delta as pieces. Fails only where memory runs out. Costs the spans: no range is
-    /// resolved again.
-    fn pieces<'b>(&self, alloc: Global, text: &'b IndexedText) -> Result<Pieces<'b>, AllocError>
-    where
-        'a: 'b,
+    /// Returns the delta in spans of the text and of the changes' texts. Fails only where memory runs
+    /// out.
+    fn spans(&self, alloc: Global, text: &IndexedText) -> Result<Vec<Span<'a>>, AllocError>
         requires on { IsOn text.now self.now }
-        ensures before { IfOk result (λ pieces. pieces.edited.before ≡ chars text.now) }
-        ensures means { IfOk result (λ pieces. meant_by text.now self.now
-            ≡ Ok pieces.edited.items) }
+        ensures { IfOk result (λ spans. IsLayer (meant_by text.now self.now) text.now
+            (parts_of spans.items)) }
     {
-        let mut pieces = Pieces::begin(alloc, Before::Borrowed(text.text()))?;
         match self {
-            Delta::Put(put) => {
-                pieces.put(put.start, put.stop, put.new)?;
-                Ok(pieces)
-            }
-            Delta::Left(batch) => {
-                let changes = batch.changes;
-                for (index, change) in changes.iter().enumerate() {
-                    pieces.put_change(batch.ends[index], change)?;
-                }
-                Ok(pieces)
-            }
+            Delta::Put(put) => put.spans(alloc, text.len()),
+            Delta::Left(batch) => spans_after(alloc, text.len(), batch.changes, &batch.ends),
         }
     }
 
@@ -141,24 +159,8 @@ impl<'a> Delta<'a> {
         ensures { IfOk result (λ layer. IsLayer (meant_by text.now self.now) text.now
             (layer_parts layer)) }
     {
-        // States that the text is UTF-8.
-        let _ = text.len();
-        let pieces = self.pieces(alloc, text)?;
-        Layer::of_spans(alloc, 0, pieces.spans())
-    }
-
-    /// Joins the series of a long batch. Returns `None` for any other, and where that fails.
-    fn in_series(&self, alloc: Global, text: &IndexedText) -> Option<Joined>
-        requires on { IsOn text.now self.now }
-        ensures { IfSome result (λ joined. (joined.before ≡ text.now)
-            × (meant_by text.now self.now ≡ Ok joined.items)) }
-    {
-        match self {
-            Delta::Left(batch) if batch.changes.len() >= 2 * SERIES => {
-                Joined::of_batch(alloc, batch.encoding, text, batch.changes).ok()
-            }
-            _ => None,
-        }
+        let spans = self.spans(alloc, text)?;
+        Layer::of_spans(alloc, 0, &spans)
     }
 
     /// Returns the canonical batch, over the text that the delta was made of. It has one change for
@@ -166,17 +168,13 @@ impl<'a> Delta<'a> {
     ///
     /// Fails only where memory runs out. A range costs one exact position for each of its ends,
     /// and a copy of its new text. Any other batch costs its spans, and that for each changed gap.
-    /// Some hundred changes are resolved once more in series, each of which costs an
-    /// [`IndexedText::clone_in`].
     pub fn canonical(&self, alloc: Global, text: &IndexedText) -> Result<Vec<Change>, AllocError>
         requires on { IsOn text.now self.now }
         ensures { IfOk result (λ answered. (items : List Item) → meant_by text.now self.now
             ≡ Ok items → map content_change answered.items
             ≡ canonical (units_in (delta_encoding self.now)) (chars text.now) items) }
     {
-        match self.in_series(alloc, text) {
-            Some(joined) => joined.canonical(self.encoding()),
-            None => self.pieces(alloc, text)?.canonical(self.encoding()),
-        }
+        let spans = self.spans(alloc, text)?;
+        canonical_of(alloc, text.text(), &spans, self.encoding())
     }
 }

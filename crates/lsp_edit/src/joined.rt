@@ -1,10 +1,8 @@
 //! `Joined`, batches of changes on a text, one after another, as one.
 //!
 //! Batches are joined before a new one is added, so a join that fails leaves all as it was.
-//! 512 changes and more are composed in groups of 256: a change moves the spans of its group that
-//! follow it, some ten instructions each, and a level of joins costs less than 100 such moves.
 
-ghost use Rattle.std.specs.Prelude.{ℕ, ◌≡◌, ◌≤◌, List, IfOk, Ok, OnErr, OnOk, length, map, string_len, sum_by};
+ghost use Rattle.std.specs.Prelude.{ℕ, ◌≡◌, List, IfOk, Ok, OnErr, OnOk, map};
 ghost use Rattle.std.specs.Str.{chars};
 ghost use Rattle.lsp_text.specs.Units.{units_in};
 ghost use Rattle.lsp_edit.specs.Batch.{ContentChange, meaning};
@@ -14,15 +12,12 @@ ghost use Rattle.lsp_edit.specs.Indexed.{text_within};
 ghost use Rattle.lsp_edit.specs.Items.{plain};
 ghost use Rattle.lsp_edit.specs.Joined.{IsJoined, IsReached};
 ghost use Rattle.lsp_edit.specs.Delta.{IsOn, bytes_after, meant_by};
-ghost use Rattle.lsp_edit.specs.inside.Layers.{IsWhole};
 
 pub(crate) mod layer;
 
-use crate::change::{Change, MAX_NEW_TEXT};
-use crate::composed::MAX_OLD_TEXT;
+use crate::change::Change;
 use crate::delta::Delta;
 use crate::indexed::IndexedText;
-use crate::indexed::fault::BatchFault;
 use crate::joined::layer::Layer;
 use crate::pieces::canonical::canonical_of;
 use crate::pieces::span::whole;
@@ -30,9 +25,6 @@ use crate::pieces::through::spans_through;
 use lsp_text::Encoding;
 use std::alloc::{AllocError, Global};
 use std::marker::Model;
-
-/// How many changes of a long batch are composed at once.
-pub(crate) const SERIES: usize = 256;
 
 /// Batches of changes on a text, one after another, and their result as one.
 ///
@@ -85,31 +77,6 @@ impl Joined {
             before,
             layers: Vec::new(alloc),
         }
-    }
-
-    /// Composes a batch series by series, so that a change moves only the spans of its series.
-    ///
-    /// Fails if a change has no result, a text between two series grows too long, or memory runs
-    /// out. Costs what the changes cost to apply, and for each series a copy by
-    /// [`IndexedText::clone_in`].
-    pub(crate) fn of_batch(
-        alloc: Global,
-        encoding: Encoding,
-        before: &IndexedText,
-        changes: &[Change],
-    ) -> Result<Self, BatchFault>
-        requires size { length before.now ≤ MAX_OLD_TEXT }
-        requires fits { sum_by (λ change. string_len change.text) changes.now ≤ MAX_NEW_TEXT }
-        ensures { IfOk result (IsWhole (units_in encoding) before.now
-            (map content_change changes.now)) }
-    {
-        let mut reached = before.clone_in(alloc)?;
-        let mut joined = Self::over(alloc, before)?;
-        for series in changes.chunks(SERIES) {
-            let delta = reached.delta(encoding, series, MAX_OLD_TEXT)?;
-            joined.change(&mut reached, delta)?;
-        }
-        Ok(joined)
     }
 
     /// Joins the last two layers, if they have the same rank. Returns whether they had.

@@ -16,8 +16,6 @@
 //! - `text_edits`: edits whose ranges all count in one old text, as formatters and `applyEdits`
 //!   send them.
 //! - `laws`: what follows from the definitions of a batch and its canonical batch alone.
-//! - `plain`: the definitions as a plain program over characters, with the same clauses, but not
-//!   those on memory.
 #![tactic(auto)]
 
 mod change;
@@ -29,7 +27,6 @@ mod indexed;
 mod joined;
 mod laws;
 mod pieces;
-pub mod plain;
 mod text_edits;
 
 pub use change::{Change, MAX_NEW_TEXT, fits};

@@ -17,11 +17,12 @@ ghost use Rattle.lsp_edit.specs.Canonical.{canonical};
 ghost use Rattle.lsp_edit.specs.laws.Batches.{IsCanonical, KeepsPairs, RangesStay};
 
 mod apply;
-pub(crate) mod before;
+mod before;
 pub(crate) mod canonical;
 pub(crate) mod replace;
 pub(crate) mod row;
 pub(crate) mod span;
+pub(crate) mod split;
 pub(crate) mod through;
 
 use crate::change::Change;
@@ -82,7 +83,7 @@ impl<'a> Model for Pieces<'a> {
 impl<'a> Pieces<'a> {
     /// Makes pieces of a text before any change. Fails only where memory runs out. Takes constant
     /// time.
-    pub(crate) fn begin(alloc: Global, before: Before<'a>) -> Result<Self, AllocError>
+    fn begin(alloc: Global, before: Before<'a>) -> Result<Self, AllocError>
         ensures { IfOk result (λ pieces. pieces.edited ≡ record {
           before = chars (text_before before.entry);
           items = plain (chars (text_before before.entry));

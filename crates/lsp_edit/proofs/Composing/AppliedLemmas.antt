@@ -181,7 +181,7 @@ pub record IsRanged (units : ℕ → ℕ) (range : Range) (before : List ℕ) (p
       → IsNext units before parts changes (record { range = Some range; text = chars new })
       (replaced_parts parts start stop new) (len - (stop - start) + length new)
 
-are_ordered : (before : List ℕ) → IsUtf8 before → (parts : List Part) → AreParts before parts → AreOrdered parts
+pub are_ordered : (before : List ℕ) → IsUtf8 before → (parts : List Part) → AreParts before parts → AreOrdered parts
 are_ordered before utf8 [] are = tt
 are_ordered before utf8 (part ∷ parts) are =
     (part_ordered before utf8 part are.0, are_ordered before utf8 parts are.1)

@@ -1,12 +1,14 @@
 -- What was resolved once, read again.
-use Rattle.lsp_edit.proofs.Prelude.{ℕ, ◌≡◌, ◌+◌, ◌<◌, ◌≤◌, List, ◌∷◌, length, map, drop, sym, ap, ap₂, ◌∙◌, subst, arith, encode_utf8_all, nat_lt, Some, Result, Ok, Err, cases_Bool, cases_lt, ltb-false, drop_all, Encoding, units_in, Change, EditFault, Item, plain, text_of, ContentChange, Fault, items_after, ends_of, meaning, canonical, AreEndsIn, AreEndsOf, IsDeltaOf, IsLeft, IsOn, IsPut, bytes_after, delta_encoding, meant_by, put_items, Applied, PlainData, content_change, edited_bytes, edited_text, places_at, IsCanonicalBatch, alone, bytes_left, text_within, HasRange, common_steps, rest_is, Keeps}
+use Rattle.lsp_edit.proofs.Prelude.{ℕ, ◌≡◌, ◌+◌, ◌-◌, ◌<◌, ◌≤◌, List, [], ◌++◌, length, map, take, drop, refl, sym, ap, ap₂, ◌∙◌, arith, append-nil, take-map, drop-map, flat_map-append, lt-ltb, le-ltb, ⊎_elim, nat_lt, Result, Ok, Err, cases_Bool, cases_lt, ltb-false, IsCharBoundary, IsCharBoundary-start, IsCharBoundary-end, is_utf8-from_IsUtf8, numbers_from, Encoding, units_in, Item, Old, plain, ContentChange, Fault, meaning, canonical, IsDeltaOf, IsLeft, IsOn, IsPut, IsLayer, AreResolved, Part, OldPart, index_of, items_in, items_of, AreParts, new_parts, old_parts, put_between_parts, bytes_after, delta_encoding, meant_by, put_items, content_change, IsCanonicalBatch, alone, bytes_left, text_within, common_steps, Keeps, Change}
 use Rattle.std.specs.Str.{IsUtf8, chars}
 use Rattle.lsp_edit.specs.declared.delta.Delta.{Delta}
 use Rattle.lsp_edit.specs.declared.delta.Delta.TheVariants.{Put, Left}
 use Rattle.lsp_edit.proofs.Batches.LawLemmas.{canonical_law, units_some}
 use Rattle.lsp_edit.proofs.Canonical.KeepsLemmas.{meaning_keeps}
-use Rattle.lsp_edit.proofs.Composing.EditedLemmas.{first_bytes, plain_text}
-use Rattle.lsp_edit.proofs.Composing.RoomLemmas.{applying_begins, Applying, applying_on}
+use Rattle.lsp_edit.proofs.Composing.EditedLemmas.{index_last}
+use Rattle.lsp_edit.proofs.Parts.CutLemmas.{drop_numbers, take_numbers}
+use Rattle.lsp_edit.proofs.Parts.IndexLemmas.{index_first, index_place}
+use Rattle.lsp_edit.proofs.Parts.PutLemmas.{are_both, new_items}
 use Rattle.lsp_edit.proofs.Deltas.InPlaceLemmas.{IsInPlace, in_place, range_means}
 
 -- A text that is within a limit is what a batch leaves.
@@ -29,45 +31,53 @@ module _ (units : ℕ → ℕ) (before : List ℕ) (start stop : ℕ) (new : Lis
   pub put_in : IsInPlace units before p.range new start stop
   put_in = in_place units before p.utf8 p.range new p.new_utf8 start stop p.places
 
-  -- What callers see of pieces of the text before any change.
-  module _ (edited : PlainData)
-      (is : edited ≡ record { before = chars before; items = plain (chars before); changes = 0 }) where
-    pub put_room : length (edited_bytes edited) + length new ≤ 2147483648
-    put_room = omega (arith, first_bytes before edited p.utf8 is, p.size, p.short)
-
-    pub put_places : Ok (start, stop) ≡ places_at 0 (edited_text edited) (ends_of units (edited_text edited) p.range)
-    put_places = subst (λ (t : List ℕ). ◌≡◌ {A = Result (ℕ × ℕ) EditFault} (Ok (start, stop))
-        (places_at 0 t (ends_of units t p.range))) (sym (ap edited_text is ∙ plain_text (chars before))) p.places
-
-    pub put_range : HasRange (edited_text edited) start stop
-    put_range = record { units = units; range = p.range; ends = put_places }
-
-    pub put_made : (next : PlainData) → Applied units edited (record { range = Some p.range; text = chars new }) next
-        → (next.before ≡ chars before) × (next.items ≡ put_items before start stop new)
-    put_made next applied =
-        let made : items_after units (chars before) (plain (chars before)) (record {
-          range = Some p.range;
-          text = chars new;
-        }) ≡ Ok next.items =
-        subst (λ (e : PlainData). items_after units e.before e.items (record {
-          range = Some p.range;
-          text = chars new;
-        }) ≡ Ok next.items) is applied.changed in
-        let same : Ok next.items ≡ Ok (put_items before start stop new) = sym made ∙ put_in.made in
-        (applied.same ∙ ap (λ (e : PlainData). e.before) is, cc)
-
--- The bytes of pieces that are a delta.
-pub pieces_bytes : (before : List ℕ) (delta : Delta) (edited : PlainData) → IsOn before delta
-    → edited.before ≡ chars before → meant_by before delta ≡ Ok edited.items
-    → edited_bytes edited ≡ bytes_after before delta
-pieces_bytes before (Put put) edited on same means =
-    let is : edited.items ≡ put_items before put.start put.stop put.new.now = cc in
-    ap₂ (λ (old : List ℕ) (made : List Item). encode_utf8_all (text_of old made)) same is
-    ∙ (put_in (units_in put.encoding) before put.start put.stop put.new.now on).bytes
-pieces_bytes before (Left left) edited on same means =
-    let both : ◌≡◌ {A = Result (List Item) (ℕ × Fault)} (Ok edited.items) (Ok on.items) = sym means ∙ on.means in
-    let is : edited.items ≡ on.items = cc in
-    ap₂ (λ (old : List ℕ) (made : List Item). encode_utf8_all (text_of old made)) same is ∙ sym on.is
+  -- The parts of the text with the new one put between them.
+  pub put_layer : (len : ℕ) (parts : List Part) → len ≡ length before → parts ≡ put_between_parts len start stop new
+      → IsLayer (Ok (put_items before start stop new)) before parts
+  put_layer len parts len_is is =
+      let old : List ℕ = chars before in
+      let low : ℕ = index_of old start in
+      let high : ℕ = index_of old stop in
+      let n = new_items before new (is_utf8-from_IsUtf8 new p.new_utf8) in
+      let a = rows 0 start (omega arith) (IsCharBoundary-start before p.utf8) put_in.at_start in
+      let b = rows stop (length before) put_in.at_stop.0 put_in.at_stop (IsCharBoundary-end before) in
+      let low_in = (index_place before p.utf8 start put_in.at_start).1 in
+      let high_in = (index_place before p.utf8 stop put_in.at_stop).1 in
+      let first : low - index_of old 0 ≡ low = omega (arith, index_first old) in
+      let front : items_of old (old_parts 0 start) ≡ take low (plain old) =
+      a.0 ∙ (rw (first, index_first old) (ap (map Old) (sym (take_numbers 0 low (length old - low)))
+      ∙ (sym (take-map Old low (numbers_from 0 (low + (length old - low))))
+      ∙ ap (λ (k : ℕ). take low (map Old (numbers_from 0 k))) (omega (arith, low_in))))) in
+      let none : 0 + high ≡ high = omega arith in
+      let back : items_of old (old_parts stop (length before)) ≡ drop high (plain old) =
+      b.0 ∙ (rw (index_last before p.utf8) (ap (map Old) (sym (rw none at (drop_numbers 0 high (length old - high))))
+      ∙ (sym (drop-map Old high (numbers_from 0 (high + (length old - high))))
+      ∙ ap (λ (k : ℕ). drop high (map Old (numbers_from 0 k))) (omega (arith, high_in))))) in
+      rw (is, len_is) (record {
+        utf8 = p.utf8;
+        are = are_both before (old_parts 0 start) (new_parts new ++ old_parts stop (length before)) a.1
+            (are_both before (new_parts new) (old_parts stop (length before)) n.1 b.1);
+        means = ap (λ (i : List Item). Ok i) (sym (flat_map-append (items_in old) (old_parts 0 start)
+            (new_parts new ++ old_parts stop (length before))
+            ∙ ap₂ (λ (x y : List Item). x ++ y) front (flat_map-append (items_in old) (new_parts new)
+            (old_parts stop (length before)) ∙ ap₂ (λ (x y : List Item). x ++ y) n.0 back)));
+      })
+    where
+      rows : (from to : ℕ) → from ≤ to → IsCharBoundary before from → IsCharBoundary before to
+          → (items_of (chars before) (old_parts from to) ≡ map Old (numbers_from (index_of (chars before) from)
+          (index_of (chars before) to - index_of (chars before) from))) × AreParts before (old_parts from to)
+      rows from to order at_from at_to =
+          ⊎_elim
+          (λ (less : from < to). rw (lt-ltb from to less) (
+            append-nil (items_in (chars before) (OldPart from to)),
+            ((less, at_from, at_to), tt),
+          ))
+          (λ (same : to ≤ from).
+          let e : from ≡ to = omega arith in
+          let none : index_of (chars before) to - index_of (chars before) from ≡ 0 =
+          omega (arith, ap (index_of (chars before)) e) in
+          rw (le-ltb from to same, none) (refl, tt))
+          (cases_lt from to)
 
 -- What a delta means keeps each CRLF of the text whole.
 pub delta_keeps : (before : List ℕ) (delta : Delta) (items : List Item) → IsOn before delta
@@ -83,6 +93,28 @@ delta_keeps before (Left left) items on means =
 on_utf8 : (before : List ℕ) (delta : Delta) → IsOn before delta → IsUtf8 before
 on_utf8 before (Put put) on = on.utf8
 on_utf8 before (Left left) on = on.utf8
+
+-- The ends of a delta's ranges are known.
+pub left_resolved : (units : ℕ → ℕ) (before : List ℕ) (len : ℕ) (changes : List Change) (ends : List (ℕ × ℕ))
+    (left : List ℕ) → len ≡ length before → IsLeft units before changes ends left
+    → AreResolved units before len changes ends
+left_resolved units before len changes ends left is on = record {
+  utf8 = on.utf8;
+  len_is = is;
+  room = omega (arith, is, on.size, on.fits);
+  ends_are = on.ends_are;
+}
+
+-- The canonical batch of a delta's items, whatever list they are known as.
+pub canonical_same : (before : List ℕ) {known : List Item} {answered : List ContentChange} (delta : Delta)
+    → meant_by before delta ≡ Ok known
+    → answered ≡ canonical (units_in (delta_encoding delta)) (chars before) known
+    → (items : List Item) → meant_by before delta ≡ Ok items
+    → answered ≡ canonical (units_in (delta_encoding delta)) (chars before) items
+canonical_same before {known} {answered} delta means same items is =
+    let both : ◌≡◌ {A = Result (List Item) (ℕ × Fault)} (Ok known) (Ok items) = sym means ∙ is in
+    let e : known ≡ items = cc in
+    same ∙ ap (canonical (units_in (delta_encoding delta)) (chars before)) e
 
 -- The canonical batch of a delta is that of its batch.
 pub canonical_is : (encoding : Encoding) (max_len : ℕ) (before : List ℕ) (batch answered : List ContentChange)
@@ -100,47 +132,4 @@ canonical_is encoding max_len before batch answered delta of same =
       within = grind (arith, common_steps, within_fits);
       is = rw of.units_are at (same w.items (sym of.means ∙ w.means));
       law = canonical_law (units_in encoding) (units_some encoding) (chars before);
-    }
-
--- ---- the changes of a batch, put one after another
-
--- How far the changes were put: their batch is applied so far, and the ends of the others are known.
-pub record IsPutting (units : ℕ → ℕ) (before : List ℕ) (meant : Result (List Item) (ℕ × Fault)) (done : ℕ)
-    (rest : List Change) (ends : List (ℕ × ℕ)) (edited : PlainData) : Type 0 where
-  pub applying : Applying units before meant done rest edited
-  pub ends_are : AreEndsOf units before edited.items (map content_change rest) ends
-
-pub putting_begins : (units : ℕ → ℕ) (before : List ℕ) (changes : List Change) (ends : List (ℕ × ℕ)) (left : List ℕ)
-    (edited : PlainData) → IsLeft units before changes ends left
-    → edited ≡ record { before = chars before; items = plain (chars before); changes = 0 }
-    → IsPutting units (chars before) (meaning units (chars before) (map content_change changes)) 0 changes ends edited
-putting_begins units before changes ends left edited on is = record {
-  applying = applying_begins units before changes edited on.utf8 is on.size on.fits;
-  ends_are = subst (λ (items : List Item). AreEndsOf units (chars before) items (map content_change changes) ends)
-      (sym (ap (λ (e : PlainData). e.items) is)) on.ends_are;
-}
-
-module _ (units : ℕ → ℕ) (before : List ℕ) (meant : Result (List Item) (ℕ × Fault)) (done : ℕ) (change : Change)
-    (rest more : List Change) (ends : List (ℕ × ℕ)) (edited : PlainData) (is : rest ≡ change ∷ more)
-    (putting : IsPutting units before meant done rest ends edited) where
-  here : AreEndsOf units before edited.items (content_change change ∷ map content_change more) ends
-  here = rw is at putting.ends_are
-
-  pub putting_bounds : (all : List (ℕ × ℕ)) → ends ≡ drop done all → done < length all
-  putting_bounds all rest_is = grind (arith, common_steps, drop_all, cases_lt)
-
-  module _ (end : ℕ × ℕ) (others : List (ℕ × ℕ)) (ends_is : ends ≡ end ∷ others) where
-    first : AreEndsOf units before edited.items (content_change change ∷ map content_change more) (end ∷ others)
-    first = subst (AreEndsOf units before edited.items (content_change change ∷ map content_change more)) ends_is here
-
-    pub putting_ends : AreEndsIn units (edited_text edited) (content_change change) end
-    putting_ends = subst (λ (old : List ℕ). AreEndsIn units (text_of old edited.items) (content_change change) end)
-        (sym putting.applying.same) first.0
-
-    pub putting_on : (next : PlainData) → done < 18446744073709551615
-        → Applied units edited (content_change change) next → IsPutting units before meant (done + 1) more others next
-    putting_on next small applied = record {
-      applying = applying_on units before meant done change rest more edited is putting.applying next small applied;
-      ends_are = first.1 next.items (ap (λ (b : List ℕ). items_after units b edited.items (content_change change))
-          (sym putting.applying.same) ∙ applied.changed);
     }

@@ -1,5 +1,5 @@
 -- Spans that own their texts, and rows of them over one another.
-use Rattle.lsp_edit.proofs.Prelude.{ℕ, ◌≡◌, ◌-◌, ◌≤◌, List, [], ◌∷◌, ◌++◌, length, map, take, slice_index_or as get_or, refl, sym, ap, ap₂, ◌∙◌, subst, arith, append_assoc, append-nil, encode_utf8_all, Result, chars, IsUtf8, drop_more, drop_all, map-append, take-append-drop, flat_map-append, encodes-chars, chars-append, IsUtf8-append, IsUtf8-from_is_utf8, is_utf8-from_IsUtf8, Layer, Item, New, text_of, Fault, then_items, AllOver, layer_parts, IsOver, items_over, owned_parts, AreSameItems, IsLayer, PlainData, Means, before_bytes, Keeps, Part, OldPart, NewPart, AreParts, Ascend, items_of, new_parts, AreThrough, through_parts, common_steps, rest_is}
+use Rattle.lsp_edit.proofs.Prelude.{ℕ, ◌≡◌, ◌-◌, ◌≤◌, List, [], ◌∷◌, ◌++◌, length, map, take, slice_index_or as get_or, refl, sym, ap, ap₂, ◌∙◌, subst, arith, append_assoc, append-nil, Result, Ok, chars, IsUtf8, drop_more, drop_all, map-append, take-append-drop, flat_map-append, chars-append, IsUtf8-append, IsUtf8-from_is_utf8, is_utf8-from_IsUtf8, Layer, Item, New, text_of, Fault, then_items, AllOver, layer_parts, IsOver, items_over, owned_parts, AreSameItems, IsLayer, Keeps, Part, OldPart, NewPart, AreParts, Ascend, items_of, new_parts, AreThrough, through_parts, common_steps, rest_is}
 use Rattle.lsp_edit.specs.declared.joined.layer.OwnedSpan.{OwnedSpan}
 use Rattle.lsp_edit.specs.declared.joined.layer.OwnedSpan.TheVariants.{Old as OldSpan}
 use Rattle.lsp_edit.proofs.Batches.ComposeLemmas.{text_of-then, then_associative}
@@ -54,12 +54,13 @@ same_ends whole done text same =
 
 -- ---- what a batch makes of a text
 
-pub delta_is : (reached : List ℕ) (meant : Result (List Item) (ℕ × Fault)) (count : ℕ) (edited : PlainData)
-    (parts owned : List Part) → IsUtf8 reached → Means (chars reached) meant count edited
-    → items_of edited.before parts ≡ edited.items → AreParts (before_bytes edited) parts → AreSameItems owned parts
-    → IsLayer meant reached owned
-delta_is reached meant count edited parts owned utf8 means items are same =
-    grind (arith, common_steps, encode_utf8_all, encodes-chars)
+pub layer_same : {meant : Result (List Item) (ℕ × Fault)} {reached : List ℕ} {parts : List Part} (owned : List Part)
+    → IsLayer meant reached parts → AreSameItems owned parts → IsLayer meant reached owned
+layer_same {meant} {reached} {parts} owned is same = record {
+  utf8 = is.utf8;
+  are = (same reached is.are).0;
+  means = is.means ∙ ap (λ (i : List Item). Ok i) (sym (same reached is.are).1);
+}
 
 -- ---- rows over one another
 

@@ -3,11 +3,11 @@ use Rattle.lsp_edit.proofs.Prelude.{ℕ, ◌≡◌, ◌+◌, ◌-◌, ◌<◌, �
 use Rattle.lsp_edit.proofs.Canonical.RebuiltLemmas.{length-numbers, text_row}
 use Rattle.lsp_edit.proofs.Parts.IndexLemmas.{index_of-place, index_rises, index_place}
 
-take_numbers : (low count more : ℕ) → take count (numbers_from low (count + more)) ≡ numbers_from low count
+pub take_numbers : (low count more : ℕ) → take count (numbers_from low (count + more)) ≡ numbers_from low count
 take_numbers low count more = ap (take count) (numbers_split low count more) ∙ take_at (numbers_from low count)
     (numbers_from (low + count) more) count (length-numbers low count)
 
-drop_numbers : (low count more : ℕ) → drop count (numbers_from low (count + more)) ≡ numbers_from (low + count) more
+pub drop_numbers : (low count more : ℕ) → drop count (numbers_from low (count + more)) ≡ numbers_from (low + count) more
 drop_numbers low count more = ap (drop count) (numbers_split low count more) ∙ drop_at (numbers_from low count)
     (numbers_from (low + count) more) count (length-numbers low count)
 

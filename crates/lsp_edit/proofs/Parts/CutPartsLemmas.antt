@@ -30,7 +30,7 @@ module _ (old : List ℕ) (utf8 : IsUtf8 old) where
         (parts_bytes parts are.1),
       )
 
-  part_some : (part : Part) → IsPartOf old part → 0 < part_len part
+  pub part_some : (part : Part) → IsPartOf old part → 0 < part_len part
   part_some (Part.OldPart from to) is = omega (arith, is.0)
   part_some (Part.NewPart bytes) is = is.0
 

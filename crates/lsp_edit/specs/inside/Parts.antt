@@ -73,6 +73,10 @@ replaced_parts parts start stop bytes
 abbrev pub old_parts : ℕ → ℕ → List Part
 old_parts from to = if nat_lt from to then OldPart from to ∷ [] else []
 
+-- The parts of a text of `len` bytes with those between two byte offsets replaced by a new text.
+abbrev pub put_between_parts : ℕ → ℕ → ℕ → List ℕ → List Part
+put_between_parts len start stop bytes = old_parts 0 start ++ (new_parts bytes ++ old_parts stop len)
+
 -- The parts between two byte offsets.
 abbrev pub between_parts : List Part → ℕ → ℕ → List Part
 between_parts parts from to = front_parts (back_parts parts from) (to - from)

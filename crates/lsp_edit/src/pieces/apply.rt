@@ -77,7 +77,7 @@ impl<'a> Pieces<'a> {
 
     /// Replaces the bytes from `start` to `stop` of the current text, which are the ends of a
     /// range. After an error everything is unchanged.
-    pub(crate) fn put(&mut self, start: usize, stop: usize, text: &'a str) -> Result<(), AllocError>
+    fn put(&mut self, start: usize, stop: usize, text: &'a str) -> Result<(), AllocError>
         requires room { length (edited_bytes self.old.edited) + length text.now ≤ MAX_TEXT }
         requires ends { HasRange (edited_text self.old.edited) start stop }
         ensures applied { OnOk result ((units : ℕ → ℕ) (range : Range)
@@ -103,11 +103,7 @@ impl<'a> Pieces<'a> {
 
     /// Applies a change whose range, if it has one, has these two ends in the current text. After
     /// an error everything is unchanged.
-    pub(crate) fn put_change(
-        &mut self,
-        ends: (usize, usize),
-        change: &'a Change,
-    ) -> Result<(), AllocError>
+    fn put_change(&mut self, ends: (usize, usize), change: &'a Change) -> Result<(), AllocError>
         requires room { length (edited_bytes self.old.edited) + string_len change.now.text
             ≤ MAX_TEXT }
         requires ends { (units : ℕ → ℕ)

@@ -38,7 +38,11 @@ fn put_gap(
 {
     if low < high || !text.is_empty() {
         let start = before.position(encoding, low);
-        let stop = before.position(encoding, high);
+        let stop = if high == low {
+            start
+        } else {
+            before.position(encoding, high)
+        };
         let range = Some(Range { start, stop });
         changes.push(Change { range, text })?;
     }
