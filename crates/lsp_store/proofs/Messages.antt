@@ -4,3 +4,4 @@ pub mod MessageLemmas
 pub mod PlannedLemmas
 pub mod ProperLemmas
 pub mod ScalarLemmas
+pub mod WholeLemmas

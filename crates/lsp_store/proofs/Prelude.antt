@@ -36,12 +36,10 @@ pub use Rattle.lsp_store.specs.Opened.{ChangeMayAllocate, IsRefused, StoreData, 
 pub use Rattle.lsp_store.specs.Plan.{IsPlanOf, IsPlanOn, after_plan, planned, planned_table}
 pub use Rattle.lsp_store.specs.Squash.{HasReached, IsSquashAfter, SquashData, add_refusal, reached_entry, squash_after, squash_batch, squash_refusal, squash_under}
 pub use Rattle.lsp_store.specs.Table.{Command, IsLeftToMeaning, Refusal, after_change, after_close, after_open, batch_bytes, change_refusal, changed, changes, closes, edit, entry_at, entry_refusal, greatest_batch, is_stale, is_taken, meaning_refusal, meant_text, open_refusal, opens, refusal_on, table_after, table_from, too_many_changes}
-pub use Rattle.lsp_store.specs.UnitsBefore.{HasUnitsBefore}
 pub use Rattle.lsp_store.specs.declared.fault.StoreFault.{StoreFault}
 pub use Rattle.lsp_store.specs.declared.fault.StoreFault.TheVariants.{NoMemory, NotOpen, TextTooLong, TooManyChanges, TooManyDocuments}
 pub use Rattle.lsp_store.specs.declared.store.plan.Plan.{Plan}
 pub use Rattle.lsp_store.specs.declared.store.stored.Stored.{Stored}
-pub use Rattle.lsp_store.specs.inside.UnitsPassed.{HasPassed, IsPassed, IsTooFew}
 pub use Rattle.lsp_store.specs.laws.Tables.{AllWithin, AreAccepted, AreUnique, CanonicalBatchLaw, GreaterLimitsLaw, IsInOrder, IsWithin, LastLaw, TableLaw, UniqueLaw, WholeTextLaw, WithinLaw}
 pub use Rattle.lsp_text.specs.TextLines.{line_at, line_start, numbers_from}
 pub use Rattle.lsp_text.specs.Units.{units_between, units_in}

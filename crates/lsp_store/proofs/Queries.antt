@@ -1,3 +1,2 @@
 -- What is read of a document's text.
-pub mod UnitsBeforeLemmas
-pub mod UnitsPassedLemmas
+pub mod UnitLemmas

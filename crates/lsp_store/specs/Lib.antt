@@ -4,8 +4,6 @@ pub mod Faults
 pub mod Opened
 pub mod Message
 pub mod Squash
-pub mod UnitsBefore
-pub mod inside
 pub mod Plan
 pub mod Limits
 pub mod laws

@@ -53,6 +53,11 @@ abbrev pub whole_batch : (ℕ → ℕ) → List DocumentItem → List ℕ → �
 whole_batch units table uri version batch =
     whole_text (entry_at (after_change units table uri version batch) uri)
 
+-- The body of the `textDocument/didChange` of that batch.
+abbrev pub whole_body : (ℕ → ℕ) → List DocumentItem → List ℕ → ℤ → List ContentChange → List ℕ
+whole_body units table uri version batch
+    = change_body uri version (whole_batch units table uri version batch)
+
 -- Why a body is refused: it is too long.
 abbrev pub body_refusal : LimitsData → List ℕ → Option Refusal
 body_refusal limits body = if nat_lt limits.max_body (length body) then

@@ -4,7 +4,7 @@ use Rattle.lsp_store.specs.Prelude.{ℕ, ℤ, zero, suc, List, [], length, Some,
 use Rattle.lsp_edit.specs.declared.delta.Delta.{Delta}
 use Rattle.lsp_edit.specs.Delta.{IsDeltaOf, IsOn, bytes_after}
 use Rattle.lsp_store.specs.Faults.{IsRefusal}
-use Rattle.lsp_store.specs.Message.{canonical_body, canonical_frame, message_refusal}
+use Rattle.lsp_store.specs.Message.{body_refusal, canonical_body, canonical_frame, message_refusal, whole_body}
 use Rattle.lsp_store.specs.Opened.{ChangeMayAllocate, StoreData}
 use Rattle.lsp_store.specs.Table.{after_change, change_refusal, entry_at}
 
@@ -69,3 +69,21 @@ IsMessageFault store plan fault =
     → IsPlanOf store uri version encoding batch plan
     → IsRefusal (message_refusal store.limits (units_in encoding) store.table uri version batch)
     fault
+
+-- The body of the whole text is appended that each batch leaves that a plan is of. It is within the
+-- limit.
+abbrev pub IsWholeBodyOfPlan : StoreData → Plan → List ℕ → List ℕ → Type 0
+IsWholeBodyOfPlan store plan old new =
+    (uri : List ℕ) (version : ℤ) (encoding : Encoding) (batch : List ContentChange)
+    → IsPlanOf store uri version encoding batch plan
+    → (new ≡ old ++ whole_body (units_in encoding) store.table uri version batch)
+    × (body_refusal store.limits (whole_body (units_in encoding) store.table uri version batch)
+    ≡ None)
+
+-- Why that body is refused, or out of memory.
+abbrev pub IsWholeFault : StoreData → Plan → StoreFault → Type 0
+IsWholeFault store plan fault =
+    (uri : List ℕ) (version : ℤ) (encoding : Encoding) (batch : List ContentChange)
+    → IsPlanOf store uri version encoding batch plan
+    → IsRefusal (body_refusal store.limits
+    (whole_body (units_in encoding) store.table uri version batch)) fault

@@ -3,7 +3,7 @@
 //!
 //! - `store`: the documents in order of opening, and the calls that open, change and close them.
 //!   `opening` has the call that opens one.
-//! - `document`: an open document as a caller reads it. `units` counts units of its whole text.
+//! - `document`: an open document as a caller reads it.
 //! - `documents`: the open documents, one after another.
 //! - `canonical`: the canonical message of an accepted batch of changes.
 //! - `squash`: many batches on one document as one message; `Batches` for a caller who keeps the

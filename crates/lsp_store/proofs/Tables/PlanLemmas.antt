@@ -151,7 +151,7 @@ module _ (limits : LimitsData) (es : List (String Global × Stored)) (kept : Sto
 
 -- ---- the message of a plan
 
-entry_uri : (table : List DocumentItem) (uri : List ℕ) (entry : DocumentItem) → entry_at table uri ≡ Some entry
+pub entry_uri : (table : List DocumentItem) (uri : List ℕ) (entry : DocumentItem) → entry_at table uri ≡ Some entry
     → entry.uri ≡ uri
 entry_uri [] uri entry found = absurd (cc)
 entry_uri (first ∷ table) uri entry found =

@@ -12,10 +12,10 @@ ghost use Rattle.lsp_store.specs.declared.fault.StoreFault.TheVariants.{BodyTooL
 ghost use Rattle.lsp_store.specs.Faults.{IsRefusal};
 ghost use Rattle.lsp_store.specs.Opened.{ChangeMayAllocate, OneMayAllocate};
 ghost use Rattle.lsp_edit.specs.Delta.{bytes_after};
-ghost use Rattle.lsp_store.specs.Plan.{IsBodyOfPlan, IsMessageFault, IsMessageOfPlan, IsPlanOf, IsPlanOn};
+ghost use Rattle.lsp_store.specs.Plan.{IsBodyOfPlan, IsMessageFault, IsMessageOfPlan, IsPlanOf, IsPlanOn, IsWholeBodyOfPlan, IsWholeFault};
 ghost use Rattle.lsp_store.specs.Table.{change_refusal};
 ghost use Rattle.lsp_store.specs.Message.{AreTexts, DoAlike, IsCanonicalOn, IsReadAgain, IsCanonicalOf};
-ghost use Rattle.lsp_store.specs.Message.{body_refusal, canonical_batch, canonical_body, canonical_frame, change_body, message_refusal};
+ghost use Rattle.lsp_store.specs.Message.{body_refusal, canonical_batch, canonical_body, canonical_frame, change_body, message_refusal, whole_body};
 
 use crate::fault::StoreFault;
 use crate::store::Store;
@@ -207,6 +207,38 @@ impl Store {
         ensures unchanged { OnErr result (bytes.new.items ≡ bytes.old.items) }
     {
         let (uri, version, changes) = self.planned_batch(plan)?;
+        push_body(bytes, &self.limits, uri, version, changes)
+    }
+
+    /// Returns the URI, the version and the one change without a range of the text that a plan
+    /// leaves.
+    fn planned_whole(&self, plan: &Plan<'_>) -> Result<(&str, i32, Vec<Change>), AllocError>
+        requires on { IsPlanOn self.now plan.now }
+        ensures { IfOk result (λ planned. (uri : List ℕ) (version : ℤ) (encoding : Encoding)
+            (batch : List ContentChange) → IsPlanOf self.now uri version encoding batch plan.now
+            → change_body planned.0.now planned.1 (map content_change planned.2.items)
+            ≡ whole_body (units_in encoding) self.now.table uri version batch) }
+    {
+        let alloc = *self.documents.allocator();
+        let text = self.planned_text(plan)?;
+        let changes = vec![in alloc; Change { range: None, text }]?;
+        let document = self.planned_document(plan);
+        Ok((document.uri(), plan.version, changes))
+    }
+
+    /// Appends the body of a `textDocument/didChange` of one change without a range: the text that
+    /// a plan leaves, under the plan's version (LSP 3.17, TextDocumentContentChangeEvent).
+    ///
+    /// Refuses with [`StoreFault::BodyTooLong`] where the body has more than `max_body` bytes, and
+    /// with [`StoreFault::NoMemory`]; then the bytes are unchanged. Costs that text and the body.
+    pub fn push_whole_body(&self, bytes: &mut Vec<u8>, plan: &Plan<'_>) -> Result<(), StoreFault>
+        requires on { IsPlanOn self.now plan.now }
+        ensures body { OnOk result
+            (IsWholeBodyOfPlan self.now plan.now bytes.old.items bytes.new.items) }
+        ensures error { IfErr result (IsWholeFault self.now plan.now) }
+        ensures unchanged { OnErr result (bytes.new.items ≡ bytes.old.items) }
+    {
+        let (uri, version, changes) = self.planned_whole(plan)?;
         push_body(bytes, &self.limits, uri, version, changes)
     }
 

@@ -12,12 +12,8 @@ ghost use Rattle.lsp_buffer.specs.Contents.{IsContentOf};
 ghost use Rattle.lsp_edit.specs.Edited.{content_change};
 ghost use Rattle.lsp_edit.specs.TextEdits.{IsBatchOfEdits, IsEditsFault, located};
 ghost use Rattle.lsp_edit.specs.declared.text_edits.TextEditFault.TheVariants as edits_fault;
-ghost use Rattle.lsp_store.specs.UnitsBefore.{HasUnitsBefore};
 ghost use Rattle.lsp_store.specs.Opened.{entry_under};
 
-mod units;
-
-use crate::store::document::units::{offset_after, units_before};
 use crate::store::stored::Stored;
 use lsp_buffer::TextBuffer;
 use lsp_edit::{Change, MAX_OLD_TEXT, TextEdit, TextEditFault};
@@ -129,31 +125,6 @@ impl<'a> Document<'a> {
         let text = self.text();
         text.is_place(offset)
             .then(|| text.position(encoding, offset))
-    }
-
-    /// Returns how many units the whole text has before a byte offset (LSP 3.17, Position). It is
-    /// the index of a string of JavaScript in UTF-16, and of one of Python in UTF-32.
-    /// [`Document::offset_of_units`] is its inverse.
-    ///
-    /// Returns `None` for an offset past the end or inside a character. Costs the text up to the
-    /// offset, in UTF-8 a search for the block. Takes no memory.
-    pub fn units_before(&self, encoding: Encoding, offset: usize) -> Option<usize>
-        ensures { (units : ℕ) → (result ≡ Some units)
-            ↔ HasUnitsBefore (units_in encoding) (chars self.now.text) offset units }
-    {
-        units_before(encoding, self.text(), offset)
-    }
-
-    /// Returns the byte offset before which the whole text has so many units (LSP 3.17, Position).
-    /// [`Document::units_before`] is its inverse.
-    ///
-    /// Returns `None` where the text has fewer units, and where they end inside a character. Costs
-    /// the text up to the offset. Takes no memory.
-    pub fn offset_of_units(&self, encoding: Encoding, units: usize) -> Option<usize>
-        ensures { (offset : ℕ) → (result ≡ Some offset)
-            ↔ HasUnitsBefore (units_in encoding) (chars self.now.text) offset units }
-    {
-        offset_after(encoding, self.text(), units)
     }
 
     /// Returns the batch that means what text edits mean on the text (LSP 3.17, TextEdit[]), for

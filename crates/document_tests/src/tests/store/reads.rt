@@ -17,16 +17,13 @@ fn has_head_and_lines(document: &Document<'_>) -> bool {
         && document.line(2).is_none()
 }
 
-fn counts_units(document: &Document<'_>) -> bool {
+fn counts_positions(document: &Document<'_>) -> bool {
     let after = Position {
         line: 1,
         character: 2,
     };
     let is_there = document.resolve(UTF16, after) == Ok(7);
-    is_there
-        && document.position(UTF16, 7) == Some(after)
-        && document.units_before(UTF16, 7) == Some(5)
-        && document.offset_of_units(UTF16, 5) == Some(7)
+    is_there && document.position(UTF16, 7) == Some(after)
 }
 
 fn is_copied(text: &TextBuffer) -> bool {
@@ -49,7 +46,7 @@ fn is_read(alloc: Global) -> Result<bool, StoreFault> {
     let Some(document) = store.get(URI) else {
         return Ok(false);
     };
-    let is_read = has_head_and_lines(&document) && counts_units(&document);
+    let is_read = has_head_and_lines(&document) && counts_positions(&document);
     Ok(is_read && is_copied(document.text()) && is_listed(&store) && may_open == Ok(()))
 }
 

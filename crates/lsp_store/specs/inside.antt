@@ -1,2 +1,0 @@
--- Definitions that only private contracts speak of.
-pub mod UnitsPassed
