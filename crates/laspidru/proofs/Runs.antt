@@ -2,9 +2,9 @@
 use Rattle.laspidru.proofs.Prelude.{◌≡◌, ◌<◌, ◌^◌, ◌⊎◌, ℕ, Bool, false, true, List, [], length, Option, Result, Err, inl, inr, sym, ◌∙◌, arith, ◌≢◌, OUT_OF_MEMORY, Object}
 use Rattle.lsp_stream.specs.declared.fault.EngineFault.{EngineFault}
 use Rattle.lsp_stream.specs.declared.fault.EngineFault.TheVariants.{TooManyTurns, Write}
-use Rattle.lsp_replay.specs.declared.commands.Settings.{Settings}
-use Rattle.lsp_replay.specs.Run.{IsEngineRun}
-use Rattle.lsp_replay.specs.declared.outcome.Outcome.{Outcome}
+use Rattle.log_session.specs.declared.settings.Settings.{Settings}
+use Rattle.log_session.specs.Run.{IsEngineRun}
+use Rattle.log_session.specs.declared.outcome.Outcome.{Outcome}
 use Rattle.laspidru.specs.declared.command.Command.{Command}
 use Rattle.laspidru.specs.declared.endings.Ending.{Ending}
 use Rattle.laspidru.specs.declared.endings.LogSettings.{LogSettings}

@@ -1,22 +1,27 @@
 -- A command on a log that C asks for, and the result that C gets.
 use Rattle.std.specs.Prelude.{◌+◌, ◌-◌, ◌*◌, ◌^◌, ◌≡◌, ◌≢◌, ◌||◌, if◌then◌else◌}
 use Rattle.laspidru.specs.Prelude.{ok_or, ℕ, not, nat_eq, Bool, true, false, List, [], length, option_map, string_bytes, Option, Some, None, Result, Ok, Err, FrameFault, BAD_FRAME, BAD_LOG, BODY_TOO_LONG, CUT, NOT_OPEN, OK, OTHER_KIND, OUT_OF_MEMORY, OUT_OF_RANGE, Object, Output, and_then}
-use Rattle.line_diff.specs.Compared.{new_comparison}
+use Rattle.line_diff.specs.Comparison.{new_comparison}
 use Rattle.lsp_stream.specs.declared.fault.EngineFault.{EngineFault}
 use Rattle.lsp_stream.specs.declared.fault.EngineFault.TheVariants.{Frame, Truncated, BodyTooLong, TooManyTurns, BadLog}
 use Rattle.lsp_stream.specs.Ports.{Ports}
-use Rattle.lsp_replay.specs.declared.commands.Settings.{Settings}
-use Rattle.lsp_replay.specs.declared.commands.parts.Part.{Part}
-use Rattle.lsp_replay.specs.declared.outcome.Missing.{Missing}
-use Rattle.lsp_replay.specs.declared.outcome.Missing.TheVariants as missing
-use Rattle.lsp_replay.specs.declared.outcome.Outcome.{Outcome}
-use Rattle.lsp_replay.specs.Compared.{compare_engine}
-use Rattle.lsp_replay.specs.Documents.{WritesDocuments, documents_engine}
-use Rattle.lsp_replay.specs.Explained.{explain_engine}
-use Rattle.lsp_replay.specs.Parts.{part_engine}
-use Rattle.lsp_replay.specs.Run.{Engine, IsEngineRun, WritesLog, check_engine, convert_engine, normalise_engine, replay_engine}
-use Rattle.lsp_replay.specs.Trace.{trace_engine}
-use Rattle.lsp_replay.specs.laws.Written.{IsConverted, IsCanonicalLog, IsSquashed}
+use Rattle.log_session.specs.declared.settings.Settings.{Settings}
+use Rattle.log_rewrite.specs.declared.commands.part.Part.{Part}
+use Rattle.log_session.specs.declared.outcome.Missing.{Missing}
+use Rattle.log_session.specs.declared.outcome.Missing.TheVariants as missing
+use Rattle.log_session.specs.declared.outcome.Outcome.{Outcome}
+use Rattle.log_report.specs.Compare.{compare_engine}
+use Rattle.log_rewrite.specs.Documents.{WritesDocuments, documents_engine}
+use Rattle.log_report.specs.Explain.{explain_engine}
+use Rattle.log_rewrite.specs.Part.{part_engine}
+use Rattle.log_session.specs.Run.{Engine, IsEngineRun}
+use Rattle.log_rewrite.specs.laws.Written.{WritesLog}
+use Rattle.log_report.specs.Check.{check_engine}
+use Rattle.log_rewrite.specs.Convert.{convert_engine}
+use Rattle.log_rewrite.specs.Squash.{normalise_engine}
+use Rattle.log_session.specs.Replay.{replay_engine}
+use Rattle.log_report.specs.Trace.{trace_engine}
+use Rattle.log_rewrite.specs.laws.Written.{IsConverted, IsCanonicalLog, IsSquashed}
 use Rattle.laspidru.specs.declared.command.Command.{Command}
 use Rattle.laspidru.specs.declared.command.Command.TheVariants as command
 use Rattle.laspidru.specs.declared.command.CommandName.{CommandName}

@@ -1,7 +1,7 @@
 //! The commands on logs, over bytes in memory.
 
 ghost use Rattle.std.specs.Prelude.{◌≡◌, IfOk};
-ghost use Rattle.lsp_replay.specs.Run.{IsEngineRun};
+ghost use Rattle.log_session.specs.Run.{IsEngineRun};
 ghost use Rattle.laspidru.specs.Logs.{IsAskedPart, IsCommand, IsLawful, IsReplay, RanOn};
 ghost use Rattle.laspidru.specs.Logs.{command_engine, command_turns, log_ports, name_numbered};
 

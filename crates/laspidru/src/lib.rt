@@ -8,7 +8,7 @@
 //!
 //! - `document`: the functions on documents in handles, with those on positions and lines
 //!   (`positions`); `batch`: those on canonical batches; `edits`: those on text edits; `framer`:
-//!   those on framers; `log`: those on logs, with the one that compares (`compared`); `texts`: the
+//!   those on framers; `log`: those on logs, with the one that compares (`compare`); `texts`: the
 //!   version, what codes mean, and the document of a message.
 //! - `server`, `client`: the functions on one end alone, of a client with its lifecycle
 //!   (`lifecycle`), its calls on documents (`editing`), and what both are over (`call`).

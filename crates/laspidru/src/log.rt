@@ -5,7 +5,7 @@ ghost use Rattle.laspidru.specs.Codes.{IsAnswer, IsAnswerOrNoMemory, unless};
 ghost use Rattle.laspidru.specs.Logs.{IsCommandRun, IsKeptRun, IsUnlessEnded, as_output, run_asked};
 ghost use Rattle.laspidru.specs.Objects.{IsCopy, in_handle, in_use, rest_asked};
 
-mod compared;
+mod compare;
 
 use crate::bytes::{checked_text, copy_from};
 use crate::codes::{OK, OUT_OF_MEMORY, OUT_OF_RANGE, or_return};

@@ -1,6 +1,6 @@
 pub mod Alike
 pub mod Common
-pub mod Compared
+pub mod Comparison
 pub mod Hunks
 pub mod Lines
 pub mod Makers

@@ -1,6 +1,6 @@
 //! Which of several numbered changes made each byte of a text so, and how it differs from a file's.
 //!
-//! - `compared`: `Comparison`, a file and the document of a session that is compared with it.
+//! - `comparison`: `Comparison`, a file and the document of a session that is compared with it.
 //! - `tracked`: `TrackedText`, a text and which change made each of its bytes. `owners` is how:
 //!   `Splice` is a part that a change replaced.
 //! - `report`: how the text and a file differ, in words.
@@ -11,7 +11,7 @@
 #![tactic(auto)]
 
 mod alike;
-mod compared;
+mod comparison;
 mod hunks;
 mod lines;
 mod makers;
@@ -20,6 +20,6 @@ mod report;
 mod shown;
 mod tracked;
 
-pub use compared::Comparison;
+pub use comparison::{Comparison, ends_so};
 pub use owners::Splice;
 pub use tracked::TrackedText;

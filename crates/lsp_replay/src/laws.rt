@@ -4,10 +4,8 @@
 //! it.
 
 ghost use Rattle.lsp_log.specs.laws.Logs.{UniqueLaw};
-ghost use Rattle.lsp_replay.specs.laws.Documents.{DocumentsLaw, DocumentsStopAlike};
-ghost use Rattle.lsp_replay.specs.laws.JsonLines.{TraceJsonLaw, ReplayJsonLaw};
-ghost use Rattle.lsp_replay.specs.laws.Traced.{TraceLaw};
-ghost use Rattle.lsp_replay.specs.laws.Written.{ReportLaw, CanonicalLogLaw, SquashedLaw, StopsAlike, ConvertedLaw};
+ghost use Rattle.log_report.specs.laws.Trace.{TraceLaw};
+ghost use Rattle.log_rewrite.specs.laws.Written.{ReportLaw, CanonicalLogLaw, SquashedLaw, StopsAlike, ConvertedLaw, WholeLogLaw, WholeOfCanonicalLaw};
 
 use lsp_log::reading_laws;
 
@@ -22,6 +20,8 @@ use lsp_log::reading_laws;
 ///   documents and status, and the same is written again.
 /// - What `convert` writes of a log of version 1 is a log of which `replay` reports the same. For
 ///   that each reply in it must be within the limit on bodies.
+/// - What `normalise --whole` writes is a log of which `replay` reports the same, and of which the
+///   same is written again. Of what `normalise` writes it writes what it writes of the log.
 /// - `trace` ends where `check` does, and as it does, with the same numbers and words. Its last
 ///   texts are those of `replay`.
 pub fn log_laws()
@@ -31,27 +31,9 @@ pub fn log_laws()
     ensures stops { StopsAlike }
     ensures squashed { SquashedLaw }
     ensures converted { ConvertedLaw }
+    ensures whole { WholeLogLaw }
+    ensures whole_of_canonical { WholeOfCanonicalLaw }
     ensures traced { TraceLaw }
 {
     reading_laws();
 }
-
-/// States what holds where records are left out that are neither about the session nor about a
-/// document's text. It does nothing; its contract says:
-///
-/// - The log ends as it does where no record is left out: at the same record, for the same cause.
-/// - What is written is a log of which `replay` reports the same documents, with the same status
-///   and as many refusals.
-pub fn documents_laws()
-    ensures stops { DocumentsStopAlike }
-    ensures documents { DocumentsLaw }
-{}
-
-/// States that what is written as JSON is JSON. It does nothing; its contract says:
-///
-/// - `trace` writes lines, each of them JSON. The value of each is stated.
-/// - So is the line of `replay` for a document.
-pub fn json_laws()
-    ensures trace { TraceJsonLaw }
-    ensures replay { ReplayJsonLaw }
-{}

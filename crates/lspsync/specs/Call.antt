@@ -1,7 +1,7 @@
 -- The calls of the program, by what `clap` finds in its words.
 use Rattle.std.specs.Prelude.{◌≡◌, ◌⊎◌, ◌&&◌, ◌||◌, ◌∷◌, if◌then◌else◌}
 use Rattle.lspsync.specs.Prelude.{ℕ, not, is_some, [], Result, Ok, Err, Bool, true, false, List, All, map, Option, Some, None, codes, option_map, option_and_then, unwrap_or, Vec, Global, string_bytes, subcommand_of, subcommand_rows_of, kind_of, Error, Encoding, Settings, Call, Task}
-use Rattle.std.specs.Option.{option_or}
+use Rattle.std.specs.Option.{option_map_or, option_or}
 use Rattle.std.specs.Str.{bytes_eq}
 use Rattle.clap.specs.Matches.{found_of, first_value, matched_of, raw_values, subcommand_name_of}
 use Rattle.clap.specs.Simple.{App}
@@ -15,9 +15,10 @@ use Rattle.lsp_server.specs.declared.config.Config.{Config}
 use Rattle.lsp_server.specs.declared.config.EncodingChoice.TheVariants.{Negotiated}
 use Rattle.lsp_server.specs.declared.config.ChangeForm.{ChangeForm}
 use Rattle.lsp_server.specs.declared.config.ChangeForm.TheVariants.{Incremental, Full}
-use Rattle.lsp_replay.specs.declared.commands.explained.Listing.{Listing}
-use Rattle.lsp_replay.specs.declared.commands.parts.Part.{Part}
-use Rattle.lsp_replay.specs.declared.commands.traced.Details.{Details}
+use Rattle.log_report.specs.declared.commands.explain.Listing.{Listing}
+use Rattle.log_rewrite.specs.declared.commands.normalise.Rewriting.{Rewriting}
+use Rattle.log_rewrite.specs.declared.commands.part.Part.{Part}
+use Rattle.log_report.specs.declared.commands.trace.Details.{Details}
 use Rattle.lsp_program.specs.Found.{AreLimits, HasNumber, IsFlag}
 use Rattle.lspsync.specs.CommandLine.{IsProgram}
 use Rattle.lspsync.specs.declared.command_line.Against.{Against}
@@ -85,6 +86,23 @@ pub record IsListing (options : ArgMatches) (listing : Listing) : Type 0 where
   pub brief : IsFlag options (codes "brief") listing.brief
   pub all : IsFlag options (codes "all") listing.all
 
+-- How a log is written by `normalise`.
+pub record IsRewritingGiven (options : ArgMatches) (rewriting : Rewriting) : Type 0 where
+  pub whole : IsFlag options (codes "whole") rewriting.whole
+  pub documents : IsFlag options (codes "documents") rewriting.documents
+  pub live : IsFlag options (codes "live") rewriting.live
+
+-- A flag is there where `clap` has the text `true` under its name.
+abbrev pub is_set : ArgMatches → List ℕ → Bool
+is_set options id = option_map_or (λ text. bytes_eq text (codes "true"))
+    (first_value (found_of options) id) false
+
+-- A series of changes is written once it has ended. So `--squash` goes neither with `--live` nor
+-- with `--whole`.
+abbrev pub is_contrary : ArgMatches → Bool
+is_contrary options = is_set options (codes "squash")
+    && (is_set options (codes "whole") || is_set options (codes "live"))
+
 -- How the URI of the document that is compared ends: as `--uri` says, else as the saved text's name.
 abbrev pub ending_given : ArgMatches → Option (List ℕ)
 ending_given options = option_or (first_value (found_of options) (codes "uri"))
@@ -111,12 +129,9 @@ IsCallNamed name options (call.ReplayPart settings part) = (name ≡ codes "repl
     × AreSettings options settings × IsLogPart options part × (is_whole part ≡ false)
 IsCallNamed name options (call.Compare settings against) = (name ≡ codes "compare")
     × AreSettings options settings × IsAgainst options against
-IsCallNamed name options (call.Normalise settings) = (name ≡ codes "normalise")
+IsCallNamed name options (call.Normalise settings rewriting) = (name ≡ codes "normalise")
     × AreSettings options settings × IsFlag options (codes "squash") settings.squash
-    × IsFlag options (codes "documents") false
-IsCallNamed name options (call.NormaliseDocuments settings) = (name ≡ codes "normalise")
-    × AreSettings options settings × IsFlag options (codes "squash") settings.squash
-    × IsFlag options (codes "documents") true
+    × IsRewritingGiven options rewriting × (is_contrary options ≡ false)
 IsCallNamed name options (call.Convert settings) = (name ≡ codes "convert")
     × AreSettings options settings
 

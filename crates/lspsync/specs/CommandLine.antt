@@ -37,7 +37,7 @@ compare_rules = file_rule (codes "SAVED") ∷ text_rule (codes "uri") ∷ log_ru
 -- `normalise`: how the log is written.
 abbrev pub normalise_rules : List Rule
 normalise_rules = flag_rule (codes "documents") ∷ flag_rule (codes "squash")
-    ∷ log_rule (codes "FILE") ∷ []
+    ∷ flag_rule (codes "whole") ∷ flag_rule (codes "live") ∷ log_rule (codes "FILE") ∷ []
 
 -- The program: its commands, with their options. Each has `--encoding`.
 abbrev pub program_app : Choices → Choices → App

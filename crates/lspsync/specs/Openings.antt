@@ -1,8 +1,8 @@
 -- Which messages opened the documents of a log, where the one that is asked for isn't there.
 use Rattle.std.specs.Prelude.{◌≡◌}
 use Rattle.lspsync.specs.Prelude.{ℕ, true, false, [], List, Option, Some, Ok, Keeps, string_bytes, ReaderState, WriterState, ports, uncounted, allowed_turns, Missing, Outcome, IsEngineRun, Wanted}
-use Rattle.lsp_replay.specs.declared.outcome.Missing.TheVariants as missing
-use Rattle.lsp_replay.specs.Openings.{openings_engine}
+use Rattle.log_session.specs.declared.outcome.Missing.TheVariants as missing
+use Rattle.log_report.specs.Openings.{openings_engine}
 
 -- What is known of a file that was opened, of which these bytes may be known.
 abbrev pub file_opened : Option (List ℕ) → ReaderState

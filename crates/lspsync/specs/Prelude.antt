@@ -7,15 +7,20 @@ pub use Rattle.clap.specs.Simple.{new_shape, subcommand_of, subcommand_rows_of}
 pub use Rattle.clap.specs.Values.{kind_of}
 pub use Rattle.clap.specs.Words.{Rule, Shape, Text, app_of, with_subcommand}
 pub use Rattle.clap.specs.declared.error.Error.{Error}
-pub use Rattle.line_diff.specs.Compared.{new_comparison}
+pub use Rattle.line_diff.specs.Comparison.{new_comparison}
 pub use Rattle.lsp_program.specs.Arguments.{Choices, IsProgramOf, encoding_rule, file_rule, flag_rule, form_rule, limit_rules, log_rule, logs_rule, number_rule, rule_by, text_rule}
 pub use Rattle.lsp_program.specs.Output.{IsFlushed, IsPrinted, IsTextPrinted, Streams, allowed_turns}
-pub use Rattle.lsp_replay.specs.Compared.{compare_engine}
-pub use Rattle.lsp_replay.specs.Parts.{part_engine}
-pub use Rattle.lsp_replay.specs.Run.{Engine, IsEngineRun, check_engine, convert_engine, live, normalise_engine, replay_engine, serve_engine}
-pub use Rattle.lsp_replay.specs.declared.commands.Settings.{Settings}
-pub use Rattle.lsp_replay.specs.declared.outcome.Missing.{Missing}
-pub use Rattle.lsp_replay.specs.declared.outcome.Outcome.{Outcome}
+pub use Rattle.log_report.specs.Compare.{compare_engine}
+pub use Rattle.log_rewrite.specs.Part.{part_engine}
+pub use Rattle.log_session.specs.Run.{Engine, IsEngineRun, live}
+pub use Rattle.log_report.specs.Check.{check_engine}
+pub use Rattle.log_rewrite.specs.Convert.{convert_engine}
+pub use Rattle.log_rewrite.specs.Squash.{normalise_engine}
+pub use Rattle.log_session.specs.Replay.{replay_engine}
+pub use Rattle.log_session.specs.Serve.{serve_engine}
+pub use Rattle.log_session.specs.declared.settings.Settings.{Settings}
+pub use Rattle.log_session.specs.declared.outcome.Missing.{Missing}
+pub use Rattle.log_session.specs.declared.outcome.Outcome.{Outcome}
 pub use Rattle.lsp_stream.specs.Ports.{Ports, ReaderState, WriterState, ports, uncounted}
 pub use Rattle.lsp_stream.specs.declared.fault.EngineFault.{EngineFault}
 pub use Rattle.lsp_text.specs.declared.encoding.Encoding.{Encoding}

@@ -1,14 +1,14 @@
 -- What the program writes, and the status that it ends with.
 use Rattle.std.specs.Prelude.{◌≡◌, ◌⊎◌, ◌++◌, ◌∷◌}
-use Rattle.lspsync.specs.Prelude.{ℕ, [], Bool, true, false, List, length, max, nat_lt, codes, Option, Some, None, option_map, unwrap_or, IfSome, Result, Ok, Err, String, Vec, Global, Keeps, string_bytes, kind_of, Error, EngineFault, Ports, ReaderState, WriterState, ports, IsFlushed, IsPrinted, IsTextPrinted, Streams, allowed_turns, Missing, Outcome, new_comparison, compare_engine, part_engine, Engine, IsEngineRun, check_engine, convert_engine, live, normalise_engine, replay_engine, serve_engine, Call, Task, Wanted, Encoding}
+use Rattle.lspsync.specs.Prelude.{ℕ, [], Bool, true, false, List, length, max, nat_lt, codes, Option, Some, None, option_map, unwrap_or, IfSome, Result, Ok, Err, String, Vec, Global, Keeps, string_bytes, kind_of, Error, EngineFault, Ports, ReaderState, WriterState, ports, IsFlushed, IsPrinted, IsTextPrinted, Streams, allowed_turns, Missing, Outcome, new_comparison, compare_engine, part_engine, Engine, IsEngineRun, check_engine, convert_engine, live, replay_engine, serve_engine, Call, Task, Wanted, Encoding}
 use Rattle.std.specs.Result.{result_and}
 use Rattle.clap.specs.declared.error.kind.ErrorKind.{ErrorKind}
 use Rattle.clap.specs.declared.error.kind.ErrorKind.TheVariants as kind
 use Rattle.lsp_stream.specs.declared.fault.EngineFault.TheVariants.{Read, Write, NoMemory, TooManyTurns}
-use Rattle.lsp_replay.specs.declared.outcome.Missing.TheVariants as missing
-use Rattle.lsp_replay.specs.Documents.{documents_engine}
-use Rattle.lsp_replay.specs.Explained.{explain_engine}
-use Rattle.lsp_replay.specs.Trace.{trace_engine}
+use Rattle.log_session.specs.declared.outcome.Missing.TheVariants as missing
+use Rattle.log_rewrite.specs.Rewritten.{rewriting_engine}
+use Rattle.log_report.specs.Explain.{explain_engine}
+use Rattle.log_report.specs.Trace.{trace_engine}
 use Rattle.lspsync.specs.declared.command_line.Call.TheVariants as call
 use Rattle.lspsync.specs.declared.ends.Ending.{Ending}
 use Rattle.lspsync.specs.Call.{AreWordsReadAs, file_of, saved_of}
@@ -42,8 +42,7 @@ engine_of (call.Replay settings) = replay_engine settings
 engine_of (call.ReplayPart settings part) = part_engine settings part
 engine_of (call.Compare settings against) = compare_engine settings
     (new_comparison (string_bytes against.ending) (string_bytes against.text))
-engine_of (call.Normalise settings) = normalise_engine settings
-engine_of (call.NormaliseDocuments settings) = documents_engine settings
+engine_of (call.Normalise settings rewriting) = rewriting_engine settings rewriting
 engine_of (call.Convert settings) = convert_engine settings
 
 -- A fault of the engine comes before one of the flush.
@@ -293,13 +292,19 @@ pub record IsExplained (k : ErrorKind) (before after : Streams) (ending : Ending
       × IsTextPrinted before.writer after.writer answer
       × IsHelpEnd answer before.errors after.errors ending
 
+-- What is said of options that exclude each other.
+abbrev pub contrary_text : List ℕ
+contrary_text = codes "`--squash` goes neither with `--whole` nor with `--live`"
+
 -- What the program does with words: the tasks that they are, or an explanation. Where there is none
--- of both, it ends with status 2 alone.
+-- of both, its options exclude each other, as a line says; the status is 2.
 abbrev pub IsDone : KnownFiles → Result (Option (Vec Task Global)) Error → Streams → Streams → Ending →
     Type 0
 IsDone known (Ok (Some tasks)) before after ending =
     AreDone known (nat_lt 1 (length tasks.items)) nothing_yet tasks.items before after ending
-IsDone known (Ok None) before after ending = (ending.status ≡ 2) × (after ≡ before)
+IsDone known (Ok None) before after ending = (after.reader ≡ before.reader)
+    × (after.writer ≡ before.writer)
+    × Ends 2 (error_line None contrary_text) false before.errors after.errors ending
 IsDone known (Err error) before after ending = IsExplained (kind_of error) before after ending
 
 -- A run of the program with these words: what they are read as, and that this is done. Of the files

@@ -13,7 +13,8 @@ ghost use Rattle.lspsync.specs.Call.{AreSettings, AreWordsReadAs, IsCallNamed, I
 ghost use Rattle.lspsync.specs.Call.{IsExplained, IsFound, IsLogPart, encoding_given};
 ghost use Rattle.lspsync.specs.Call.{ending_given, saved_given};
 ghost use Rattle.lspsync.specs.Loaded.{with_text};
-ghost use Rattle.lspsync.specs.Call.{file_named, files_given, is_whole, sync_given};
+ghost use Rattle.lspsync.specs.Call.{file_named, files_given, is_contrary, is_set};
+ghost use Rattle.lspsync.specs.Call.{is_whole, sync_given};
 
 mod help;
 mod misplaced;
@@ -24,7 +25,7 @@ use crate::command_line::misplaced::placed;
 use crate::command_line::options::program;
 use clap::{ArgMatches, Error};
 use lsp_program::{limits_of, number_of};
-use lsp_replay::{Details, Listing, Part, Settings};
+use lsp_replay::{Details, Listing, Part, Rewriting, Settings};
 use lsp_server::{ChangeForm, Config, EncodingChoice};
 use lsp_text::Encoding;
 use std::alloc::{AllocError, Global};
@@ -60,11 +61,13 @@ pub enum Call {
     /// `compare`: print whether the last text of a document is a saved one, and else which message
     /// made each line that differs.
     Compare(Settings, Against),
-    /// `normalise`: write a log with each accepted change as its canonical message.
-    Normalise(Settings),
-    /// `normalise --documents`: write of it only what is about the session and the documents'
-    /// texts.
-    NormaliseDocuments(Settings),
+    /// `normalise`: write a log with each accepted change as its canonical message, or with
+    /// `--whole` as the text that it leaves. With `--documents` only what is about the session and
+    /// the documents' texts is written, and with `--live` it is flushed before more is read.
+    Normalise {
+        settings: Settings,
+        rewriting: Rewriting,
+    },
     /// `convert`: write a log of version 1 in version 2.
     Convert(Settings),
 }
@@ -108,8 +111,8 @@ static STANDARD_INPUT: [&str; 1] = ["-"];
 
 /// Reads the words of the command line: a call on each file that they name, or on standard input.
 /// An error is a usage fault, a text of help or the version, or out of memory. There is no call
-/// only where a subcommand or an option with its value is missing. Tests show that `clap` refuses
-/// such words before.
+/// where options of `normalise` exclude each other, or a subcommand or an option with its value is
+/// missing. Tests show that `clap` refuses the latter before.
 pub fn parse<'a>(alloc: Global, words: &'a [&'a str]) -> Result<Option<Vec<Task>>, Error>
     ensures { AreWordsReadAs (map (λ word. word.now) words.entry.now) result }
 {
@@ -257,18 +260,43 @@ fn trace_call(options: &ArgMatches<'_>) -> Option<Call>
     })
 }
 
-/// Returns the call of `normalise`, of all messages or of those about the session and the texts.
+/// Returns the call of `normalise`. A series is only written once it has ended, so `--squash` goes
+/// neither with `--live` nor with `--whole`: then there is no call.
 fn normalise_call(options: &ArgMatches<'_>) -> Option<Call>
     ensures some { IfSome result (IsCallNamed (codes "normalise") options.now) }
     ensures none { (call : Call) → IsCallNamed (codes "normalise") options.now call →
         IsSome result }
 {
-    let squash = options.get_flag("squash");
-    let settings = settings_of(options, squash)?;
-    if options.get_flag("documents") {
-        return Some(Call::NormaliseDocuments(settings));
+    if is_contrary(options) {
+        return None;
     }
-    Some(Call::Normalise(settings))
+    let settings = settings_of(options, options.get_flag("squash"))?;
+    let rewriting = Rewriting {
+        whole: options.get_flag("whole"),
+        documents: options.get_flag("documents"),
+        live: options.get_flag("live"),
+    };
+    Some(Call::Normalise {
+        settings,
+        rewriting,
+    })
+}
+
+/// Returns whether options of `normalise` exclude each other.
+fn is_contrary(options: &ArgMatches<'_>) -> bool
+    ensures { result ≡ is_contrary options.now }
+{
+    is_set(options, "squash") && (is_set(options, "whole") || is_set(options, "live"))
+}
+
+/// Returns whether a flag is there.
+fn is_set(options: &ArgMatches<'_>, id: &str) -> bool
+    ensures { result ≡ is_set options.now id.now }
+{
+    match options.get_str(id) {
+        Some(text) => text == "true",
+        None => false,
+    }
 }
 
 /// Returns the call of `replay`, of a part of a log or of the whole.

@@ -12,6 +12,9 @@ use lsp_program::{BAD_INPUT, OUT_OF_MEMORY, STREAM_FAULT, USAGE, digits, print};
 use lsp_replay::{EngineFault, Missing, Outcome, Sink};
 use std::io::ErrorKind;
 
+/// What is said of options that exclude each other.
+pub const CONTRARY: &str = "`--squash` goes neither with `--whole` nor with `--live`";
+
 /// The end of the program, or of a part of it.
 #[derive(Drop)]
 pub struct Ending {

@@ -20,8 +20,7 @@ pub fn settings_of(call: &Call) -> Option<Settings> {
         | Call::Replay(settings)
         | Call::ReplayPart(settings, _)
         | Call::Compare(settings, _)
-        | Call::Normalise(settings)
-        | Call::NormaliseDocuments(settings)
+        | Call::Normalise { settings, .. }
         | Call::Convert(settings) => Some(*settings),
     }
 }

@@ -7,21 +7,20 @@ ghost use Rattle.clap.specs.declared.error.kind.ErrorKind.TheVariants.{OutOfMemo
 ghost use Rattle.clap.specs.declared.error.kind.ErrorKind.TheVariants.{DisplayHelp, DisplayVersion};
 ghost use Rattle.lsp_stream.specs.Ports.{ports};
 ghost use Rattle.lsp_program.specs.Output.{IsPrinted, IsTextPrinted, allowed_turns, streams};
-ghost use Rattle.lsp_replay.specs.Run.{IsEngineRun};
+ghost use Rattle.log_session.specs.Run.{IsEngineRun};
 ghost use Rattle.lspsync.specs.Run.{IsEnding, IsFaultEnd, IsFileDone, IsHeaded, IsHelpEnd, IsLoaded};
 ghost use Rattle.lspsync.specs.Run.{IsNotLoaded, IsPerformed, IsProgramRun, IsTaskDone};
 ghost use Rattle.lspsync.specs.Run.{answer_after_flush, engine_of, shown_name};
 
 use crate::command_line::{Call, Task, parse};
-use crate::ends::{Ending, both, end_well, report};
+use crate::ends::{CONTRARY, Ending, both, end_well, report, say};
 use crate::files::{Folder, LogFile, end_file, read_text, unreadable};
 use crate::wanted::wanted_by;
 use clap::error as clap_error;
 use lsp_program::{MAX_TURNS, USAGE, flush, print, print_text};
 use lsp_replay::{
     Comparison, Duplex, EngineFault, Outcome, Sink, Source, Told, check, check_live, compare,
-    convert, explain, explain_live, normalise, normalise_documents, replay, replay_part, serve,
-    trace, trace_live,
+    convert, explain, explain_live, replay, replay_part, rewrite, serve, trace, trace_live,
 };
 use std::alloc::Global;
 
@@ -44,7 +43,7 @@ pub fn run<F: Folder, R: Source, W: Sink, E: Sink>(
 {
     let tasks = match parse(alloc, words) {
         Ok(Some(tasks)) => tasks,
-        Ok(None) => return Ending::new(USAGE, Ok(())),
+        Ok(None) => return say(USAGE, None, CONTRARY, errors),
         Err(error) => return print_error(alloc, &error, output, errors),
     };
     let is_headed = tasks.len() > 1;
@@ -253,9 +252,12 @@ fn obey<R: Source, W: Sink>(
             let comparison = Comparison::new(against.ending, against.text);
             compare(alloc, input, output, settings, comparison, MAX_TURNS)
         }
-        Call::Normalise(settings) => normalise(alloc, input, output, settings, MAX_TURNS),
-        Call::NormaliseDocuments(settings) => {
-            normalise_documents(alloc, input, output, settings, MAX_TURNS)
+        Call::Normalise {
+            settings,
+            rewriting,
+        } => {
+            let mut ends = Duplex::new(input, output);
+            rewrite(alloc, &mut ends, settings, rewriting, MAX_TURNS)
         }
         Call::Convert(settings) => convert(alloc, input, output, settings, MAX_TURNS),
     }

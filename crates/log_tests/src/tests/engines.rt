@@ -70,7 +70,7 @@ const SAVE: &str =
 
 /// The same with a text that isn't the document's.
 const SAVE_OTHER: &str =
-    r#"{"jsonrpc":"2.0","method":"textDocument/didSave","params":{"text":"b","textDocument":{"uri":"file:///a"}}}"#;
+    r#"{"jsonrpc":"2.0","method":"textDocument/didSave","params":{"text":"x","textDocument":{"uri":"file:///a"}}}"#;
 
 /// A request that no server of documents knows.
 const HOVER: &str =

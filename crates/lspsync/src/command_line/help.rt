@@ -10,7 +10,7 @@ use crate::command_line::texts::{
     ALL, AT, BODIES, BRIEF, CHECK, CHECK_EXAMPLE, COMPARE, COMPARE_EXAMPLE, CONVERT,
     CONVERT_EXAMPLE, DOCUMENTS, ENCODING, ENDING, EXPLAIN, LIVE, LOG, LOGS, NORMALISE,
     NORMALISE_EXAMPLE, PREFERRED_ENCODING, REPLAY, REPLAY_EXAMPLE, SAVED, SERVE, SERVE_EXAMPLE,
-    SQUASH, STDIO, SYNC, TEXTS, TRACE, TRACE_EXAMPLE, URI,
+    SQUASH, STDIO, SYNC, TEXTS, TRACE, TRACE_EXAMPLE, URI, WHOLE,
 };
 use lsp_program::Value::{ChangeForm, Encoding, File, Flag, Log, Logs, Number, Text};
 use lsp_program::{Argument, BODY, CHANGES, DOCS, Range, TEXT};
@@ -90,6 +90,8 @@ static PAGES: [Page; 7] = [
         ("encoding", Encoding(Some("utf-16")), ENCODING),
         ("documents", Flag, DOCUMENTS),
         ("squash", Flag, SQUASH),
+        ("whole", Flag, WHOLE),
+        ("live", Flag, LIVE),
         ("FILE", Log, LOG),
     ]),
     page!("convert", CONVERT, CONVERT_EXAMPLE => [

@@ -25,9 +25,9 @@ refused where its word is `refused CAUSE`, `exit 1`, or an `error` other than
 With `--explain` the line of an error, a refusal or `exit 1` also has the
 document, the reason and the message to see; that of a suspicious message has
 notes. The last lines count messages, refusals and notes, each with the first
-message, and say what to do next. A kind of note that comes often is on few
-lines; with `--all` it is on each. With `--brief` only lines with a reason or
-notes are printed.
+message, and say what to do next. Of a kind of note that comes often few are on
+a line; with `--all` each is. With `--brief` only lines with a reason or notes
+are printed.
 
 Input that is faulty (F1 or F2) at its beginning is no such log:
 `lspsync-log-from` makes one of what an editor wrote.
@@ -113,6 +113,9 @@ nor about a document's text: requests for features and their answers, and most
 notifications. `didSave` stays, and so does what was refused. `replay` reports
 the same documents and the same status.
 
+With `--whole` each accepted change is one change without a range, which holds
+the text after it. A server reads that as it is, however it counts.
+
 Example, what a person typed, as one change:
   lspsync normalise --squash examples/typing.log
 
@@ -155,6 +158,9 @@ session nor about a document's text";
 
 pub const SQUASH: &str = "Write changes of one document that follow each other as
 one message, as between two saves";
+
+pub const WHOLE: &str = "Write each accepted change as one that holds the whole
+text after it; not with --squash";
 
 pub const AT: &str = "Replay up to the Nth record alone, from 1";
 

@@ -3,12 +3,12 @@
 use super::*;
 use crate::command_line::{self, parse};
 use lsp_program::VERSION;
-use lsp_replay::{Listing, Settings};
+use lsp_replay::{Listing, Rewriting, Settings};
 use lsp_server::Config;
 use std::str;
 use std::test::Fail;
 
-static WRONG: [&str; 32] = [
+static WRONG: [&str; 34] = [
     "lspsync",
     "lspsync rewrite",
     "lspsync --max-body 4096 check",
@@ -41,6 +41,8 @@ static WRONG: [&str; 32] = [
     "lspsync normalise --uri file:///a",
     "lspsync replay --at 0",
     "lspsync replay --at x",
+    "lspsync normalise --squash --live",
+    "lspsync normalise --whole --documents --squash",
 ];
 
 /// Words, and what is said of an option that other commands have, or that none has.
@@ -106,9 +108,16 @@ fn a_call_without_options_has_the_defaults(rt: HostRuntime) -> Result<(), Fail> 
     assert!(rt; is_call(rt.alloc(), &["lspsync", "serve"], serve));
     let serve = command_line::Call::Serve(Config::default());
     assert!(rt; is_call(rt.alloc(), &["lspsync", "serve", "--stdio"], serve));
-    let documents = command_line::Call::NormaliseDocuments(Settings::default());
-    let words = ["lspsync", "normalise", "--documents"];
-    assert!(rt; is_call(rt.alloc(), &words, documents));
+    let normalise = command_line::Call::Normalise {
+        settings: Settings::default(),
+        rewriting: Rewriting {
+            whole: true,
+            documents: true,
+            live: true,
+        },
+    };
+    let words = ["lspsync", "normalise", "--documents", "--live", "--whole"];
+    assert!(rt; is_call(rt.alloc(), &words, normalise));
     let explain = command_line::Call::Explain {
         settings: Settings::default(),
         listing: Listing::default(),

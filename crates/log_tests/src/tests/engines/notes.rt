@@ -100,7 +100,7 @@ fn joined(alloc: Global, notes: &[&str], between: &str) -> Result<String, AllocE
     Ok(words)
 }
 
-/// Returns what `check` with reasons writes up to a third message with these notes.
+/// Returns what `check --all` writes up to a third message with these notes.
 fn explained(alloc: Global, notes: &[&str]) -> Result<String, AllocError> {
     if notes.is_empty() {
         return format!(in alloc; "1 reply\n2 changed\n3 changed\n{THREE}{COMPARE}");
@@ -122,7 +122,7 @@ fn is_noted(
     };
     let changed = change(alloc, 2, changes)?;
     let input = log(alloc, &[INITIALIZE, TWO_LINES, changed.as_str()])?;
-    let run = run_with(alloc, Command::Explain, &input, settings, SMOOTH)?;
+    let run = run_with(alloc, Command::All, &input, settings, SMOOTH)?;
     Ok(run.output.starts_with(explained(alloc, notes)?.as_bytes()))
 }
 
@@ -162,7 +162,7 @@ fn whole_texts_are_noted_where_ranges_were_asked_for(rt: HostRuntime) -> Result<
 }
 
 const LENIENT: &str =
-    "1 reply\n2 changed\n3 changed of \"file:///a\": the document was open already\n4 changed\n5 changed of \"file:///a\": version 2 was sent, and the current one was 2; change 1 changes nothing\nmessages of the editor: 5, changed documents: 4\nnoted open already: 1, first message 3\nnoted an old version: 1, first message 5\nnoted changes nothing: 1, first message 5\n";
+    "1 reply\n2 changed\n3 changed of \"file:///a\": the document was open already\n4 changed\n5 changed of \"file:///a\": version 2 was sent, and the current one was 2\nmessages of the editor: 5, changed documents: 4\nnoted open already: 1, first message 3\nnoted an old version: 1, first message 5\nnoted changes nothing: 1, first message 5\n";
 
 /// Returns whether what lenient limits accept is noted.
 fn is_accepted(alloc: Global) -> Result<bool, Fail> {
@@ -173,7 +173,7 @@ fn is_accepted(alloc: Global) -> Result<bool, Fail> {
     };
     let input = log(alloc, &[INITIALIZE, OPEN, OPEN, WHOLE, WHOLE])?;
     let run = run_with(alloc, Command::Explain, &input, settings, SMOOTH)?;
-    let output = format!(in alloc; "{LENIENT}{SEE}")?;
+    let output = format!(in alloc; "{LENIENT}{SEE}{HIDDEN}")?;
     Ok(run.answer == Ended(0, 5, 0).answer() && run.output.as_slice() == output.as_bytes())
 }
 
@@ -198,15 +198,15 @@ static SAME: [&str; 6] = [
 const SAME_COUNTED: &str =
     "messages of the editor: 6, changed documents: 5\nnoted a CR alone: 1, first message 2\nnoted changes nothing: 3, first message 4\nNothing was refused; see the notes. `lspsync replay --at N`: the texts after message N.\n";
 
-const HABIT: &str = "A kind of note that comes often is on few lines. `--all`: on each.\n";
+const HIDDEN: &str = "Some notes are on no line: `--all` has each on its line.\n";
 
-/// What `check` with reasons writes of this session: where a kind of note is a habit, each note, and
-/// only lines with a reason or notes.
+/// What `check` with reasons writes of this session: without the notes that changes change nothing,
+/// with each note, and only lines with a reason or notes.
 static LISTED: [(Command, &str, &str); 3] = [
     (
         Command::Explain,
-        "1 reply\n2 changed of \"file:///a\": a CR alone ends a line, and an LF another\n3 changed\n4 changed of \"file:///a\": change 1 changes nothing\n5 changed\n6 changed\n",
-        HABIT,
+        "1 reply\n2 changed of \"file:///a\": a CR alone ends a line, and an LF another\n3 changed\n4 changed\n5 changed\n6 changed\n",
+        HIDDEN,
     ),
     (
         Command::All,
@@ -215,8 +215,8 @@ static LISTED: [(Command, &str, &str); 3] = [
     ),
     (
         Command::Brief,
-        "2 changed of \"file:///a\": a CR alone ends a line, and an LF another\n4 changed of \"file:///a\": change 1 changes nothing\n",
-        HABIT,
+        "2 changed of \"file:///a\": a CR alone ends a line, and an LF another\n",
+        HIDDEN,
     ),
 ];
 
@@ -229,7 +229,7 @@ fn is_listed(alloc: Global, command: Command, lines: &str, last: &str) -> Result
 }
 
 #[test]
-fn a_kind_of_note_that_comes_often_is_said_once(rt: HostRuntime) -> Result<(), Fail> {
+fn that_changes_change_nothing_is_on_a_line_with_all_alone(rt: HostRuntime) -> Result<(), Fail> {
     for (command, lines, last) in &LISTED {
         assert!(rt;
             is_listed(rt.alloc(), *command, lines, last)?,
@@ -239,9 +239,9 @@ fn a_kind_of_note_that_comes_often_is_said_once(rt: HostRuntime) -> Result<(), F
     Ok(())
 }
 
-/// Members of a `didSave` after [`TWO_LINES`], beside its document, and the line that is noted. A
-/// member that comes again counts.
-static SAVES: [(&str, Option<u8>); 11] = [
+/// Members of a `didSave` after [`TWO_LINES`], beside its document, and the line that is noted: 0
+/// where a part of the document was saved. A member that comes again counts.
+static SAVES: [(&str, Option<u8>); 12] = [
     (r#""text":"one\ntwo😀\n""#, None),
     (r#""version":2"#, None),
     (r#""text":["one"]"#, None),
@@ -250,23 +250,32 @@ static SAVES: [(&str, Option<u8>); 11] = [
     (r#""text":"""#, Some(1)),
     // A carriage return before a line feed ends no line.
     (r#""text":"one\r\ntwo😀\n""#, Some(1)),
-    (r#""text":"one""#, Some(1)),
+    (r#""text":"one""#, Some(0)),
+    (r#""text":"two😀\n""#, Some(0)),
     (r#""text":"one\ntwo😁\n""#, Some(2)),
-    (r#""text":"one\ntwo😀""#, Some(2)),
+    (r#""text":"one\ntwo😀""#, Some(0)),
     (r#""text":"one\ntwo😀\n\n""#, Some(3)),
 ];
 
 const OTHER_SAVED: &str =
     "ignored of \"file:///a\": the saved text is not the document's: they differ in line";
 
+const PART_SAVED: &str = "ignored of \"file:///a\": a part of the document was saved";
+
 /// Returns what `check --brief` writes of a third message with a note of this line, if it has one.
 fn brief(alloc: Global, line: Option<u8>) -> Result<String, AllocError> {
     let counted = "messages of the editor: 3, changed documents: 1\n";
-    let Some(line) = line else {
-        return format!(in alloc; "{counted}{COMPARE}");
-    };
-    let noted = "noted another text saved: 1, first message 3\n";
-    format!(in alloc; "3 {OTHER_SAVED} {line} first\n{counted}{noted}{SEE}")
+    match line {
+        None => format!(in alloc; "{counted}{COMPARE}"),
+        Some(0) => {
+            let noted = "noted a part saved: 1, first message 3\n";
+            format!(in alloc; "3 {PART_SAVED}\n{counted}{noted}{SEE}")
+        }
+        Some(line) => {
+            let noted = "noted another text saved: 1, first message 3\n";
+            format!(in alloc; "3 {OTHER_SAVED} {line} first\n{counted}{noted}{SEE}")
+        }
+    }
 }
 
 /// Returns whether a `didSave` with these members has a note of this line.
@@ -280,7 +289,7 @@ fn is_saved(alloc: Global, members: &str, line: Option<u8>) -> Result<bool, Fail
 }
 
 /// Returns whether another text that is saved before `initialize` has no note, and one that is saved
-/// again has it on no line.
+/// again has it on its line each time.
 fn is_saved_often(alloc: Global) -> Result<bool, Fail> {
     let input = log(
         alloc,
@@ -290,7 +299,7 @@ fn is_saved_often(alloc: Global) -> Result<bool, Fail> {
     let lines =
         "messages of the editor: 5, changed documents: 1\ndropped: 1, first message 1\nnoted another text saved: 2, first message 4\n";
     let output = format!(in alloc;
-        "1 dropped\n2 reply\n3 changed\n4 {OTHER_SAVED} 1 first\n5 ignored\n{lines}{SEE}{HABIT}"
+        "1 dropped\n2 reply\n3 changed\n4 {OTHER_SAVED} 1 first\n5 {OTHER_SAVED} 1 first\n{lines}{SEE}"
     )?;
     Ok(run.output.as_slice() == output.as_bytes())
 }

@@ -1,0 +1,31 @@
+use Rattle.log_report.proofs.Prelude.{true, false, sym, ◌∙◌, arith, common_steps}
+use Rattle.log_report.proofs.Reports.SavedLemmas.{goes_on, is_over}
+use Rattle.log_report.proofs.notes.saved.differing_line.Goals.{then-ends_line, else-ends_line}
+use Rattle.log_report.proofs.notes.saved.differing_line.Goals as goal
+
+pub bytes-preserved : goal.bytes-preserved
+bytes-preserved c =
+    let held = c.bytes.invariant in
+    let text = c.args.text.now in
+    let next = c.bytes.next in
+    elim c.if-ends_line.branch [
+      | then-ends_line w ↦
+          rw w.line-is (record {
+            within = omega (arith, c.bytes-test.true);
+            few = omega (arith, held.few);
+            rest = held.rest
+                ∙ goes_on true c.bytes.line next text c.args.other.now c.bytes-test.true c.if-next-other.true
+                c.if-text-next.false (sym c.ends_line.ensures ∙ w.if-ends_line.true);
+          })
+      | else-ends_line w ↦
+          rw w.line-is (record {
+            within = omega (arith, c.bytes-test.true);
+            few = omega (arith, held.few);
+            rest = held.rest
+                ∙ goes_on false c.bytes.line next text c.args.other.now c.bytes-test.true c.if-next-other.true
+                c.if-text-next.false (sym c.ends_line.ensures ∙ w.if-ends_line.false);
+          })
+    ]
+
+pub returns-else-next-other : goal.returns-else-next-other
+returns-else-next-other c = grind (arith, common_steps, is_over, c.bytes.invariant.rest, c.if-next-other.false)

@@ -1,0 +1,135 @@
+-- `check --explain`: a line of `check` for each record, with the reason where it was refused and
+-- the notes where it is suspicious; at the end what came how often, and what to do next.
+use Rattle.std.specs.Prelude.{◌==◌, ◌&&◌, ◌||◌, ◌∷◌, ◌++◌, if◌then◌else◌}
+use Rattle.log_report.specs.Prelude.{ℕ, Bool, false, not, List, [], Option, Some, None, codes, decimal, LimitsData, is_save, notification_params, reading, IncomingData, incoming_of, other_notification, Sender, Record, Settings, Listing, Note, Data}
+use Rattle.lsp_log.specs.declared.record.Sender.TheVariants.{Client}
+use Rattle.log_session.specs.RunOutput.{RunOutput}
+use Rattle.log_session.specs.Settings.{log_config}
+use Rattle.log_session.specs.View.{output_in}
+use Rattle.log_report.specs.Check.{verdict_word}
+use Rattle.log_report.specs.Counts.{Counts, counts_words, rare_notes}
+use Rattle.log_report.specs.Tallies.{has_tallies}
+use Rattle.log_report.specs.Lines.{FactsData, Known, LineView, facts_of, has_notes, lines, nothing_known, uri_of}
+use Rattle.log_report.specs.Notes.{notes_of, notes_words, saved_uri}
+use Rattle.log_report.specs.Reasons.{reason_words, renamed_words}
+use Rattle.log_session.specs.Run.{Engine, log_engine}
+use Rattle.log_session.specs.Session.{Session, Judged, Verdict, answered, is_refused, opened, refuses}
+use Rattle.log_report.specs.Trace.{json_string}
+
+-- Which lines there are where a user sets nothing: each, with the notes that aren't hidden.
+abbrev pub default_listing : Listing
+default_listing = record { brief = false; all = false }
+
+-- The document that a record is about, as a JSON string.
+abbrev pub document_words : Option (List ℕ) → List ℕ
+document_words None = []
+document_words (Some uri) = codes " of " ++ json_string uri
+
+-- Which record to look at.
+abbrev pub see_words : Option ℕ → List ℕ
+see_words None = []
+see_words (Some number) = codes "; see message " ++ decimal number
+
+-- What comes after the word of a record that counts as refused.
+abbrev pub explanation : LimitsData → FactsData → Verdict → List ℕ
+explanation limits f (answered answer) = if is_refused answer then
+    document_words f.uri ++ codes ": " ++ reason_words limits f.change answer
+    ++ renamed_words f.renamed ++ see_words f.last else []
+explanation limits f verdict = []
+
+-- The document whose text was saved, of an editor's message.
+abbrev pub saved_in : Sender → IncomingData → Option Data → Option (List ℕ)
+saved_in Client (other_notification method) params = if is_save method then saved_uri params else None
+saved_in side m params = None
+
+-- The document that notes are about: the record's, or that of the text that was saved.
+abbrev pub noted_uri : Option (List ℕ) → Option (List ℕ) → Option (List ℕ)
+noted_uri None saved = saved
+noted_uri (Some uri) saved = Some uri
+
+-- What comes after the word of a record that has notes.
+abbrev pub remark : Option (List ℕ) → List Note → List ℕ
+remark uri [] = []
+remark uri (note ∷ notes) =
+    document_words uri ++ codes ": " ++ notes_words (codes "; ") (note ∷ notes)
+
+-- The notes on a record's line: those that aren't hidden, and with `--all` each.
+abbrev pub listed_notes : Listing → Counts → List Note → List Note
+listed_notes listing counts notes = if listing.all then notes else rare_notes counts notes
+
+-- Has a record a line? With `--brief` only one that counts as refused, or has notes on its line.
+abbrev pub is_listed : Listing → Verdict → List Note → Bool
+is_listed listing verdict notes = not listing.brief || (refuses verdict || has_notes notes)
+
+-- The line of a record with these notes on it. They are about the document `noted`.
+abbrev pub line_with : LimitsData → FactsData → Option (List ℕ) → List Note → List ℕ
+line_with limits f noted notes =
+    decimal f.number ++ codes " " ++ verdict_word f.verdict ++ explanation limits f f.verdict
+    ++ remark noted notes ++ codes "\n"
+
+-- The same, unless the record has none.
+abbrev pub listed_line : Listing → LimitsData → FactsData → Option (List ℕ) → List Note → List ℕ
+listed_line listing limits f noted notes =
+    if is_listed listing f.verdict notes then line_with limits f noted notes else []
+
+-- A line of `check --explain`, from what is known of the records before, the session before the
+-- record and the judgement of it. `m` is what the record's body asks.
+abbrev pub explained_line : Listing → Known → Session → Record → Judged → IncomingData → List ℕ
+explained_line listing known s r j m =
+    listed_line listing j.session.server.config.limits (facts_of known s r j m)
+    (noted_uri (uri_of r.head.side m)
+    (saved_in r.head.side m (notification_params (reading r.body))))
+    (listed_notes listing known.counts (notes_of s known.ranged r.body j.verdict))
+
+-- ---- what to do next, after so many refusals
+
+-- The line at the end that says what to do next, by the number of refusals and, where there is
+-- none, by whether a record has notes.
+abbrev pub first_advice : ℕ → Bool → List ℕ
+first_advice refusals suspicious =
+    if refusals == 0 then (if suspicious then
+    codes "Nothing was refused; see the notes. `lspsync replay --at N`: the texts after message N.\n"
+    else codes "Nothing was refused. `lspsync compare SAVED LOG` says where a saved file differs, and by which messages.\n")
+    else
+    codes "Refused messages change nothing. `lspsync replay --at N`: the texts after message N.\n"
+
+-- The line after it, by whether a record is refused with S1, or with S5 and changes.
+abbrev pub lenient_advice : Bool → List ℕ
+lenient_advice strict_refusal = if strict_refusal then
+    codes "Many servers don't refuse what is S1 or S5 here. `--lenient` doesn't either.\n"
+    else []
+
+-- The line after that, by whether a note is on no line.
+abbrev pub hidden_advice : Bool → List ℕ
+hidden_advice hides = if hides then
+    codes "Some notes are on no line: `--all` has each on its line.\n"
+    else []
+
+-- The lines, by what is known of all records.
+abbrev pub advice : Listing → ℕ → Known → List ℕ
+advice listing refusals known =
+    first_advice refusals (has_tallies known.counts.noted) ++ lenient_advice known.strict_refusal
+    ++ hidden_advice (not listing.all && known.counts.hides)
+
+-- The lines at the end: what came how often, and what to do next.
+abbrev pub closing_lines : Listing → Known → Session → List ℕ
+closing_lines listing known s = if s.records == 0 then codes "The log has no messages.\n"
+    else counts_words s.messages known.counts ++ advice listing s.refusals known
+
+-- ---- the engine
+
+-- `check --explain` writes a line for each record, or for some, and at the end these lines.
+abbrev pub explaining : Listing → LineView
+explaining listing = record {
+  line = λ known s r j. explained_line listing known s r j (incoming_of (reading r.body));
+  end_lines = closing_lines listing;
+}
+
+-- The output of `check --explain`.
+abbrev pub explained : Settings → Listing → List Record → RunOutput
+explained settings listing =
+    output_in (lines (explaining listing)) nothing_known (opened (log_config settings))
+
+-- The engine of `check --explain`.
+abbrev pub explain_engine : Settings → Listing → Engine
+explain_engine settings listing = log_engine settings (explained settings listing)

@@ -1,0 +1,14 @@
+pub mod Check
+pub mod Compare
+pub mod Counts
+pub mod Explain
+pub mod Lines
+pub mod Mentions
+pub mod Notes
+pub mod Openings
+pub mod Prelude
+pub mod Reasons
+pub mod Tallies
+pub mod Trace
+pub mod inside
+pub mod laws

@@ -1,0 +1,142 @@
+-- The commands that write a line for each record by what is known of the records before it: `trace`
+-- and `check --explain`.
+use Rattle.std.specs.Prelude.{◌&&◌, ◌||◌, if◌then◌else◌, ◌∷◌}
+use Rattle.log_report.specs.Prelude.{ℕ, Bool, true, false, not, List, [], Option, Some, None, is_none, is_some, reading, ChangeData, AlreadyOpen, NotOpen, StaleVersion, refused, IncomingData, did_open, did_change, did_close, incoming_of, Store, Head, Sender, Record, Note}
+use Rattle.lsp_log.specs.declared.record.Sender.TheVariants.{Client}
+use Rattle.log_session.specs.View.{View, unless_bad, writes}
+use Rattle.log_session.specs.Canonical.{change_in}
+use Rattle.log_report.specs.Counts.{Counts, counts_after, nothing_counted}
+use Rattle.log_report.specs.Mentions.{Mention, is_mention, last_for, last_record, mentioned}
+use Rattle.log_report.specs.Notes.{notes_of}
+use Rattle.log_session.specs.Session.{ranged_after, Session, Judged, Verdict, answered, has_changed, session_outcome}
+use Rattle.log_report.specs.Reasons.{is_empty, is_idle}
+
+-- The document that a record of one side is about: the URI in valid parameters of an editor's
+-- message.
+abbrev pub uri_of : Sender → IncomingData → Option (List ℕ)
+uri_of Client (did_open (Some p)) = Some p.uri
+uri_of Client (did_change (Some p)) = Some p.uri
+uri_of Client (did_close (Some p)) = Some p.uri
+uri_of side m = None
+
+-- ---- what is known of the records before one
+
+-- What is known of them.
+pub record Known : Type 0 where
+  -- the documents that were opened, closed or refused last
+  pub mentions : List Mention
+  -- the documents that were opened, changed or closed last
+  pub made : List Mention
+  -- did the server ask for ranges?
+  pub ranged : Bool
+  -- is one of them refused with S1 or S5, which lenient limits never do, and meant to change a text?
+  pub strict_refusal : Bool
+  -- how often what came
+  pub counts : Counts
+
+-- Before the first record.
+abbrev pub nothing_known : Known
+nothing_known = record {
+  mentions = [];
+  made = [];
+  ranged = false;
+  strict_refusal = false;
+  counts = nothing_counted;
+}
+
+-- Are there notes?
+abbrev pub has_notes : List Note → Bool
+has_notes [] = false
+has_notes (note ∷ notes) = true
+
+-- Is a record refused with S1, with S4, with S5?
+abbrev pub is_open_already : Verdict → Bool
+is_open_already (answered (refused (Store AlreadyOpen))) = true
+is_open_already verdict = false
+
+abbrev pub is_not_open : Verdict → Bool
+is_not_open (answered (refused (Store NotOpen))) = true
+is_not_open verdict = false
+
+abbrev pub is_stale_refusal : Verdict → Bool
+is_stale_refusal (answered (refused (Store (StaleVersion current)))) = true
+is_stale_refusal verdict = false
+
+-- Is a record refused with S1, or with S5 and changes? `change` is what it asks for.
+abbrev pub is_strict_refusal : Option ChangeData → Verdict → Bool
+is_strict_refusal change verdict = is_open_already verdict || is_stale_refusal verdict && not (is_idle change)
+
+-- What is known after a record with this head and body, by the session before it.
+abbrev pub known_after : Known → Session → Head → List ℕ → Judged → Known
+known_after known s head body j = record {
+  mentions = mentioned (is_mention (is_some (change_in (incoming_of (reading body)))) j.verdict)
+      (uri_of head.side (incoming_of (reading body))) j.session.records known.mentions;
+  made = mentioned (has_changed j.verdict) (uri_of head.side (incoming_of (reading body)))
+      j.session.records known.made;
+  ranged = ranged_after known.ranged s head.side body;
+  strict_refusal = known.strict_refusal
+      || is_strict_refusal (change_in (incoming_of (reading body))) j.verdict;
+  counts = counts_after known.counts j.session.records j.verdict
+      (notes_of s known.ranged body j.verdict);
+}
+
+-- ---- what is known of a document that a record is refused for
+
+-- The record to look at: of an old version the one that made the current version, of another
+-- refusal the last one that opened, closed or refused the document.
+abbrev pub last_in : Known → Option (List ℕ) → Verdict → Option ℕ
+last_in known uri verdict =
+    if is_stale_refusal verdict then last_for known.made uri verdict else last_for known.mentions uri verdict
+
+-- None of this name was opened, and another was.
+abbrev pub is_new_name : List Mention → Option (List ℕ) → Bool
+is_new_name made None = false
+is_new_name made (Some uri) = is_none (last_record uri made) && not (is_empty made)
+
+-- Its editor may have renamed a document: it isn't open, and none of its name was.
+abbrev pub is_renamed : Known → Option (List ℕ) → Verdict → Bool
+is_renamed known uri verdict = is_not_open verdict && is_new_name known.made uri
+
+-- What a line says of a record.
+pub record FactsData : Type 0 where
+  pub number : ℕ
+  pub verdict : Verdict
+  -- the document that it is about
+  pub uri : Option (List ℕ)
+  -- the change that it asks for
+  pub change : Option ChangeData
+  -- may its document be another one under a new name?
+  pub renamed : Bool
+  -- the record to look at
+  pub last : Option ℕ
+  pub notes : List Note
+
+-- By what is known of the records before, the session before the record and the judgement of it. `m`
+-- is what the record's body asks.
+abbrev pub facts_of : Known → Session → Record → Judged → IncomingData → FactsData
+facts_of known s r j m = record {
+  number = j.session.records;
+  verdict = j.verdict;
+  uri = uri_of r.head.side m;
+  change = change_in m;
+  renamed = is_renamed known (uri_of r.head.side m) j.verdict;
+  last = last_in known (uri_of r.head.side m) j.verdict;
+  notes = notes_of s known.ranged r.body j.verdict;
+}
+
+-- ---- the output
+
+-- What such a command writes: the line of a record, from the session before it and the judgement of
+-- it, and the lines at the end.
+pub record LineView : Type 0 where
+  pub line : Known → Session → Record → Judged → List ℕ
+  pub end_lines : Known → Session → List ℕ
+
+-- Such a command. Its state is what is known of the records before.
+abbrev pub lines : LineView → View Known
+lines view = record {
+  record_output = λ known s r j. unless_bad r j.verdict (writes (view.line known s r j));
+  next = λ known s r j. known_after known s r.head r.body j;
+  end_output = λ known s line_due. view.end_lines known s;
+  outcome = λ known s. session_outcome s;
+}

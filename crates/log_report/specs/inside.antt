@@ -1,0 +1,5 @@
+-- Definitions that only private contracts speak of.
+pub mod Facts
+pub mod Mentions
+pub mod Tallies
+pub mod Terms

@@ -1,0 +1,98 @@
+-- The facts of a record, what is known after it, and its lines by them.
+use Rattle.std.specs.Prelude.{◌≡◌, ◌||◌, if◌then◌else◌}
+use Rattle.log_report.specs.Prelude.{ℕ, Bool, List, [], Option, Some, None, is_some, option_map, string_bytes, Record, Reading, reading, change_view, incoming_of, ServerData, Taken, Appended, Listing, Note, lengths_of, notification_params}
+use Rattle.lsp_log.specs.declared.record.Sender.TheVariants.{Client}
+use Rattle.log_report.specs.declared.facts.About.{About}
+use Rattle.log_report.specs.declared.facts.Facts.{Facts}
+use Rattle.log_session.specs.declared.session.canonical.Appended.TheVariants.{Body}
+use Rattle.log_report.specs.Counts.{counts_after, rare_notes}
+use Rattle.log_report.specs.Explain.{noted_uri, saved_in}
+use Rattle.log_report.specs.Lines.{FactsData, Known, facts_of, is_renamed, is_strict_refusal, last_in, uri_of}
+use Rattle.log_report.specs.Mentions.{is_mention, mentioned}
+use Rattle.log_report.specs.Notes.{notes_if, notes_of, notes_on}
+use Rattle.log_session.specs.Session.{Session, has_changed, judge}
+use Rattle.log_session.specs.inside.Bodies.{BodyData, body_read, on_client}
+use Rattle.log_session.specs.inside.Taken.{ranged_with, received_of}
+use Rattle.log_session.specs.inside.Verdicts.{verdict_view}
+
+-- ---- before the record is taken, by what was read of its body
+
+pub record IsAbout (s : ServerData) (ranged : Bool) (body : Reading) (read : BodyData)
+    (about : About) :
+    Type 0 where
+  pub uri : option_map string_bytes about.uri ≡ on_client None (uri_of Client) read
+  pub saved : option_map string_bytes about.saved
+      ≡ on_client None (λ m. saved_in Client m (notification_params body)) read
+  pub notes : about.notes.items
+      ≡ on_client [] (notes_on s ranged (lengths_of body) (notification_params body)) read
+
+-- ---- after it
+
+-- The facts of the code as their value.
+abbrev pub facts_view : Facts → FactsData
+facts_view facts = record {
+  number = facts.number;
+  verdict = verdict_view facts.verdict;
+  uri = option_map string_bytes facts.uri;
+  change = option_map change_view facts.change;
+  renamed = facts.renamed;
+  last = facts.last;
+  notes = facts.notes.items;
+}
+
+-- By what the record is about, and what became of it.
+pub record IsLearned (known : Known) (n : ℕ) (about : About) (taken : Taken) (facts : Facts) :
+    Type 0 where
+  pub number : facts.number ≡ n
+  pub verdict : facts.verdict ≡ taken.verdict
+  pub uri : facts.uri ≡ about.uri
+  pub saved : facts.saved ≡ about.saved
+  pub change : facts.change ≡ taken.change
+  pub renamed : facts.renamed
+      ≡ is_renamed known (option_map string_bytes about.uri) (verdict_view taken.verdict)
+  pub last : facts.last
+      ≡ last_in known (option_map string_bytes about.uri) (verdict_view taken.verdict)
+  pub notes : facts.notes.items ≡ notes_if about.notes.items (verdict_view taken.verdict)
+  pub rare : facts.rare.items
+      ≡ rare_notes known.counts (notes_if about.notes.items (verdict_view taken.verdict))
+
+-- What is known after a record with this number.
+abbrev pub known_by : Known → ℕ → About → Taken → Known
+known_by known number about taken = record {
+  mentions = mentioned (is_mention (is_some taken.change) (verdict_view taken.verdict))
+      (option_map string_bytes about.uri) number known.mentions;
+  made = mentioned (has_changed (verdict_view taken.verdict))
+      (option_map string_bytes about.uri) number known.made;
+  ranged = ranged_with known.ranged taken.ranged;
+  strict_refusal = known.strict_refusal
+      || is_strict_refusal (option_map change_view taken.change) (verdict_view taken.verdict);
+  counts = counts_after known.counts number (verdict_view taken.verdict)
+      (notes_if about.notes.items (verdict_view taken.verdict));
+}
+
+-- Of a record before which the session was `s`. The change is one that a running server received.
+pub record AreFacts (known : Known) (s : Session) (r : Record) (facts : Facts) : Type 0 where
+  pub are : facts_view facts
+      ≡ record (facts_of known s r (judge s r) (incoming_of (reading r.body))) {
+        change = received_of s (body_read r.head.version r.head.side r.body);
+      }
+  pub saved : option_map string_bytes facts.saved
+      ≡ saved_in r.head.side (incoming_of (reading r.body)) (notification_params (reading r.body))
+  pub rare : facts.rare.items
+      ≡ rare_notes known.counts (notes_of s known.ranged r.body (judge s r).verdict)
+
+-- ---- the lines, by the facts
+
+-- The notes on the line of `check --explain`.
+abbrev pub listed_by : Listing → Facts → List Note
+listed_by listing facts = if listing.all then facts.notes.items else facts.rare.items
+
+-- The document that notes are about.
+abbrev pub noted_by : Facts → Option (List ℕ)
+noted_by facts =
+    noted_uri (option_map string_bytes facts.uri) (option_map string_bytes facts.saved)
+
+-- The canonical message, if its body was appended.
+abbrev pub canonical_json : Option Appended → List ℕ → Option (List ℕ)
+canonical_json (Some Body) bytes = Some bytes
+canonical_json appended bytes = None

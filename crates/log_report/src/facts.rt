@@ -1,0 +1,297 @@
+//! The facts of a record, from which `trace` and `check --explain` print its line; and what is
+//! known of the records before it.
+//!
+//! `noting` has what is suspicious of a message, `asked` what a body asks.
+
+ghost use Rattle.std.specs.Prelude.{◌≡◌, ◌≢◌, ◌⊎◌, IfErr, IfOk, OnOk, option_map, true};
+ghost use Rattle.lsp_log.specs.Splitting.{record_of};
+ghost use Rattle.lsp_message.specs.Seen.{change_view};
+ghost use Rattle.log_report.specs.Lines.{is_new_name, is_not_open, is_open_already};
+ghost use Rattle.log_report.specs.Lines.{is_renamed, is_stale_refusal, is_strict_refusal, known_after};
+ghost use Rattle.log_report.specs.Lines.{last_in, nothing_known};
+ghost use Rattle.log_report.specs.Mentions.{is_mention, last_for};
+ghost use Rattle.log_session.specs.Session.{bad};
+ghost use Rattle.log_session.specs.inside.Bodies.{judge_at};
+ghost use Rattle.log_report.specs.inside.Facts.{AreFacts, IsLearned, known_by, noted_by};
+ghost use Rattle.log_session.specs.inside.Reads.{IsNotedOf, IsReadOf};
+ghost use Rattle.log_session.specs.inside.Taken.{IsShown, accepted_of, ranged_with};
+ghost use Rattle.log_session.specs.inside.Verdicts.{verdict_view};
+
+pub(crate) mod asked;
+mod noting;
+
+use crate::counts::Counts;
+use crate::facts::noting::{about_of, notes_if};
+use crate::mentions::Mentions;
+use crate::notes::Note;
+use crate::printer::reasons::is_idle;
+use log_session::{RecordBody, Session, Taken, Verdict, Witness, has_changed, in_log};
+use lsp_log::Record;
+use lsp_message::ChangeParams;
+use lsp_server::{Answer, Refusal};
+use lsp_store::StoreFault;
+use lsp_stream::EngineFault;
+use std::alloc::{AllocError, Global};
+use std::marker::Model;
+
+/// What a record is about, before it is taken.
+#[derive(Drop)]
+pub struct About {
+    /// The URI of its document.
+    pub uri: Option<String>,
+    /// The URI of the document whose text was saved, if it isn't about the documents.
+    pub saved: Option<String>,
+    /// What is suspicious of it, unless it is refused.
+    pub notes: Vec<Note>,
+}
+
+/// The facts of a record that was taken.
+#[derive(Drop)]
+pub struct Facts {
+    /// Its number, from 1.
+    pub number: u64,
+    pub verdict: Verdict,
+    /// The URI of the document that it is about.
+    pub uri: Option<String>,
+    /// The URI of the document whose text was saved, if it isn't about the documents.
+    pub saved: Option<String>,
+    /// The params of a change that a running server received: what a reason quotes.
+    pub change: Option<ChangeParams>,
+    /// Whether the document may be another one under a new name, if the documents refused it.
+    pub renamed: bool,
+    /// The record to look at, if the documents refused this one: which made the current version, if
+    /// this one has an old version; else which opened, closed or refused the document last.
+    pub last: Option<u64>,
+    /// What is suspicious of it, unless it was refused.
+    pub notes: Vec<Note>,
+    /// The notes that are on its line.
+    pub rare: Vec<Note>,
+}
+
+impl Facts {
+    /// Returns the document that notes are about: the record's, or that of the text that was saved.
+    pub fn noted(&self) -> Option<&str>
+        ensures { option_map (λ uri. uri.now) result ≡ noted_by self.now }
+    {
+        match &self.uri {
+            Some(uri) => Some(uri.as_str()),
+            None => self.saved.as_deref(),
+        }
+    }
+}
+
+/// What is known of the records before one.
+#[derive(Drop)]
+pub struct Known {
+    alloc: Global,
+    // The documents that were opened, closed or refused last.
+    mentions: Mentions,
+    // The documents that were opened, changed or closed last.
+    made: Mentions,
+    // Whether the server asked for ranges.
+    ranged: bool,
+    /// Whether a record is refused with S1 or S5, which lenient limits never do, and was meant to
+    /// change a text.
+    pub strict_refusal: bool,
+    pub counts: Counts,
+}
+
+impl Model for Known {
+    ghost use Rattle.log_report.specs.Lines as spec;
+
+    ghost Value = { spec.Known };
+
+    ghost view = { λ known. record {
+      mentions = known.mentions.newest.items;
+      made = known.made.newest.items;
+      ranged = known.ranged;
+      strict_refusal = known.strict_refusal;
+      counts = known.counts;
+    } };
+}
+
+impl Known {
+    /// Starts before the first record. Takes no memory.
+    pub fn nothing(alloc: Global) -> Self
+        ensures { result ≡ nothing_known }
+    {
+        Known {
+            alloc,
+            mentions: Mentions::new(alloc),
+            made: Mentions::new(alloc),
+            ranged: false,
+            strict_refusal: false,
+            counts: Counts::nothing(alloc),
+        }
+    }
+
+    /// Takes the record that was read into a session, as [`Session::take`] does, and returns its
+    /// facts. A record that can't be in a log is [`EngineFault::BadLog`], at its first byte.
+    pub fn take<W: Witness>(
+        &mut self,
+        session: &mut Session,
+        item: &Record<'_>,
+        read: RecordBody<'_>,
+        witness: &mut W,
+    ) -> Result<Facts, EngineFault>
+        requires is_read { IsReadOf item.now.head item.now.body.now read }
+        requires noted { IsNotedOf true item.now.body.now read }
+        requires fits { W.Fits witness.old session.old.server }
+        ensures facts { IfOk result
+            (AreFacts self.old session.old (record_of item.now)) }
+        ensures in_log { IfOk result (λ facts. verdict_view facts.verdict ≢ bad) }
+        ensures session { OnOk result (session.new
+            ≡ (judge_at session.old item.now.head item.now.body.now).session) }
+        ensures known { OnOk result
+            (self.new ≡ known_after self.old session.old item.now.head item.now.body.now
+            (judge_at session.old item.now.head item.now.body.now)) }
+        ensures shown { OnOk result (IsShown (witness.new ≡ witness.old)
+            (W.HasSeen witness.old witness.new) session.old session.new
+            (accepted_of session.old item.now.head item.now.body.now)) }
+        ensures error { IfErr result (λ fault. (fault ≡ EngineFault.NoMemory)
+            ⊎ ((fault ≡ EngineFault.BadLog item.now.head.place)
+            × ((judge_at session.old item.now.head item.now.body.now).verdict ≡ bad))) }
+    {
+        let about = about_of(self.alloc, session.server(), self.ranged, &read)?;
+        let taken = session.take(read, witness)?;
+        in_log(&taken.verdict, item.head.place)?;
+        Ok(self.learn(session.records(), about, taken)?)
+    }
+
+    /// Learns of a record with this number that was taken.
+    fn learn(&mut self, number: u64, about: About, taken: Taken) -> Result<Facts, AllocError>
+        ensures facts { IfOk result (IsLearned self.old number about taken) }
+        ensures known { OnOk result (self.new ≡ known_by self.old number about taken) }
+    {
+        let About { uri, saved, notes } = about;
+        let Taken {
+            verdict,
+            change,
+            ranged,
+        } = taken;
+        let renamed = self.is_renamed(uri.as_deref(), &verdict);
+        let last = self.last_in(uri.as_deref(), &verdict);
+        let notes = notes_if(notes, &verdict);
+        let rare = self.counts.rare(&notes)?;
+        let mentioned = is_mention(change.is_some(), &verdict);
+        self.mentions.keep(mentioned, uri.as_deref(), number)?;
+        self.made
+            .keep(has_changed(&verdict), uri.as_deref(), number)?;
+        self.ranged = ranged_with(self.ranged, ranged);
+        let is_strict = is_strict_refusal(change.as_ref(), &verdict);
+        self.strict_refusal = self.strict_refusal || is_strict;
+        self.counts.count(number, &verdict, &notes)?;
+        Ok(Facts {
+            number,
+            verdict,
+            uri,
+            saved,
+            change,
+            renamed,
+            last,
+            notes,
+            rare,
+        })
+    }
+
+    /// Returns the record to look at, if the documents refused one about a document: which made the
+    /// current version, if it was an old version that they refused; else which opened, closed or
+    /// refused the document last.
+    fn last_in(&self, uri: Option<&str>, verdict: &Verdict) -> Option<u64>
+        ensures { result ≡ last_in self.now (option_map (λ uri. uri.now) uri.entry)
+            (verdict_view verdict.now) }
+    {
+        if is_stale_refusal(verdict) {
+            last_for(&self.made, uri, verdict)
+        } else {
+            last_for(&self.mentions, uri, verdict)
+        }
+    }
+
+    /// Returns whether an editor may have renamed a document, if the documents refused a record
+    /// about it.
+    fn is_renamed(&self, uri: Option<&str>, verdict: &Verdict) -> bool
+        ensures { result ≡ is_renamed self.now (option_map (λ uri. uri.now) uri.entry)
+            (verdict_view verdict.now) }
+    {
+        is_not_open(verdict) && is_new_name(&self.made, uri)
+    }
+}
+
+/// Returns the record that is about a document last in a list, if the documents refused one about
+/// it.
+fn last_for(mentions: &Mentions, uri: Option<&str>, verdict: &Verdict) -> Option<u64>
+    ensures { result ≡ last_for mentions.now.newest.items
+        (option_map (λ uri. uri.now) uri.entry) (verdict_view verdict.now) }
+{
+    let Verdict::Answered(Answer::Refused(_)) = verdict else {
+        return None;
+    };
+    mentions.last(uri?)
+}
+
+/// Returns whether no document of this name was opened, and another was.
+fn is_new_name(made: &Mentions, uri: Option<&str>) -> bool
+    ensures { result ≡ is_new_name made.now.newest.items (option_map (λ uri. uri.now) uri.entry) }
+{
+    match uri {
+        Some(uri) => made.last(uri).is_none() && !made.is_empty(),
+        None => false,
+    }
+}
+
+/// Returns whether ranges are asked for after a record, by what it says of that, if it does.
+fn ranged_with(before: bool, ranged: Option<bool>) -> bool
+    ensures { result ≡ ranged_with before ranged }
+{
+    ranged.unwrap_or(before)
+}
+
+/// Returns whether an answer opens, closes or refuses a document.
+fn is_mention(is_change: bool, verdict: &Verdict) -> bool
+    ensures { result ≡ is_mention is_change (verdict_view verdict.now) }
+{
+    match verdict {
+        Verdict::Answered(Answer::Changed) => !is_change,
+        Verdict::Answered(Answer::Refused(_)) => true,
+        _ => false,
+    }
+}
+
+/// Returns whether a record is refused with S1, or with S5 and changes.
+fn is_strict_refusal(change: Option<&ChangeParams>, verdict: &Verdict) -> bool
+    ensures { result ≡ is_strict_refusal (option_map (λ p. change_view p.now) change.entry)
+        (verdict_view verdict.now) }
+{
+    is_open_already(verdict) || is_stale_refusal(verdict) && !is_idle(change)
+}
+
+/// Returns whether a record is refused with S1.
+fn is_open_already(verdict: &Verdict) -> bool
+    ensures { result ≡ is_open_already (verdict_view verdict.now) }
+{
+    matches!(
+        verdict,
+        Verdict::Answered(Answer::Refused(Refusal::Store(StoreFault::AlreadyOpen)))
+    )
+}
+
+/// Returns whether a record is refused with S4.
+fn is_not_open(verdict: &Verdict) -> bool
+    ensures { result ≡ is_not_open (verdict_view verdict.now) }
+{
+    matches!(
+        verdict,
+        Verdict::Answered(Answer::Refused(Refusal::Store(StoreFault::NotOpen)))
+    )
+}
+
+/// Returns whether a record is refused with S5.
+fn is_stale_refusal(verdict: &Verdict) -> bool
+    ensures { result ≡ is_stale_refusal (verdict_view verdict.now) }
+{
+    matches!(
+        verdict,
+        Verdict::Answered(Answer::Refused(Refusal::Store(StoreFault::StaleVersion { .. })))
+    )
+}

@@ -1,0 +1,165 @@
+//! What is suspicious of a message on the documents before it.
+
+ghost use Rattle.std.specs.Prelude.{◌≡◌, IfOk, option_map, List, string_bytes, true, ℕ};
+ghost use Rattle.serde_json.specs.View.{view};
+ghost use Rattle.lsp_message.specs.Lengths.{is_save};
+ghost use Rattle.lsp_message.specs.Message.{reading};
+ghost use Rattle.lsp_message.specs.Seen.{change_view};
+ghost use Rattle.lsp_server.specs.Seen.{incoming_view};
+ghost use Rattle.lsp_store.specs.Table.{entry_at};
+ghost use Rattle.log_report.specs.Explain.{saved_in};
+ghost use Rattle.log_report.specs.Notes.{changing_notes, notes_if, notes_on, opening_notes};
+ghost use Rattle.log_report.specs.Notes.{terms_in};
+ghost use Rattle.log_session.specs.inside.Bodies.{body_view};
+ghost use Rattle.log_report.specs.inside.Facts.{IsAbout};
+ghost use Rattle.log_session.specs.inside.Reads.{IsNotedOf};
+ghost use Rattle.log_session.specs.inside.Verdicts.{verdict_view};
+
+use crate::facts::About;
+use crate::facts::asked::uri_of;
+use crate::notes::Note;
+use crate::notes::changes::{Terms, push_batch_notes};
+use crate::notes::returns::{has_feed, has_lone_return};
+use crate::notes::saved::{push_saved_note, saved_uri};
+use log_session::{RecordBody, Verdict, copied_text};
+use lsp_log::Sender;
+use lsp_message::{ChangeParams, Noted, OpenParams};
+use lsp_server::{Answer, Incoming, Server};
+use lsp_text::Encoding;
+use std::alloc::{AllocError, Global};
+
+/// Returns what a record is about that was read. A server's record is about no document.
+pub(super) fn about_of(
+    alloc: Global,
+    server: &Server,
+    ranged: bool,
+    read: &RecordBody<'_>,
+) -> Result<About, AllocError>
+    ensures { IfOk result (λ about. (body : List ℕ) → IsNotedOf true body read.now
+        → IsAbout server.now ranged (reading body) (body_view read.now) about) }
+{
+    let RecordBody::Client(_, incoming, noted) = read else {
+        return Ok(About {
+            uri: None,
+            saved: None,
+            notes: Vec::new(alloc),
+        });
+    };
+    Ok(About {
+        uri: copied_text(alloc, uri_of(Sender::Client, incoming))?,
+        saved: copied_text(alloc, saved_in(incoming, noted))?,
+        notes: notes_on(alloc, server, ranged, incoming, noted)?,
+    })
+}
+
+/// Returns whether this is the method of a document that was saved.
+fn is_save(method: &str) -> bool
+    ensures { result ≡ is_save method.now }
+{
+    method == "textDocument/didSave"
+}
+
+/// Returns the URI of the document whose text was saved.
+fn saved_in<'a>(incoming: &Incoming, noted: &'a Noted) -> Option<&'a str>
+    ensures { option_map (λ uri. uri.now) result ≡ saved_in Sender.Client
+        (incoming_view incoming.now) (option_map view noted.now.params) }
+{
+    match incoming {
+        Incoming::OtherNotification { method } if is_save(method) => {
+            saved_uri(noted.params.as_ref())
+        }
+        _ => None,
+    }
+}
+
+/// Returns what there is to note of a message, unless it is refused.
+fn notes_on(
+    alloc: Global,
+    server: &Server,
+    ranged: bool,
+    incoming: &Incoming,
+    noted: &Noted,
+) -> Result<Vec<Note>, AllocError>
+    ensures { IfOk result (λ notes. notes.items ≡ notes_on server.now ranged noted.now.lengths.items
+        (option_map view noted.now.params) (incoming_view incoming.now)) }
+{
+    match incoming {
+        Incoming::DidOpen(Some(params)) => opening_notes(alloc, server, params),
+        Incoming::DidChange(Some(params)) => {
+            changing_notes(alloc, server, ranged, &noted.lengths, params)
+        }
+        Incoming::OtherNotification { method } => {
+            let mut notes = Vec::new(alloc);
+            if is_save(method) {
+                push_saved_note(alloc, &mut notes, server.store(), noted.params.as_ref())?;
+            }
+            Ok(notes)
+        }
+        _ => Ok(Vec::new(alloc)),
+    }
+}
+
+/// Notes that a document is open that is to be opened, and what is suspicious of its text.
+fn opening_notes(
+    alloc: Global,
+    server: &Server,
+    params: &OpenParams,
+) -> Result<Vec<Note>, AllocError>
+    ensures { IfOk result (λ notes. notes.items
+        ≡ opening_notes (entry_at server.now.table (string_bytes params.now.uri))
+        (string_bytes params.now.text)) }
+{
+    let mut notes = Vec::new(alloc);
+    if server.store().get(&params.uri).is_some() {
+        notes.push(Note::OpenAlready)?;
+    }
+    let bytes = params.text.as_bytes();
+    if has_lone_return(bytes) && has_feed(bytes) {
+        notes.push(Note::LoneReturn)?;
+    }
+    Ok(notes)
+}
+
+/// Notes what is suspicious of a change, if its document is open.
+#[tactic(auto, using(crate::proofs::Reports::NoteLemmas::edits_read))]
+fn changing_notes(
+    alloc: Global,
+    server: &Server,
+    ranged: bool,
+    lengths: &[Option<u64>],
+    params: &ChangeParams,
+) -> Result<Vec<Note>, AllocError>
+    ensures { IfOk result (λ notes. notes.items
+        ≡ changing_notes (terms_in server.now ranged lengths.now) (change_view params.now)
+        (entry_at server.now.table (string_bytes params.now.uri))) }
+{
+    let mut notes = Vec::new(alloc);
+    let Some(document) = server.store().get(&params.uri) else {
+        return Ok(notes);
+    };
+    let terms = Terms {
+        encoding: server.encoding().unwrap_or(Encoding::Utf16),
+        lengths,
+        ranged,
+    };
+    let sent = params.version;
+    let current = document.version();
+    if sent <= current {
+        notes.push(Note::OldVersion { sent, current })?;
+    }
+    push_batch_notes(alloc, &mut notes, document.text(), &terms, &params.changes)?;
+    Ok(notes)
+}
+
+/// Returns the notes of a message that is accepted or ignored; any other has none.
+pub(super) fn notes_if(mut notes: Vec<Note>, verdict: &Verdict) -> Vec<Note>
+    ensures { result.items ≡ notes_if notes.items (verdict_view verdict.now) }
+{
+    match verdict {
+        Verdict::Answered(Answer::Changed | Answer::Ignored) => notes,
+        _ => {
+            notes.clear();
+            notes
+        }
+    }
+}

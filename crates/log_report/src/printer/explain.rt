@@ -1,0 +1,292 @@
+//! `check` with reasons: what a server answers to each record of a log, why it was refused, and
+//! what is suspicious of it.
+
+ghost use Rattle.std.specs.Prelude.{◌≡◌, ◌++◌, ◌&&◌, not, OnOk, codes, decimal, flat_map, option_map, true};
+ghost use Rattle.log_report.specs.Counts.{counts_words};
+ghost use Rattle.log_session.specs.Settings.{log_config};
+ghost use Rattle.log_report.specs.Lines.{lines, nothing_known};
+ghost use Rattle.log_session.specs.Session.{opened};
+ghost use Rattle.log_report.specs.Tallies.{tally_words};
+ghost use Rattle.log_report.specs.Explain.{advice, closing_lines, document_words, explaining, explanation, first_advice};
+ghost use Rattle.log_report.specs.Explain.{is_listed, line_with, listed_line, remark, see_words};
+ghost use Rattle.log_session.specs.inside.Printer.{state_in};
+ghost use Rattle.log_report.specs.inside.Facts.{facts_view, listed_by, noted_by};
+ghost use Rattle.log_session.specs.inside.Verdicts.{verdict_view};
+
+use crate::commands::explain::Listing;
+use crate::counts::Counts;
+use crate::counts::tallies::{Tally, has_tallies};
+use crate::facts::{Facts, Known};
+use crate::members::{push_if, push_json_string, push_number, push_words};
+use crate::notes::Note;
+use crate::printer::check::push_verdict;
+use crate::printer::noted::push_notes;
+use crate::printer::reasons::{push_reason, push_renamed};
+use log_session::{
+    Finished, Given, Nothing, Output, Printed, Printer, RecordBody, Session, Settings, Verdict,
+    is_refused, refuses,
+};
+use lsp_frame::Limits;
+use lsp_log::Record;
+use std::alloc::{AllocError, Global};
+
+/// Writes a line for each record, or for some, and at the end what came how often and what to do
+/// next.
+#[derive(Drop)]
+pub struct Explain {
+    pub session: Session,
+    pub known: Known,
+    pub alloc: Global,
+    pub listing: Listing,
+}
+
+impl Explain {
+    /// Starts before the first record.
+    pub fn new(alloc: Global, settings: Settings, listing: Listing) -> Explain
+        ensures session { result.session ≡ opened (log_config settings) }
+        ensures known { result.known ≡ nothing_known }
+        ensures listing { result.listing ≡ listing }
+    {
+        Explain {
+            session: settings.session(alloc),
+            known: Known::nothing(alloc),
+            alloc,
+            listing,
+        }
+    }
+
+    /// Writes the line of a record, if it has one.
+    fn push_facts(&self, buffer: &mut Vec<u8>, facts: &Facts) -> Result<(), AllocError>
+        ensures { OnOk result (buffer.new.items ≡ buffer.old.items
+            ++ listed_line self.now.listing self.now.session.server.config.limits
+            (facts_view facts.now) (noted_by facts.now) (listed_by self.now.listing facts.now)) }
+    {
+        let notes = listed_notes(self.listing, facts);
+        if !is_listed(self.listing, &facts.verdict, notes) {
+            return Ok(());
+        }
+        let limits = self.session.server().store().limits();
+        push_line(self.alloc, buffer, limits, facts, notes)
+    }
+
+    /// Writes the lines at the end.
+    fn push_end(&self, buffer: &mut Vec<u8>) -> Result<(), AllocError>
+        ensures { OnOk result (buffer.new.items ≡ buffer.old.items
+            ++ closing_lines self.now.listing self.now.known self.now.session) }
+    {
+        if self.session.records() == 0 {
+            return push_words(buffer, "The log has no messages.\n");
+        }
+        push_counts(buffer, self.session.outcome().messages, &self.known.counts)?;
+        self.push_advice(buffer)
+    }
+
+    /// Writes what to do next.
+    fn push_advice(&self, buffer: &mut Vec<u8>) -> Result<(), AllocError>
+        ensures { OnOk result (buffer.new.items ≡ buffer.old.items
+            ++ advice self.now.listing self.now.session.refusals self.now.known) }
+    {
+        let noted = self.known.counts.noted.as_slice();
+        let refusals = self.session.outcome().refused;
+        push_words(buffer, first_advice(refusals, has_tallies(noted)))?;
+        push_if(
+            buffer,
+            self.known.strict_refusal,
+            "Many servers don't refuse what is S1 or S5 here. `--lenient` doesn't either.\n",
+        )?;
+        push_if(
+            buffer,
+            self.hides_notes(),
+            "Some notes are on no line: `--all` has each on its line.\n",
+        )
+    }
+
+    /// Returns whether a note is on no line.
+    fn hides_notes(&self) -> bool
+        ensures { result ≡ (not self.now.listing.all && self.now.known.counts.hides) }
+    {
+        !self.listing.all && self.known.counts.hides
+    }
+}
+
+impl Printer for Explain {
+    ghost state = { λ explain.
+        state_in (lines (explaining explain.listing)) explain.known explain.session };
+
+    ghost NOTES = { true };
+
+    const NOTES: bool = true;
+
+    fn session(&self) -> &Session {
+        &self.session
+    }
+
+    fn print(&mut self, item: &Record<'_>, read: RecordBody<'_>, buffer: &mut Vec<u8>) -> Printed {
+        let mut witness = Nothing;
+        let facts = self
+            .known
+            .take(&mut self.session, item, read, &mut witness)?;
+        self.push_facts(buffer, &facts)?;
+        Ok(Given::more(Output::Bytes))
+    }
+
+    fn finish(&mut self, _line_due: bool, buffer: &mut Vec<u8>) -> Finished {
+        self.push_end(buffer)?;
+        Ok(Some(self.session.outcome()))
+    }
+}
+
+/// Returns the notes on the line of a record: those that aren't hidden, or each.
+fn listed_notes(listing: Listing, facts: &Facts) -> &[Note]
+    ensures { result.now ≡ listed_by listing facts.now }
+{
+    if listing.all {
+        facts.notes.as_slice()
+    } else {
+        facts.rare.as_slice()
+    }
+}
+
+/// Returns whether a record with these notes on its line has one.
+fn is_listed(listing: Listing, verdict: &Verdict, notes: &[Note]) -> bool
+    ensures { result ≡ is_listed listing (verdict_view verdict.now) notes.now }
+{
+    !listing.brief || refuses(verdict) || !notes.is_empty()
+}
+
+/// Writes the line of a record, with these notes.
+fn push_line(
+    alloc: Global,
+    buffer: &mut Vec<u8>,
+    limits: Limits,
+    facts: &Facts,
+    notes: &[Note],
+) -> Result<(), AllocError>
+    ensures { OnOk result (buffer.new.items ≡ buffer.old.items
+        ++ line_with limits (facts_view facts.now) (noted_by facts.now) notes.now) }
+{
+    push_number(buffer, facts.number)?;
+    buffer.extend_from_slice(b" ")?;
+    push_verdict(buffer, &facts.verdict)?;
+    push_explanation(alloc, buffer, limits, facts)?;
+    push_remark(alloc, buffer, facts.noted(), notes)?;
+    buffer.extend_from_slice(b"\n")
+}
+
+/// Writes why a record was refused, if it was.
+fn push_explanation(
+    alloc: Global,
+    buffer: &mut Vec<u8>,
+    limits: Limits,
+    facts: &Facts,
+) -> Result<(), AllocError>
+    ensures { OnOk result (buffer.new.items ≡ buffer.old.items
+        ++ explanation limits (facts_view facts.now) (verdict_view facts.now.verdict)) }
+{
+    let Verdict::Answered(answer) = &facts.verdict else {
+        return Ok(());
+    };
+    if !is_refused(answer) {
+        return Ok(());
+    }
+    push_document(alloc, buffer, facts.uri.as_deref())?;
+    buffer.extend_from_slice(b": ")?;
+    push_reason(buffer, limits, facts.change.as_ref(), answer)?;
+    push_renamed(buffer, facts.renamed)?;
+    push_see(buffer, facts.last)
+}
+
+/// Writes what is suspicious of a record, and of which document, if something is.
+fn push_remark(
+    alloc: Global,
+    buffer: &mut Vec<u8>,
+    uri: Option<&str>,
+    notes: &[Note],
+) -> Result<(), AllocError>
+    ensures { OnOk result (buffer.new.items ≡ buffer.old.items
+        ++ remark (option_map (λ uri. uri.now) uri.entry) notes.now) }
+{
+    if notes.is_empty() {
+        return Ok(());
+    }
+    push_document(alloc, buffer, uri)?;
+    buffer.extend_from_slice(b": ")?;
+    push_notes(buffer, "; ", notes)
+}
+
+/// Writes the document that a record or its notes are about.
+fn push_document(alloc: Global, buffer: &mut Vec<u8>, uri: Option<&str>) -> Result<(), AllocError>
+    ensures { OnOk result (buffer.new.items ≡ buffer.old.items
+        ++ document_words (option_map (λ uri. uri.now) uri.entry)) }
+{
+    let Some(uri) = uri else {
+        return Ok(());
+    };
+    buffer.extend_from_slice(b" of ")?;
+    push_json_string(alloc, buffer, uri)
+}
+
+/// Writes which record to look at, if there is one.
+fn push_see(buffer: &mut Vec<u8>, last: Option<u64>) -> Result<(), AllocError>
+    ensures { OnOk result (buffer.new.items ≡ buffer.old.items ++ see_words last) }
+{
+    let Some(number) = last else {
+        return Ok(());
+    };
+    buffer.extend_from_slice(b"; see message ")?;
+    push_number(buffer, number)
+}
+
+/// Writes how many messages the editor sent, and what came how often.
+fn push_counts(buffer: &mut Vec<u8>, messages: u64, counts: &Counts) -> Result<(), AllocError>
+    ensures { OnOk result
+        (buffer.new.items ≡ buffer.old.items ++ counts_words messages counts.now) }
+{
+    push_words(buffer, "messages of the editor: ")?;
+    push_number(buffer, messages)?;
+    push_words(buffer, ", changed documents: ")?;
+    push_number(buffer, counts.changed)?;
+    push_words(buffer, "\n")?;
+    push_tallies(buffer, "", &counts.dropped)?;
+    push_tallies(buffer, "refused by ", &counts.refused)?;
+    push_tallies(buffer, "noted ", &counts.noted)
+}
+
+/// Writes a line for each thing that was counted.
+fn push_tallies(buffer: &mut Vec<u8>, front: &str, tallies: &[Tally]) -> Result<(), AllocError>
+    ensures { OnOk result (buffer.new.items ≡ buffer.old.items
+        ++ flat_map (tally_words front.now) tallies.now) }
+{
+    for tally in tallies {
+        push_tally(buffer, front, tally)?;
+    }
+    Ok(())
+}
+
+/// Writes how often something came, and with which record first.
+fn push_tally(buffer: &mut Vec<u8>, front: &str, tally: &Tally) -> Result<(), AllocError>
+    ensures { OnOk result
+        (buffer.new.items ≡ buffer.old.items ++ tally_words front.now tally.now) }
+{
+    push_words(buffer, front)?;
+    push_words(buffer, &tally.words)?;
+    push_words(buffer, ": ")?;
+    push_number(buffer, tally.count())?;
+    push_words(buffer, ", first message ")?;
+    push_number(buffer, tally.first)?;
+    push_words(buffer, "\n")
+}
+
+/// Returns what to do first, after so many refusals.
+fn first_advice(refusals: u64, suspicious: bool) -> &'static str
+    ensures { result.now ≡ first_advice refusals suspicious }
+{
+    if refusals != 0 {
+        return "Refused messages change nothing. `lspsync replay --at N`: the texts after message N.\n";
+    }
+    if suspicious {
+        "Nothing was refused; see the notes. `lspsync replay --at N`: the texts after message N.\n"
+    } else {
+        "Nothing was refused. `lspsync compare SAVED LOG` says where a saved file differs, and by which messages.\n"
+    }
+}

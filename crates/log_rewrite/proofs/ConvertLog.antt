@@ -1,0 +1,3 @@
+-- The log of both directions that `convert` writes.
+pub mod ConvertLemmas
+pub mod ConvertLogLemmas

@@ -1,0 +1,3 @@
+-- `replay` of a part of a log.
+pub mod KeptLemmas
+pub mod PartLemmas

@@ -1,0 +1,9 @@
+pub mod Convert
+pub mod Documents
+pub mod Normalise
+pub mod Part
+pub mod Prelude
+pub mod Rewritten
+pub mod Squash
+pub mod inside
+pub mod laws

@@ -1,0 +1,9 @@
+use Rattle.log_session.proofs.Prelude.{◌≡◌, refl, change_view, store_of}
+use Rattle.log_session.proofs.Records.TakenLemmas.{plan_written}
+use Rattle.log_session.proofs.session.canonical.CanonicalWitness.see.Goals as goal
+
+pub returns : goal.returns
+returns c =
+    let store : c.store.result.now ≡ store_of c.args.session.now.server = rw (c.store.ensures, c.server.ensures) refl in
+    plan_written c.args.session.now.server (change_view c.args._params.now) c.requires.planned store
+    c.in_ok-appended.appended c.args.self.now.bytes.items c.append_body.new.output.items c.in_ok-appended.ensures

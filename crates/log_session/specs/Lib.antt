@@ -1,0 +1,14 @@
+pub mod AllRecords
+pub mod Canonical
+pub mod Engine
+pub mod OneLine
+pub mod Prelude
+pub mod Replay
+pub mod Run
+pub mod RunOutput
+pub mod Selection
+pub mod Serve
+pub mod Session
+pub mod Settings
+pub mod View
+pub mod inside

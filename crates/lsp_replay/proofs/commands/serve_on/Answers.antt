@@ -1,8 +1,0 @@
-use Rattle.lsp_replay.proofs.Prelude.{false, refl, opened, serving}
-use Rattle.lsp_replay.proofs.Runs.RunReportLemmas.{run_of}
-use Rattle.lsp_replay.proofs.commands.serve_on.Goals as goal
-
-pub returns-clause-run : goal.returns-clause-run
-returns-clause-run g c =
-    run_of serving tt (opened c.args.config) false (λ _ _. refl)
-    (rw (c.new-pipeline.ensures.selection, c.new-pipeline.ensures.printer, c.new.ensures) at c.run_on.ensures.run)

@@ -1,6 +1,0 @@
-use Rattle.lsp_replay.proofs.JsonLines.JsonLawLemmas.{trace_json_law}
-use Rattle.lsp_replay.proofs.JsonLines.LineLemmas.{document_json}
-use Rattle.lsp_replay.proofs.laws.json_laws.Goals as goal
-
-pub returns : goal.returns
-returns c = record { trace = trace_json_law; replay = document_json }

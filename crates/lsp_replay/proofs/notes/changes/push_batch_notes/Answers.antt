@@ -1,9 +1,0 @@
-use Rattle.lsp_replay.proofs.Prelude.{arith, terms_view}
-use Rattle.lsp_replay.proofs.Reports.NoteLemmas.{one_noted}
-use Rattle.lsp_replay.proofs.notes.changes.push_batch_notes.Goals as goal
-
-pub returns-in-len1 : goal.returns-in-len1
-returns-in-len1 c =
-    rw (one_noted (terms_view c.args.terms.now) c.args.text.now c.args.changes.now c.change-item.result
-    (omega (arith, c.in-len1.len_at_least, c.in-len1.len_below)) c.change-item.is)
-    c.push_change_notes.ensures

@@ -1,8 +1,0 @@
-use Rattle.lsp_replay.proofs.Prelude.{drop, map, units_in, content_change_view, splices_from}
-use Rattle.lsp_replay.proofs.Reports.CompareLemmas.{Splicing}
-use Rattle.lsp_replay.proofs.printer.comparing.splices.splices_of.Given as goal
-
-abbrev pub invariant-loop-change : goal.invariant-loop-change
-invariant-loop-change l =
-    Splicing (units_in l.encoding) (splices_from (units_in l.encoding) l.text (map content_change_view l.changes))
-    (drop l.change-index l.changes) l.left l.splices.items

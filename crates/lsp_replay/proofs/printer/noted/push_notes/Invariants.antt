@@ -1,7 +1,0 @@
-use Rattle.lsp_replay.proofs.Prelude.{◌++◌, drop, notes_words}
-use Rattle.lsp_replay.proofs.Reports.NoteLemmas.{Writing}
-use Rattle.lsp_replay.proofs.printer.noted.push_notes.Given as goal
-
-abbrev pub invariant-loop-note : goal.invariant-loop-note
-invariant-loop-note l = Writing (l.fn.buffer.items ++ notes_words l.between l.notes) l.between
-    (drop l.note-index l.rest) l.buffer.items

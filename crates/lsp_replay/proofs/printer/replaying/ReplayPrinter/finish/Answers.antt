@@ -1,9 +1,0 @@
-use Rattle.lsp_replay.proofs.Prelude.{rules, refl}
-use Rattle.lsp_replay.proofs.Reports.ReportLemmas.{report_part}
-use Rattle.lsp_replay.proofs.printer.replaying.ReplayPrinter.finish.Goals as goal
-
-pub returns-clause-ok : goal.returns-clause-ok
-returns-clause-ok c =
-    let part = report_part c.args.self.now.next c.args.self.now.session.server.table c.in-Some.document
-    (search rules) in
-    (rw (c.in_ok-push_document_line.ensures, c.requires) part.0, refl, part.1)

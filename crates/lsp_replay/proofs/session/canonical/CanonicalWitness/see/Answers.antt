@@ -1,9 +1,0 @@
-use Rattle.lsp_replay.proofs.Prelude.{◌≡◌, refl, change_view, store_of}
-use Rattle.lsp_replay.proofs.Records.TakenLemmas.{plan_written}
-use Rattle.lsp_replay.proofs.session.canonical.CanonicalWitness.see.Goals as goal
-
-pub returns : goal.returns
-returns c =
-    let store : c.store.result.now ≡ store_of c.args.session.now.server = rw (c.store.ensures, c.server.ensures) refl in
-    plan_written c.args.session.now.server (change_view c.args._params.now) c.requires.planned store
-    c.in_ok-appended.appended c.args.self.now.bytes.items c.append_body.new.output.items c.in_ok-appended.ensures
