@@ -23,7 +23,9 @@ import time
 from xml.etree import ElementTree
 
 HERE = os.path.dirname(os.path.realpath(__file__))
-FILES = [os.path.join(HERE, name) for name in ("vectors.jsonl", "edits.jsonl", "sessions.jsonl", "frames.jsonl")]
+# The program that computes the vectors reads them there
+DATA = os.path.join(os.path.dirname(HERE), "crates", "lsp_vectors", "data")
+FILES = [os.path.join(DATA, name) for name in ("vectors.jsonl", "edits.jsonl", "sessions.jsonl", "frames.jsonl")]
 RIGHT, OTHER, WRONG, ERROR, SKIPPED = WORDS = ("right", "other", "WRONG", "ERROR", "not asked")
 RESULTS = {"text", "documents", "bodies"}
 SECONDS, CUTS, DEATHS, SHOWN = 10, 300, 10, 2000

@@ -4,8 +4,8 @@
 The named cases are below, each with a sentence on what it tests, the section of LSP 3.17 that it is about, and whether the standard
 "says" what it means or leaves it "open". The random ones are the same on each run.
 
-After a change of these, `python3 conformance/cases.py edits | ./launch lsp_vectors > conformance/edits.jsonl` makes a file of vectors
-anew, and so for the others. It is then copied into crates/lsp_vectors/data/ too."""
+After a change of these, `python3 conformance/cases.py edits | ./launch lsp_vectors > edits.jsonl` makes a file of vectors anew, and so for
+the others. They are in crates/lsp_vectors/data/."""
 import json
 import sys
 
@@ -227,7 +227,10 @@ def messages():
         one("reversed/" + name, about, POSITION, text, change, standard="open")
     for name, change, about in [("negative-character", ch("X", 0, -1), "A negative character."), ("negative-line", ch("X", -1, 0), "A negative line."),
                                 ("over-uinteger", ch("X", 0, 2147483648), "One more than the greatest uinteger, 2147483647: still read as past the end."),
-                                ("over-32-bits", ch("X", 0, 4294967296), "A character of more than 32 bits.")]:
+                                ("most-of-32-bits", ch("X", 0, 4294967295), "The greatest character of 32 bits: still read as past the end."),
+                                ("over-32-bits", ch("X", 0, 4294967296), "A character of more than 32 bits."),
+                                ("line-most-of-32-bits", ch("X", 4294967295, 0), "The greatest line of 32 bits: still read as past the last."),
+                                ("line-over-32-bits", ch("X", 4294967296, 0), "A line of more than 32 bits.")]:
         one("numbers/" + name, about, "uinteger", "ab", change, standard="open")
 
 
@@ -313,6 +316,8 @@ def sessions():
     session("change-closed", "A document that isn't open is changed.", OPEN, opened("a"), closed(), changed(2, ch("b", 0, 1)), standard="open")
     session("close-twice", "A document that isn't open is closed.", CLOSE, opened("a"), closed(), closed(), standard="open")
     session("null-version", "A version that is null.", VERSION, opened("a"), changed(None, ch("b", 0, 1)), standard="open")
+    session("over-greatest", "A version that is one over the greatest integer.", VERSION, opened("a"), changed(2147483648, ch("b", 0, 1)), standard="open")
+    session("under-least", "A version that is one under the least integer.", VERSION, opened("a", -2147483649), opened("b", -2147483648), standard="open")
 
 
 def frames():
@@ -321,6 +326,7 @@ def frames():
     body = '{"jsonrpc":"2.0","method":"exit"}'
     head = lambda text: f"Content-Length: {len(text.encode())}\r\n"
     framed = lambda text: head(text) + "\r\n" + text
+    padded = lambda size: head("{}") + "X: " + (size - len(head("{}")) - 7) * "x" + "\r\n\r\n{}"
     frame("one", "A header with a length, an empty line, and so many bytes.", framed(body))
     frame("two", "Frames follow each other without anything between them.", framed(body) + framed("{}"))
     frame("nothing", "An empty stream has no frame.", "")
@@ -332,6 +338,7 @@ def frames():
     frame("type-utf8", "utf8 is taken for utf-8, for old implementations.", head("{}") + "Content-Type: application/vscode-jsonrpc; charset=utf8\r\n\r\n{}", "open")
     frame("type-first", "The header fields come in any order.", "Content-Type: application/vscode-jsonrpc; charset=utf-8\r\n" + head("{}") + "\r\n{}")
     frame("length-in-type", "A parameter of the type isn't the length, whatever it looks like.", 'Content-Type: application/vscode-jsonrpc; charset=utf-8; note="Content-Length: 1"\r\n' + head("{}") + "\r\n{}")
+    frame("type-word", "A parameter of the type may lack a value.", head("{}") + "Content-Type: application/vscode-jsonrpc; strict; charset=utf-8\r\n\r\n{}", "open")
     frame("names", "Names of header fields have no case.", "content-length: 2\r\n\r\n{}CONTENT-LENGTH: 2\r\n\r\n[]")
     frame("cut-header", "A part of a header at the end of the stream is no frame yet.", framed("{}") + "Content-Le")
     frame("cut-body", "A part of a body at the end of the stream is no frame yet.", framed("{}") + "Content-Length: 9\r\n\r\n{}")
@@ -347,6 +354,11 @@ def frames():
     frame("two-lengths", "Two lengths that differ.", "Content-Length: 2\r\nContent-Length: 4\r\n\r\n{}[]", "open")
     frame("negative", "A negative length.", "Content-Length: -2\r\n\r\n{}", "open")
     frame("words", "A length that isn't only a number.", "Content-Length: 2 bytes\r\n\r\n{}", "open")
+    frame("no-digits", "A length without a value.", "Content-Length: \r\n\r\n" + framed("{}"), "open")
+    frame("no-value", "Nothing at all after the colon.", "Content-Length:\r\n\r\n" + framed("{}"), "open")
+    frame("longest-header", "A header of 8,192 bytes, the most that is read.", padded(8192) + framed("[]"), "open")
+    frame("header-too-long", "A header of one byte more.", framed("{}") + padded(8193), "open")
+    frame("longest", "A length of just the default limit of 16 MiB, of which the body is still to come.", "Content-Length: 16777216\r\n\r\n{}", "open")
     frame("too-long", "A length above the default limit of 16 MiB.", "Content-Length: 16777217\r\n\r\n{}", "open")
     frame("charset", "Another charset.", head("{}") + "Content-Type: application/vscode-jsonrpc; charset=latin-1\r\n\r\n{}", "open")
     frame("charset-quoted", "The charset in quotes.", head("{}") + 'Content-Type: application/vscode-jsonrpc; charset="utf-8"\r\n\r\n{}', "open")

@@ -201,6 +201,10 @@ function checkNumbers(changes) {
   for (const { range } of changes) if (range) new Text('').range({ start: range.start, end: range.start }, 'utf-32') && new Text('').place(range.end, 'utf-32');
 }
 
+function checkVersion(version) {
+  if (!Number.isInteger(version) || version < -(2 ** 31) || version >= 2 ** 31) throw new Refused('invalid-params');
+}
+
 /** The text that the changes of a message leave. */
 function changed(text, changes, encoding) {
   if (!is('last-line-refused')) checkNumbers(changes);
@@ -265,6 +269,7 @@ class Session {
   }
 
   open({ uri, version, text }) {
+    checkVersion(version);
     if (this.documents.has(uri)) throw new Refused('already-open');
     if (is('remembers') && version <= this.closed.get(uri)) throw new Refused('stale-version');
     this.documents.set(uri, { version: is('falsy-open') ? version || 1 : version, text: stored(text) });
@@ -272,7 +277,7 @@ class Session {
   }
 
   change({ uri, version }, { contentChanges }) {
-    if (!Number.isInteger(version)) throw new Refused('invalid-params');
+    checkVersion(version);
     checkNumbers(contentChanges);
     const document = this.documents.get(is('last-opened') ? this.last : uri);
     if (!document) throw new Refused('not-open');
@@ -343,7 +348,7 @@ class Frames {
   /** Takes the first frame, if it is whole. */
   takeFrame() {
     const end = is('last-empty-line') ? this.buffer.lastIndexOf(EMPTY_LINE) : this.buffer.indexOf(EMPTY_LINE);
-    const length = end < 0 ? undefined : lengthIn(this.buffer.toString('latin1', 0, end));
+    const length = end < 0 || end + EMPTY_LINE.length > 8192 ? undefined : lengthIn(this.buffer.toString('latin1', 0, end));
     if (length === undefined) return false;
     const rest = this.buffer.subarray(end + EMPTY_LINE.length);
     const bytes = is('string-length') ? Buffer.byteLength(rest.toString().slice(0, length)) : length;

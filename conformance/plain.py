@@ -332,7 +332,7 @@ class Plain:
     def frame(self, data, reads):
         """The body of the first frame, and what is after it; None where it isn't whole, or its header is none."""
         match = re.match(rb"((?:[!#-'*+\-.0-9A-Z^-z|~]+:[^\r\n]*\r\n)+)\r\n", data)
-        length, rest = self.length(match.group(1)) if match else None, data[match.end():] if match else b""
+        length, rest = self.length(match.group(1)) if match and match.end() <= 8192 else None, data[match.end():] if match else b""
         if length is None:
             return None
         if self.mistake == "length-in-characters":
