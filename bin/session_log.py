@@ -1,8 +1,10 @@
 """Frames and logs, read as docs/PROTOCOL.md and docs/LOGS.md say: what the programs of this folder and their tests share."""
+import errno
 import os
 import re
 import select
 import signal
+import stat
 import sys
 
 VERSION_LINE = b"lsp-session-log 2\n"
@@ -120,7 +122,8 @@ class Framer:
         if self.length is None or len(self.held) < self.scanned + self.length:
             return None
         first, end = int(self.has_marks), self.scanned + self.length
-        record = Record(bytes(self.held[:first]), bytes(self.held[first:self.scanned]), bytes(self.held[self.scanned:end]))
+        with memoryview(self.held) as held:
+            record = Record(bytes(held[:first]), bytes(held[first:self.scanned]), bytes(held[self.scanned:end]))
         del self.held[:end]
         self.place += end
         self._begin()
@@ -202,6 +205,32 @@ def write_all(descriptor, data):
             left = left[os.write(descriptor, left):]
         except BlockingIOError:
             wait_for(descriptor, select.POLLOUT)
+
+
+def open_own(path, may_exist):
+    """Opens a file to write it anew; what it holds stays until `empty`. Returns its descriptor, and whether it was made. Only
+    its owner can read it. No link is followed, since somebody else may have chosen where it leads."""
+    try:
+        return os.open(path, os.O_WRONLY | os.O_CREAT | os.O_EXCL, 0o600), True
+    except FileExistsError:
+        if not may_exist:
+            raise
+    if os.path.islink(path):
+        raise OSError(errno.ELOOP, "this is a symbolic link")
+    descriptor = os.open(path, os.O_WRONLY | os.O_NOFOLLOW)
+    found = os.fstat(descriptor)
+    if stat.S_ISREG(found.st_mode):
+        if found.st_uid != os.geteuid() or found.st_nlink != 1:
+            os.close(descriptor)
+            raise OSError(errno.EPERM, "this is another user's file, or has another name too")
+        os.fchmod(descriptor, 0o600)
+    return descriptor, False
+
+
+def empty(descriptor):
+    """Empties a file. (A device or a pipe stays as it is.)"""
+    if stat.S_ISREG(os.fstat(descriptor).st_mode):
+        os.ftruncate(descriptor, 0)
 
 
 class WriteFault(Exception):
