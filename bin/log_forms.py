@@ -1,10 +1,18 @@
-"""The logs that editors and servers write by themselves, read as messages: what log-from knows. A class a form."""
+"""The logs that editors and servers write by themselves, read as messages: what log-from knows. A class a form.
+
+bindings/node/log-from.js reads the same forms, and bin/test compares what both make."""
+import ast
 import json
 import re
+import warnings
 
 from session_log import EDITOR, SERVER, Fault
 
-DOCUMENTS = ("textDocument/didOpen", "textDocument/didChange", "textDocument/didClose")
+CHANGE = "textDocument/didChange"
+DOCUMENTS = ("textDocument/didOpen", CHANGE, "textDocument/didClose")
+
+# Flags: `^` is each line's start, or `.` is any character; digits and letters are those of ASCII
+BY_LINE, ANY = re.MULTILINE | re.ASCII, re.DOTALL | re.ASCII
 
 # The decimal digits that a number keeps in Lua's print
 LUA_DIGITS = 14
@@ -69,12 +77,19 @@ def message_at(text, at, line, sender, stream=None):
     return Message(line, sender, value, body, stream)
 
 
+# Half characters, but for those that stand for bytes which are no UTF-8
+HALVES = re.compile("[\ud800-\udc7f\udd00-\udfff]")
+
+
 def written(line, sender, value, stream=None):
     """Returns a message whose JSON isn't in the log."""
     try:
-        return Message(line, sender, value, json.dumps(value, ensure_ascii=False, separators=(",", ":")), stream)
+        body = json.dumps(value, ensure_ascii=False, allow_nan=False, separators=(",", ":"))
     except RecursionError:
         raise Fault("line %d: it nests too deep" % line) from None
+    except (TypeError, ValueError):
+        raise Fault("line %d: JSON has no such value" % line) from None
+    return Message(line, sender, value, HALVES.sub(lambda half: "\\u%04x" % ord(half[0]), body), stream)
 
 
 def with_version(value):
@@ -133,11 +148,17 @@ class Reader:
             self.at = self.BLANKS.match(self.text, found.end()).end()
         return found
 
+    def key(self):
+        key = self.value()
+        return key if isinstance(key, str) else json.dumps(key)
+
     def message(self):
         try:
             value = self.value()
         except RecursionError:
             raise Fault("line %d: it nests too deep" % self.line) from None
+        except (ValueError, OverflowError) as error:  # (of a number or a character that there isn't)
+            raise self.fault(str(error)) from None
         if not isinstance(value, dict):
             raise Fault("line %d: this is no message" % self.line)
         return with_version(value)
@@ -146,17 +167,17 @@ class Reader:
 class Lua(Reader):
     """Reads what Neovim's vim.inspect prints."""
 
-    STRING = re.compile(r""""((?:[^"\\]|\\.)*)"|'((?:[^'\\]|\\.)*)'""", re.DOTALL)
-    ESCAPE = re.compile(r"\\(?:(\d{1,3})|x([0-9A-Fa-f]{2})|u\{([0-9A-Fa-f]+)\}|(.))", re.DOTALL)
+    STRING = re.compile(r""""((?:[^"\\]|\\.)*)"|'((?:[^'\\]|\\.)*)'""", ANY)
+    ESCAPE = re.compile(r"\\(?:(\d{1,3})|x([0-9A-Fa-f]{2})|u\{([0-9A-Fa-f]+)\}|(.))", ANY)
     LETTERS = {"a": "\a", "b": "\b", "f": "\f", "n": "\n", "r": "\r", "t": "\t", "v": "\v"}
-    NUMBER = re.compile(r"-?\d+(?:\.\d+)?(?:e[-+]?\d+)?")
+    NUMBER = re.compile(r"-?\d+(?:\.\d+)?(?:e[-+]?\d+)?", re.ASCII)
     WORD = re.compile(r"vim\.empty_dict\(\)|vim\.NIL|true|false|nil")
     WORDS = {"vim.empty_dict()": {}, "vim.NIL": None, "true": True, "false": False, "nil": None}
-    NAME = re.compile(r"([A-Za-z_]\w*)\s*=(?!=)")
+    NAME = re.compile(r"([A-Za-z_]\w*)\s*=(?!=)", re.ASCII)
     INDEX = re.compile(r"\[")
-    AFTER_INDEX = re.compile(r"\]\s*=")
-    OPEN, CLOSE, COMMA = re.compile(r"(?:<(\d+)>)?\{"), re.compile(r"\}"), re.compile(r",")
-    AGAIN = re.compile(r"<table (\d+)>")
+    AFTER_INDEX = re.compile(r"\]\s*=", re.ASCII)
+    OPEN, CLOSE, COMMA = re.compile(r"(?:<(\d+)>)?\{", re.ASCII), re.compile(r"\}"), re.compile(r",")
+    AGAIN = re.compile(r"<table (\d+)>", re.ASCII)
     OBJECTS = {"params", "capabilities", "result"}  # (an empty table there was an object)
 
     def __init__(self, text, at, line):
@@ -186,7 +207,7 @@ class Lua(Reader):
         return chr(code) if code < 128 or found[3] else bytes([code & 255]).decode("utf-8", "surrogateescape")
 
     def number(self, found):
-        if re.fullmatch(r"-?\d+", found[0]):
+        if re.fullmatch(r"-?[0-9]+", found[0]):
             return int(found[0])
         number = float(found[0])
         self.is_rounded = self.is_rounded or abs(number) >= 10 ** LUA_DIGITS
@@ -199,10 +220,10 @@ class Lua(Reader):
             if named:
                 members[named[1]] = self.value(named[1])
             elif self.take(self.INDEX):
-                key = self.value()
+                key = self.key()
                 if not self.take(self.AFTER_INDEX):
                     raise self.fault("no key")
-                members[str(key)] = self.value(str(key))
+                members[key] = self.value(key)
             else:
                 items.append(self.value())
             if not self.take(self.COMMA) and self.text[self.at:self.at + 1] != "}":
@@ -215,13 +236,13 @@ class Lua(Reader):
 class Lisp(Reader):
     """Reads the property lists that Emacs prints."""
 
-    STRING = re.compile(r'"((?:[^"\\]|\\.)*)"', re.DOTALL)
-    ESCAPE = re.compile(r"\\(?:([0-7]{1,3})|x([0-9A-Fa-f]+)|u([0-9A-Fa-f]{4})|U([0-9A-Fa-f]{8})|\^(.)|(.))", re.DOTALL)
+    STRING = re.compile(r'"((?:[^"\\]|\\.)*)"', ANY)
+    ESCAPE = re.compile(r"\\(?:([0-7]{1,3})|x([0-9A-Fa-f]+)|u([0-9A-Fa-f]{4})|U([0-9A-Fa-f]{8})|\^(.)|(.))", ANY)
     LETTERS = {"a": "\a", "b": "\b", "d": "\x7f", "e": "\x1b", "f": "\f", "n": "\n", "r": "\r", "t": "\t", "v": "\v", "\n": "", " ": ""}
-    ATOM = re.compile(r"[^][\s()\"';#]+")
-    NUMBER = re.compile(r"[-+]?(?:\d+\.?|\d*\.\d+(?:e[-+]?\d+)?|\d+e[-+]?\d+)")
+    ATOM = re.compile(r"[^][\s()\"';#]+", re.ASCII)
+    NUMBER = re.compile(r"[-+]?(?:\d+\.?|\d*\.\d+(?:e[-+]?\d+)?|\d+e[-+]?\d+)", re.ASCII)
     WORDS = {"nil": None, "t": True, ":json-false": False, ":json-null": None, ":null": None, ":false": False}
-    HASH = re.compile(r"#s\(hash-table\b[^()]*?(?:\bdata\s*)?(?=[()])")
+    HASH = re.compile(r"#s\(hash-table\b[^()]*?(?:\bdata\s*)?(?=[()])", re.ASCII)
     OPEN, CLOSE = re.compile(r"\("), re.compile(r"\)")
     OPEN_VECTOR, CLOSE_VECTOR = re.compile(r"\["), re.compile(r"\]")
 
@@ -258,7 +279,7 @@ class Lisp(Reader):
             return {} if word == "nil" and name == "capabilities" else self.WORDS[word]
         if not self.NUMBER.fullmatch(word):
             raise self.fault("Emacs cut the message off (%s), or %r is no value," % ("...", word))
-        return int(word.rstrip(".")) if re.fullmatch(r"[-+]?\d+\.?", word) else float(word)
+        return int(word.rstrip(".")) if re.fullmatch(r"[-+]?[0-9]+\.?", word) else float(word)
 
     def object(self):
         members = {}
@@ -273,8 +294,8 @@ class Lisp(Reader):
         members = {}
         if self.take(self.OPEN):
             while not self.take(self.CLOSE):
-                key = self.value()
-                members[str(key)] = self.value(str(key))
+                key = self.key()
+                members[key] = self.value(key)
         if not self.take(self.CLOSE):
             raise self.fault("no end of a hash table")
         return members
@@ -286,8 +307,8 @@ class Lisp(Reader):
 class Neovim(Form):
     name = "Neovim's lsp.log, in ~/.local/state/nvim or ~/.cache/nvim"
     remedy = "it has them after vim.lsp.set_log_level('debug')"
-    begins = re.compile(r"^\[(?:START|TRACE|DEBUG|INFO|WARN|ERROR)\]\[\d{4}-\d\d-\d\d \d\d:\d\d:\d\d\]", re.MULTILINE)
-    LINE = re.compile(r'^\[(?:(START)|[A-Z]+)\]\[[^]\n]*\](?: \S+\t"rpc\.(send|receive)"\t)?', re.MULTILINE)
+    begins = re.compile(r"^\[(?:START|TRACE|DEBUG|INFO|WARN|ERROR)\]\[\d{4}-\d\d-\d\d \d\d:\d\d:\d\d\]", BY_LINE)
+    LINE = re.compile(r'^\[(?:(START)|[A-Z]+)\]\[[^]\n]*\](?: \S+\t"rpc\.(send|receive)"\t)?', BY_LINE)
 
     def __init__(self):
         self.is_rounded = False
@@ -313,9 +334,9 @@ class Neovim(Form):
 class Eglot(Form):
     name = "eglot's events (M-x eglot-events-buffer)"
     remedy = "the :format of eglot-events-buffer-config has to be full or lisp"
-    begins = re.compile(r"^\[(?:client|server)-(?:request|notification|reply)\] |^\[internal\] |^\[jsonrpc\] ", re.MULTILINE)
+    begins = re.compile(r"^\[(?:client|server)-(?:request|notification|reply)\] |^\[internal\] |^\[jsonrpc\] ", BY_LINE)
     HEAD = re.compile(r"^\[(client|server)-(?:request|notification|reply)\](?: \(id:[^)\n]*\))?[^\n]*:\n"
-                      r"|^\[jsonrpc\] e\[[\d:.]+\] +(-->|<--) [^\s\[]*(?:\[[^]\n]*\])?[^\n{]*", re.MULTILINE)
+                      r"|^\[jsonrpc\] e\[[\d:.]+\] +(-->|<--) [^\s\[]*(?:\[[^]\n]*\])?[^\n{]*", BY_LINE)
     SENDERS = {"client": EDITOR, "-->": EDITOR, "server": SERVER, "<--": SERVER}
 
     def messages(self, text):
@@ -330,6 +351,8 @@ class Eglot(Form):
                 at = found.end() + len(message.body)
             else:
                 reader = Lisp(text, found.end(), line)
+                if text[reader.at:reader.at + 1] in ("", "["):  # (`short`)
+                    raise Fault("line %d: the message isn't in it: %s" % (line, self.remedy))
                 message, at = written(line, sender, reader.message()), reader.at
             yield message
 
@@ -338,19 +361,24 @@ class Eglot(Form):
             yield "in the server's messages null may have been {}: Emacs prints both as nil"
 
 
-# What newer channels of VS Code put before a line
-STAMP = r"^(?:\d{4}-\d\d-\d\d \d\d:\d\d:\d\d\.\d{3} \[\w+\] )?"
+# What newer channels of VS Code put before a line: a time and a level. The newest have `trace` as the level, and nothing else.
+TIME = r"\d{4}-\d\d-\d\d \d\d:\d\d:\d\d\.\d{3}"
+STAMP = r"^(?:%s \[\w+\] )?" % TIME
+NEWEST = r"%s \[trace\]" % TIME
+TRACE = r"(?:%s\[Trace - [^]\n]*\]|^%s) " % (STAMP, NEWEST)
 
 
 class Trace(Form):
     name = "a trace in words, of lsp-mode, gopls (-rpc.trace) or VS Code (\"verbose\")"
     remedy = "it has them with \"verbose\", not with \"messages\""
-    begins = re.compile(STAMP + r"\[Trace - [^]\n]*\] (?:Sending|Received) ", re.MULTILINE)
-    HEAD = re.compile(STAMP + r"\[Trace - [^]\n]*\] (Sending|Received) (request|notification|response) '([^'\n]*?)(?: - \((.*?)\))?'?"
-                      r"(?:\.| in )([^\n]*)\n?|" + STAMP + r"\[Error - [^]\n]*\] (?:Sent|Received) #", re.MULTILINE)
-    DATA = re.compile(r"(Params|Result|Error data): (?=[^ \r\n])")
-    AT_SERVER = re.compile(STAMP + r"\[Trace - [^]\n]*\] Received request 'initialize - ", re.MULTILINE)
-    FAILED = re.compile(r"Request failed: (.*) \((-?\d+)\)\.\s*$")
+    begins = re.compile(TRACE + r"(?:Sending|Received) (?:request|notification|response) ", BY_LINE)
+    # (gopls' failed replies have the way where the time is, and the time after it)
+    HEAD = re.compile(TRACE + r"(Sending|Received) (request|notification|response) '([^'\n]*?)(?: - \((.*?)\))?'?(?:\.| in )"
+                      r"([^\n]*?)(?:\n|\Z| (?=(?:Params|Result|Error data): ))|" + STAMP
+                      + r"\[Error - (?:[^]\n]*\] (?:Sent|Received) #|(?:Sent|Received)\] [^#\n]*#)", BY_LINE)
+    DATA = re.compile(r"(?:%s )?(Params|Result|Error data): (?=[^ \r\n])" % NEWEST, BY_LINE)
+    AT_SERVER = re.compile(TRACE + r"Received request 'initialize - ", BY_LINE)
+    FAILED = re.compile(r"Request failed: (.*) \((-?\d+)\)\.\s*\Z", re.ASCII)
 
     def __init__(self):
         self.left_out = 0
@@ -379,16 +407,16 @@ class Trace(Form):
     def message(self, line, found, kind, json_text):
         way, what, method, number, rest = found.groups()[:5]
         sender = self.senders[way]
-        identity = [] if number is None else ['"id":%s' % (number if re.fullmatch(r"-?\d+", number) else json.dumps(number))]
+        identity = [] if number is None else ['"id":%s' % (number if IS_NUMBER.fullmatch(number) else as_json(number))]
         if what != "response":
             if json_text is None and method.startswith(("textDocument/did", "initialize")) and method != "initialized":
                 raise Fault("line %d: %s has no Params: %s" % (line, method, self.remedy))
-            members = identity + ['"method":%s' % json.dumps(method, ensure_ascii=False)]
+            members = identity + ['"method":%s' % as_json(method)]
             members += ['"params":%s' % json_text] if kind == "Params" else []
         elif self.FAILED.search(rest):
             words, code = self.FAILED.search(rest).groups()
             data = ',"data":%s' % json_text if kind == "Error data" else ""
-            members = identity + ['"error":{"code":%s,"message":%s%s}' % (code, json.dumps(words, ensure_ascii=False), data)]
+            members = identity + ['"error":{"code":%s,"message":%s%s}' % (code, as_json(words), data)]
         else:
             members = identity + ['"result":%s' % ("null" if json_text is None else json_text)]
         return message_at('{"jsonrpc":"2.0",%s}' % ",".join(members), 0, line, sender)
@@ -396,20 +424,31 @@ class Trace(Form):
     def doubts(self, messages):
         if self.left_out:
             yield "%d replies that failed are left out: the trace has no code of theirs" % self.left_out
-        if any(isinstance(it.value.get("id"), int) for it in messages):
-            yield "an id of digits is written as a number: the trace has no quotes around a string"
+        kinds = {(it.sender, type(it.value.get("id"))) for it in messages if it.method and "id" in it.value}
+        if len(kinds) > len({sender for sender, _ in kinds}):
+            yield "an id of digits is written as a number, where others are strings: the trace has no quotes around a string"
+        if any(it.sender == SERVER and re.search(r'\{\n  "', it.body) and re.search(r'": null\b', it.body) for it in messages):
+            yield "in the server's messages null may have been false: lsp-mode prints both alike"
+
+
+IS_NUMBER = re.compile(r"-?[0-9]+")
+
+
+def as_json(word):
+    return json.dumps(word, ensure_ascii=False)
 
 
 class TraceJson(Form):
-    name = "VS Code's trace in JSON, as LSP Inspector reads it"
+    name = "VS Code's trace in JSON, as LSP Inspector reads it, also as an array"
     remedy = "it has them with \"verbosity\": \"verbose\""
-    begins = re.compile(STAMP + r'\[LSP *- [^]\n]*\] \{|^\{"(?:isLSPMessage|type)":', re.MULTILINE)
-    HEAD = re.compile(STAMP + r"\[LSP *- [^]\n]*\] (?=\{)", re.MULTILINE)
-    BARE = re.compile(r"^(?=\{)", re.MULTILINE)
+    begins = re.compile(STAMP + r'\[LSP *- [^]\n]*\] \{|^(?:%s |\[\s*)?\{\s*"(?:isLSPMessage|type)":' % NEWEST, BY_LINE)
+    HEAD = re.compile(r"(?:%s\[LSP *- [^]\n]*\]|^%s) (?=\{)" % (STAMP, NEWEST), BY_LINE)
+    BARE = re.compile(r"^(?=\{)", BY_LINE)
+    IS_ARRAY, IN_ARRAY = re.compile(r"\s*\[\s*\{", re.ASCII), re.compile(r"[\[,]\s*(?=\{)", re.ASCII)
 
     def messages(self, text):
         lines, at = Lines(text), 0
-        head = self.HEAD if self.HEAD.search(text) else self.BARE
+        head = self.IN_ARRAY if self.IS_ARRAY.match(text) else self.HEAD if self.HEAD.search(text) else self.BARE
         while True:
             found = head.search(text, at)
             if not found:
@@ -418,14 +457,14 @@ class TraceJson(Form):
             value, body, at = json_at(text, found.end(), line)
             kind = value.get("type")
             if isinstance(kind, str) and kind.startswith(("send-", "receive-")) and isinstance(value.get("message"), dict):
-                yield Message(line, EDITOR if kind.startswith("send-") else SERVER, value["message"], member_of(body, "message"))
+                yield Message(line, EDITOR if kind.startswith("send-") else SERVER, value["message"], members_of(body)["message"])
 
 
 class Clangd(Form):
     name = "clangd's standard error (--log=verbose)"
     remedy = "it has them with --log=verbose"
-    begins = re.compile(r"^[VIE]\[\d\d:\d\d:\d\d\.\d{3}\] ", re.MULTILINE)
-    HEAD = re.compile(r"^V\[\d\d:\d\d:\d\d\.\d{3}\] (<<<|>>>) ", re.MULTILINE)
+    begins = re.compile(r"^[VIE]\[\d\d:\d\d:\d\d\.\d{3}\] ", BY_LINE)
+    HEAD = re.compile(r"^V\[\d\d:\d\d:\d\d\.\d{3}\] (<<<|>>>) ", BY_LINE)
 
     def messages(self, text):
         lines = Lines(text)
@@ -437,10 +476,10 @@ class Clangd(Form):
 class Vim(Form):
     name = "Vim's log of channels (ch_logfile)"
     remedy = "it has them where ch_logfile comes before the server's start"
-    begins = re.compile(r"^==== start log session |^ *(?:\d+\.\d+ )?(?:SEND|RECV) on \d+\(", re.MULTILINE)
-    HEAD = re.compile(r"^==== (start) |^ *(?:\d+\.\d+ )?(SEND|RECV) on (\d+)\((?:in|out|sock)\): '", re.MULTILINE)
+    begins = re.compile(r"^==== start log session |^ *(?:\d+\.\d+ )?(?:SEND|RECV) on \d+\(", BY_LINE)
+    HEAD = re.compile(r"^==== (start) |^ *(?:\d+\.\d+ )?(SEND|RECV) on (\d+)\((?:in|out|sock)\): '", BY_LINE)
     END = re.compile(r"'\r?\n|'\Z")
-    FRAME = re.compile(rb"(?:Content-Type:[^\r\n]*\r\n)?Content-Length: *(\d+)\r\n(?:Content-Type:[^\r\n]*\r\n)?\r\n", re.IGNORECASE)
+    FRAME = re.compile(rb"(?:Content-Type:[^\r\n]*\r\n)?Content-Length: *(\d{1,15})\r\n(?:Content-Type:[^\r\n]*\r\n)?\r\n", re.IGNORECASE)
 
     def __init__(self):
         self.not_whole = 0
@@ -484,42 +523,92 @@ class Vim(Form):
 class Devtools(Form):
     name = "lsp-devtools' lines of JSON (lsp-devtools record --to-file)"
     remedy = "each line has `source` and a message"
-    begins = re.compile(r'^\{(?=[^\n]*"source": ?"(?:client|server)")', re.MULTILINE)
+    begins = re.compile(r'^\{(?=[^\n]*"source": ?"(?:client|server)")', BY_LINE)
     SENDERS = {"client": EDITOR, "server": SERVER}
     MEMBERS = ("id", "method", "params", "result", "error")
 
     def messages(self, text):
         for line, words in enumerate(text.split("\n"), 1):
-            if not words.strip():
+            start = skip_blanks(words, 0)
+            if start == len(words):
                 continue
-            value, body, _ = json_at(words, len(words) - len(words.lstrip()), line)
+            value, body, _ = json_at(words, start, line)
             if not isinstance(value, dict) or value.get("source") not in self.SENDERS:
                 raise Fault("line %d: there is no `source`" % line)
-            sender, stream = self.SENDERS[value["source"]], value.get("session")
+            sender, stream, members = self.SENDERS[value["source"]], value.get("session"), members_of(body)
             if isinstance(value.get("message"), dict):
-                yield Message(line, sender, value["message"], member_of(body, "message"), stream)
+                yield Message(line, sender, value["message"], members["message"], stream)
             else:
-                found = {it: value[it] for it in self.MEMBERS if value.get(it) is not None}
-                yield written(line, sender, with_version(found), stream)
+                found = {it: members[it] for it in self.MEMBERS if value.get(it) is not None}
+                if "method" not in found and "error" not in found:
+                    found.setdefault("result", "null")
+                yield message_at('{"jsonrpc":"2.0"%s}' % "".join(',"%s":%s' % it for it in found.items()), 0, line, sender, stream)
 
 
-def member_of(body, name):
-    """Returns the text of an object's member, as it is there."""
-    at = body.index("{")
-    while True:
-        at = DECODER.raw_decode(body, skip_blanks(body, at + 1))
-        key, start = at[0], skip_blanks(body, skip_blanks(body, at[1]) + 1)
+class Helix(Form):
+    name = "Helix's log (hx -v), ~/.cache/helix/helix.log"
+    remedy = "it has them with hx -v"
+    begins = re.compile(r"^\d{4}-\d\d-\d\dT\d\d:\d\d:\d\d\.\d+ helix_\S+ \[[A-Z]+\] ", BY_LINE)
+    HEAD = re.compile(r"^\S+ helix_lsp::transport \[INFO\] ([^\n{]*)(->|<-) (?=\{)", BY_LINE)
+
+    def messages(self, text):
+        lines = Lines(text)
+        for found in self.HEAD.finditer(text):
+            line = lines.number(found.start())
+            message = message_at(text, found.end(), line, EDITOR if found[2] == "->" else SERVER, found[1])
+            if "jsonrpc" in message.value:  # (a result comes again, without its message)
+                yield message
+
+
+class Pylsp(Form):
+    name = "pylsp's log (pylsp -vv --log-file FILE)"
+    remedy = "it has them with -vv"
+    begins = re.compile(r"^\d{4}-\d\d-\d\d \d\d:\d\d:\d\d,\d{3} \S+ - [A-Z]+ - pylsp", BY_LINE)
+    HEAD = re.compile(r"^[\d: ,-]+ \S+ - DEBUG - pylsp_jsonrpc\.endpoint - Handling \w+ from client (\{[^\n]*)", BY_LINE)
+
+    def messages(self, text):
+        lines = Lines(text)
+        for found in self.HEAD.finditer(text):
+            line = lines.number(found.start())
+            try:
+                with warnings.catch_warnings():
+                    warnings.simplefilter("ignore")  # (of an escape that there isn't)
+                    value = ast.literal_eval(found[1].rstrip("\r"))
+            except (ValueError, SyntaxError, MemoryError, RecursionError):
+                value = None
+            if not isinstance(value, dict):
+                raise Fault("line %d: the message isn't whole" % line)
+            yield written(line, EDITOR, value)
+
+    def doubts(self, _messages):
+        yield "the server's messages are left out: pylsp writes only some of them"
+
+
+def members_of(body):
+    """Returns the text of each of an object's members, as it is there, by its name."""
+    members, at = {}, skip_blanks(body, body.index("{") + 1)
+    while body[at] != "}":
+        name, at = DECODER.raw_decode(body, at)
+        start = skip_blanks(body, skip_blanks(body, at) + 1)
         _, end = DECODER.raw_decode(body, start)
-        if key == name:
-            return body[start:end]
-        at = skip_blanks(body, end)
+        members[name], at = body[start:end], skip_blanks(body, end)
+        at = skip_blanks(body, at + 1) if body[at] == "," else at
+    return members
 
 
 def skip_blanks(text, at):
-    return re.compile(r"[ \t\r\n]*").match(text, at).end()
+    return BLANKS.match(text, at).end()
 
 
-FORMS = (Neovim, Eglot, Trace, TraceJson, Clangd, Vim, Devtools)
+BLANKS = re.compile(r"[ \t\r\n]*")
+FORMS = (Neovim, Eglot, Trace, TraceJson, Clangd, Vim, Devtools, Helix, Pylsp)
+
+# What editors write where no form is: what it is, and what makes it a log
+WITHOUT_MESSAGES = (
+    (re.compile(r'^(?:Command "[^"\n]*" is (?:not )?present on the path|Found the following clients for )', BY_LINE),
+     "lsp-mode's *lsp-log*", "with (setq lsp-log-io t) a buffer of its own has them"),
+    (re.compile(STAMP + r"\[(?:Info|Warn|Error) *- [^]\n]*\] ", BY_LINE), "what VS Code's Output shows", "it has them with \"verbose\""),
+)
 
 # What is no log of an editor, and what it is
 OTHERS = (
@@ -537,6 +626,9 @@ def form_of(text):
             raise Unknown("line 1: " + words)
     found = [(it.begins.search(text), it) for it in FORMS]
     found = [(match.start(), at) for at, (match, _) in enumerate(found) if match]
+    for pattern, name, remedy in WITHOUT_MESSAGES if not found else ():
+        if pattern.search(text):
+            raise Fault("this is %s, and it has no message: %s" % (name, remedy))
     if not found:
         raise Unknown("line 1: no form that is known begins like %r; --help has those that are" % text.split("\n", 1)[0][:60])
     return FORMS[min(found)[1]]()
