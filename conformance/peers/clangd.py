@@ -5,13 +5,11 @@ character as clangd counts lines. The text is a comment there, in a branch that 
 as another text, or can't be asked, the answer is wrong and the text unknown. A refused change is what clangd logs as "Failed to update"."""
 import os
 import re
-import subprocess
-import tempfile
 
-from peers.wire import Wire
+from peers.wire import Wire, answers_of, output_of
 
-COMMAND = os.environ.get("CLANGD", "clangd")
-TITLE = "clangd " + re.search(r"version (\d+)", subprocess.run([COMMAND, "--version"], stdout=subprocess.PIPE, text=True, check=True).stdout).group(1)
+COMMAND = [os.environ.get("CLANGD", "clangd")]
+TITLE = "clangd " + re.search(r"version (\d+)", output_of(*COMMAND, "--version")).group(1)
 FILES = ["vectors.jsonl"]
 BEFORE, AFTER = "void f(){if(1){/*", "*/}else{}}"
 
@@ -19,7 +17,10 @@ BEFORE, AFTER = "void f(){if(1){/*", "*/}else{}}"
 class Clangd(Wire):
     def __init__(self, room, encoding):
         self.path, self.seen = f"{room}/log-{encoding}", 0
-        super().__init__([COMMAND, "--background-index=0", "--clang-tidy=0", "--log=info", "-j=1"], open(self.path, "ab"), cwd=room)
+        with open(f"{room}/.clang-format", "w", encoding="utf-8") as style:
+            style.write("DisableFormat: true\n")
+        words = ["--background-index=0", "--clang-tidy=0", "--log=info", "-j=4"]
+        super().__init__([*COMMAND, *words], open(self.path, "wb"), cwd=room)
         self.request("initialize", {"processId": None, "rootUri": None, "capabilities": {"offsetEncoding": [encoding], "workspace": {"applyEdit": True}}})
 
     def logged(self):
@@ -37,8 +38,9 @@ def end_of(text, width):
     return {"line": text.count("\n"), "character": sum(map(width, last))}
 
 
-def answer(server, room, number, vector, width):
-    document = {"uri": f"file://{room}/{number}.cpp"}
+def answer(server, path, vector):
+    from plain import WIDTHS
+    document = {"uri": f"file://{path}.cpp"}
     change = lambda version, changes: server.notify("textDocument/didChange", {
         "textDocument": {**document, "version": version}, "contentChanges": changes, "wantDiagnostics": False})
     server.notify("textDocument/didOpen", {"textDocument": {**document, "languageId": "cpp", "version": 1, "text": vector["text"]}})
@@ -50,7 +52,7 @@ def answer(server, room, number, vector, width):
     if "text" not in vector["expect"]:
         return {"text": None}
     right, start = vector["expect"]["text"], {"line": 0, "character": 0}
-    end = end_of(right, width)
+    end = end_of(right, WIDTHS[vector["encoding"]])
     change(3, [{"range": {"start": end, "end": end}, "text": AFTER}])
     change(4, [{"range": {"start": start, "end": start}, "text": BEFORE}])
     server.edits = []
@@ -67,18 +69,4 @@ def answer(server, room, number, vector, width):
 
 
 def answers(vectors):
-    from plain import WIDTHS
-    servers = {}
-    with tempfile.TemporaryDirectory() as room:
-        with open(f"{room}/.clang-format", "w", encoding="utf-8") as style:
-            style.write("DisableFormat: true\n")
-        for number, vector in enumerate(vectors):
-            encoding = vector["encoding"]
-            try:
-                servers[encoding] = servers.get(encoding) or Clangd(room, encoding)
-                yield answer(servers[encoding], room, number, vector, lambda c: WIDTHS[encoding](c))
-            except (EOFError, BrokenPipeError) as why:
-                servers.pop(encoding).process.wait()
-                yield {"crash": str(why)}
-        for server in servers.values():
-            server.end()
+    return answers_of(Clangd, answer, vectors, ("utf-8", "utf-16", "utf-32"))

@@ -9,10 +9,11 @@ import subprocess
 import threading
 
 from peers.buffers import line_end_of, steps_of
+from peers.wire import output_of
 
 HERE = os.path.dirname(os.path.abspath(__file__))
-run = lambda *words: subprocess.run(words, stdout=subprocess.PIPE, text=True, check=True).stdout
-TITLE = "eglot " + run("dpkg-query", "-W", "-f", "${Version}", "elpa-eglot").split("-")[0] + " (Emacs " + run("emacs", "--version").split()[2] + ")"
+COMMAND = ["emacs", "--batch", "-Q", "-l", f"{HERE}/eglot.el"]
+TITLE = output_of(*COMMAND, "-f", "print-title")
 FILES = ["vectors.jsonl", "edits.jsonl"]
 LINE_ENDS_ARE_LF = FINAL_LINE_END_IS_APART = True
 
@@ -23,7 +24,8 @@ def asked(vector):
 
 class Emacs:
     def __init__(self):
-        self.process = subprocess.Popen(["emacs", "--batch", "-Q", "-l", f"{HERE}/eglot.el"], stdin=subprocess.PIPE, stdout=subprocess.PIPE, stderr=subprocess.DEVNULL)
+        ends = {"stdin": subprocess.PIPE, "stdout": subprocess.PIPE, "stderr": subprocess.DEVNULL}
+        self.process = subprocess.Popen([*COMMAND, "-f", "answer-lines"], **ends)
         self.lines = queue.Queue()
         threading.Thread(target=lambda: [self.lines.put(line) for line in self.process.stdout], daemon=True).start()
 

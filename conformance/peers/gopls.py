@@ -5,12 +5,14 @@ import os
 import re
 import socket
 import subprocess
-import tempfile
 import urllib.request
 
-from peers.wire import Wire
+from peers.wire import Wire, answers_of, output_of
 
-TITLE = "gopls of x/tools " + subprocess.run(["dpkg-query", "-W", "-f", "${Version}", "gopls"], stdout=subprocess.PIPE, text=True, check=True).stdout.split(":")[-1].split("+")[0]
+COMMAND = ["gopls", "serve"]
+VERSION = output_of("dpkg-query", "-W", "-f", "${Version}", "gopls")
+# (Debian's first packages have the version of the tools that gopls came with)
+TITLE = ("gopls of x/tools " if VERSION.startswith("1:") else "gopls ") + VERSION.split(":")[-1].split("+")[0]
 FILES = ["vectors.jsonl"]
 
 
@@ -21,9 +23,9 @@ def free_port():
 
 
 class Gopls(Wire):
-    def __init__(self, room):
+    def __init__(self, room, _):
         self.port, env = free_port(), {**os.environ, "GO111MODULE": "off", "GOPATH": room, "GOCACHE": room, "HOME": room}
-        super().__init__(["gopls", "serve", f"-debug=localhost:{self.port}"], subprocess.DEVNULL, env=env, cwd=room)
+        super().__init__([*COMMAND, f"-debug=localhost:{self.port}"], subprocess.DEVNULL, env=env, cwd=room)
         self.request("initialize", {"processId": None, "rootUri": f"file://{room}", "capabilities": {}})
         self.notify("initialized", {})
 
@@ -42,33 +44,19 @@ def shown(page):
     return None
 
 
-def answer(server, room, number, vector):
-    document = {"uri": f"file://{room}/{number}.go"}
+def answer(server, path, vector):
+    document = {"uri": f"file://{path}.go"}
     server.notify("textDocument/didOpen", {"textDocument": {**document, "languageId": "go", "version": 1, "text": vector["text"]}})
     server.notify("textDocument/didChange", {"textDocument": {**document, "version": 2}, "contentChanges": vector["changes"]})
     server.request("textDocument/foldingRange", {"textDocument": document})
-    pages = [server.page(path) for path in re.findall(r'href="?(/file/[^" >]*)', server.page("/session/1"))]
+    pages = [server.page(page) for page in re.findall(r'href="?(/file/[^" >]*)', server.page("/session/1"))]
     server.notify("textDocument/didClose", {"textDocument": document})
     for page in pages:
-        if f"/{number}.go<" in page:
+        if f"{path}.go<" in page:
             version = re.search(r"Version: <b>(.*?)</b>", page).group(1)
             return {"text": shown(page)} if version.startswith("2") else {"refused": "version " + version}
     return {"text": None}
 
 
 def answers(vectors):
-    server = None
-    with tempfile.TemporaryDirectory(ignore_cleanup_errors=True) as room:
-        for number, vector in enumerate(vectors):
-            if vector["encoding"] != "utf-16":
-                yield None
-                continue
-            try:
-                server = server or Gopls(room)
-                yield answer(server, room, number, vector)
-            except (EOFError, BrokenPipeError) as why:
-                server.process.wait()
-                server = None
-                yield {"crash": str(why)}
-        if server:
-            server.end()
+    return answers_of(Gopls, answer, vectors)

@@ -8,9 +8,10 @@ import subprocess
 import tempfile
 
 from peers.buffers import line_end_of, steps_of
+from peers.wire import output_of
 
 HERE = os.path.dirname(os.path.abspath(__file__))
-TITLE = "Neovim " + subprocess.run(["nvim", "--version"], stdout=subprocess.PIPE, text=True, check=True).stdout.split("\n")[0].removeprefix("NVIM v")
+TITLE = "Neovim " + output_of("nvim", "--version").split("\n")[0].removeprefix("NVIM v")
 FILES = ["vectors.jsonl", "edits.jsonl"]
 LINE_ENDS_ARE_LF = FINAL_LINE_END_IS_APART = True
 

@@ -1,26 +1,34 @@
-"""pylsp: its Workspace, called as its handler of didChange does. It negotiates no encoding."""
-import logging
-from importlib.metadata import version
+"""pylsp: its server, which shows its text in a hover, lints nothing, and says what a change raises. It negotiates no encoding."""
+import sys
 
-TITLE = "pylsp " + version("python-lsp-server")
+COMMAND = [sys.executable, __file__]
 FILES = ["vectors.jsonl"]
 
 
-def answers(vectors):
-    from pylsp.workspace import Workspace
-    logging.disable(logging.CRITICAL)
-    workspace = Workspace("file:///nowhere", None)
-    workspace.source_roots = lambda path: []
-    for number, vector in enumerate(vectors):
-        if vector["encoding"] != "utf-16":
-            yield None
-            continue
-        uri = f"file:///nowhere/{number}.py"
-        workspace.put_document(uri, vector["text"], version=1)
-        try:
-            for change in vector["changes"]:
-                workspace.update_document(uri, change, version=2)
-        except Exception as fault:  # its dispatcher logs it, and the server goes on
-            yield {"refused": repr(fault)}
-            continue
-        yield {"text": workspace.get_document(uri).source}
+def main():
+    sys.path.pop(0)  # (this folder's modules have the names of their peers)
+    from pylsp import python_lsp
+
+    class Server(python_lsp.PythonLSPServer):
+        def lint(self, *_, **__):
+            pass
+
+        def m_text_document__did_change(self, **params):
+            try:
+                super().m_text_document__did_change(**params)
+            except Exception as fault:  # it logs it, and goes on
+                self._endpoint.notify("window/showMessage", {"type": 1, "message": repr(fault)})
+
+        def m_text_document__hover(self, textDocument=None, **_):
+            return {"contents": self.workspace.get_document(textDocument["uri"]).source}
+
+    python_lsp.start_io_lang_server(sys.stdin.buffer, sys.stdout.buffer, False, Server)
+
+
+if __name__ == "__main__":
+    main()
+else:
+    from importlib.metadata import version
+    from peers.wire import shown
+    TITLE = "pylsp " + version("python-lsp-server")
+    answers = lambda vectors: shown(COMMAND, ".py", "textDocument/hover", vectors)

@@ -1,11 +1,17 @@
 #!/usr/bin/env python3
-"""Asks the peers that are installed the vectors, and prints what they answer: table.py [--named] [--why] [PEER ..]
+"""Asks the peers that are installed the vectors, and prints what they answer: table.py [OPTION ..] [PEER ..]
 
-    /usr/bin/python3 peers/table.py --named > RESULTS.txt
+    LASPIDRU_TRIXIE=FOLDER ../tools/peers    # on Debian 12: asks Debian 13's peers
+    /usr/bin/python3 peers/table.py --named --with ../build/debian13.json > RESULTS.txt
 
-Each module of this folder is a peer, with TITLE, the FILES that it is asked, and `answers`. Where LSP 3.17 decides, an answer is right or
-wrong (or refused); where it leaves a case open, none is wrong, but a peer that hangs or ends. `--named` asks no random vectors, and
-`--why` prints what came instead of what is right."""
+Each module of this folder is a peer, with TITLE, the FILES that it is asked, and `answers`; its COMMAND starts a server. Where LSP 3.17
+decides, an answer is right or wrong (or refused); where it leaves a case open, none is wrong, but a peer that hangs or ends.
+
+    --named        asks no random vectors
+    --why          prints what came instead of what is right
+    --json FILE    writes the word for each answer
+    --with FILE    has in the table too what --json wrote elsewhere"""
+import argparse
 import datetime
 import importlib
 import json
@@ -16,7 +22,9 @@ import sys
 
 TOP = os.path.dirname(os.path.dirname(os.path.abspath(__file__)))
 sys.path[0] = TOP  # not this folder, whose modules have the names of their peers
-PEERS = ["pylsp", "fortls", "gopls", "clangd", "nvim", "eglot"]
+import ask as asking  # noqa: E402
+PEERS = ["pylsp", "pygls", "fortls", "gopls", "clangd", "rust_analyzer", "vscode", "ropey", "nvim", "eglot"]
+FILES = ["vectors.jsonl", "edits.jsonl"]
 
 
 def judge(peer, vector, got):
@@ -39,17 +47,17 @@ def judge(peer, vector, got):
 
 
 def vectors_of(name):
-    with open(f"{TOP}/{name}", encoding="utf-8", newline="\n") as file:
+    with open(os.path.join(asking.DATA, name), encoding="utf-8", newline="\n") as file:
         return [json.loads(line) for line in file.read().split("\n")[:-1]]
 
 
-def ask(peer):
+def ask(peer, is_named):
+    """The word for each vector that a peer is asked, and what it answers."""
     found = {}
     for name in peer.FILES:
-        random_too = "--named" not in sys.argv
-        vectors = [v for v in vectors_of(name) if "about" in v or random_too and v["standard"] == "says"]
+        vectors = [v for v in vectors_of(name) if "about" in v or not is_named and v["standard"] == "says"]
         for vector, got in zip(vectors, peer.answers(vectors)):
-            found[vector["name"]] = (vector, judge(peer, vector, got), got)
+            found[vector["name"]] = (judge(peer, vector, got), got)
     return found
 
 
@@ -71,45 +79,72 @@ def share(words):
 
 
 HEAD = """\
-What peers answer, written by peers/table.py --named > RESULTS.txt on {day}. The files in peers/ say how each is asked. The named cases
-are nasty on purpose: no share here is a rate of daily life.
+What peers answer, written by peers/table.py --named on {day}. The files in peers/ say how each is asked. The named cases are nasty on
+purpose: no share here is a rate of daily life.
 
-Cases that LSP 3.17 decides, and how many of each group are right:
+Cases that LSP 3.17 decides, and how many of each group are right (all: of a didChange; edits: of a TextEdit[]):
 """
 OPEN = """
-Named cases that it leaves open. same is as this project chose, other another meaning, refuses an error and no text, - not asked:
+Named cases that it leaves open, and what each peer of the table above does: s the same as this project chose, o other, r refuses, H hangs,
+C ends, - not asked:
 """
+
+
+def print_tables(words):
+    """Prints what is decided, a row for each peer, and what is open, a column for each."""
+    key = lambda title: (title.split()[0].lower(), list(map(int, re.findall(r"\d+", title))))
+    peers = dict(sorted(words.items(), key=lambda item: key(item[0])))
+    files = [[v for v in vectors_of(name) if any(v["name"] in found for found in peers.values())] for name in FILES]
+    groups = {}
+    for messages, vectors in zip((True, False), files):
+        for vector in (v for v in vectors if v["standard"] == "says"):
+            for group in [group_of(vector), "all"] if messages else [group_of(vector)]:
+                groups.setdefault(group, []).append(vector["name"])
+    groups["all"], groups["edits"] = (groups.pop(name, []) for name in ("all", "edits"))
+    print(HEAD.format(day=datetime.date.today()))
+    counts = lambda found: (share(found.get(name, "-") for name in names) for names in groups.values())
+    rows = ((str(number), title, *counts(found)) for number, (title, found) in enumerate(peers.items(), 1))
+    print_table([("", "peer", *groups), *rows])
+    print(OPEN)
+    is_open = [v for v in sum(files, []) if v["standard"] == "open"]
+    chosen = {v["name"]: "refused" if "refused" in v["expect"] else "text" for v in is_open}
+    rows = ((name, here, *(found.get(name, "-")[0] for found in peers.values())) for name, here in chosen.items())
+    print_table([("case", "here", *(str(number) for number in range(1, len(peers) + 1))), *rows])
+
+
+def found_peers(names):
+    for name in names:
+        try:
+            yield importlib.import_module("peers." + name)
+        except (ImportError, OSError, StopIteration, subprocess.SubprocessError) as why:
+            print(f"{name} isn't asked: {why}", file=sys.stderr)
 
 
 def main():
-    if "--help" in sys.argv[1:]:
-        print(__doc__)
-        return
-    names = [word for word in sys.argv[1:] if not word.startswith("-")] or PEERS
-    peers = []
-    for name in names:
-        try:
-            peers.append(importlib.import_module("peers." + name))
-        except (ImportError, OSError, subprocess.SubprocessError) as why:
-            print(f"{name} isn't asked: {why}", file=sys.stderr)
-    if not peers:
+    parser = argparse.ArgumentParser(description=__doc__, formatter_class=argparse.RawDescriptionHelpFormatter, usage=argparse.SUPPRESS)
+    for name in ("named", "why"):
+        parser.add_argument("--" + name, action="store_true", help=argparse.SUPPRESS)
+    parser.add_argument("--json", help=argparse.SUPPRESS)
+    parser.add_argument("--with", dest="others", action="append", default=[], help=argparse.SUPPRESS)
+    parser.add_argument("peers", nargs="*", help=argparse.SUPPRESS)
+    asked = parser.parse_args()
+    found = {peer.TITLE: ask(peer, asked.named) for peer in found_peers(asked.peers or PEERS)}
+    words = {title: {name: word for name, (word, _) in answers.items()} for title, answers in found.items()}
+    if asked.json:
+        with open(asked.json, "w", encoding="utf-8") as file:
+            json.dump(words, file, indent=1)
+    for path in asked.others:
+        with open(path, encoding="utf-8") as file:
+            words.update(json.load(file))
+    if not words:
         sys.exit("table.py: none of the peers is installed")
-    asked = {peer.TITLE: ask(peer) for peer in peers}
-    everything = {name: vector for found in asked.values() for name, (vector, _, _) in found.items()}
-    print(HEAD.format(day=datetime.date.today()))
-    decided = lambda found, group: [word for v, word, _ in found.values() if group_of(v) == group and v["standard"] == "says"]
-    groups = dict.fromkeys(group_of(v) for v in everything.values() if v["standard"] == "says")
-    print_table([("group", *asked), *((it, *(share(decided(found, it)) for found in asked.values())) for it in groups)])
-    print(OPEN)
-    chosen = {name: "refused" if "refused" in v["expect"] else "text" for name, v in everything.items() if v["standard"] == "open"}
-    said = lambda name: (found.get(name, (0, "-"))[1] for found in asked.values())
-    print_table([("case", "here", *asked), *((name, here, *said(name)) for name, here in chosen.items())])
-    if "--why" in sys.argv:
+    print_tables(words)
+    if asked.why:
+        vectors = {v["name"]: v for name in FILES for v in vectors_of(name)}
         print("\nNamed cases that LSP 3.17 decides, and that a peer doesn't have right:\n")
-        for title, found in asked.items():
-            for name, (vector, word, got) in found.items():
-                if "about" in vector and vector["standard"] == "says" and word not in ("right", "-"):
-                    print(f"{title}: {name}: {word}: {got} for {vector['expect']['text']!r}")
+        for title, name, word, got in ((title, name, *answer) for title, answers in found.items() for name, answer in answers.items()):
+            if "about" in vectors[name] and vectors[name]["standard"] == "says" and word not in ("right", "-"):
+                print(f"{title}: {name}: {word}: {got} for {vectors[name]['expect']['text']!r}")
 
 
 if __name__ == "__main__":
