@@ -4,8 +4,9 @@
 #
 #   examples/with-emacs.sh [FOLDER]      FOLDER keeps the record and the file; without it they are thrown away
 #
-# It needs Emacs with eglot (on Debian 12: apt-get install emacs-nox elpa-eglot). The status is 0 where both texts are equal, 1 where they
-# aren't, 2 where something that is needed isn't there.
+# LSPSYNC names an lspsync; without it ./look is taken, which compiles one in minutes where none is built. It needs Emacs with eglot (on
+# Debian 12: apt-get install emacs-nox elpa-eglot). The status is 0 where both texts are equal, 1 where they aren't, 2 where something that
+# is needed isn't there.
 set -eu
 [ "${1-}" != --help ] || { awk 'NR > 1 { if (!/^#/) exit; print substr($0, 3) }' "$0"; exit; }
 fail() {
@@ -15,7 +16,11 @@ fail() {
 command -v emacs >/dev/null || fail "there is no emacs: on Debian, apt-get install emacs-nox elpa-eglot"
 emacs --batch -q --eval "(package-initialize)" --eval "(require 'eglot)" 2>/dev/null ||
     fail "this Emacs has no eglot: on Debian 12, apt-get install elpa-eglot (Emacs 29 and later has it)"
-program="$(cd "$(dirname "$0")/.." && pwd)/lspsync"
+top="$(cd "$(dirname "$0")/.." && pwd)"
+program="${LSPSYNC:-$top/look}"
+[ -n "${LSPSYNC-}" ] || [ -e "$program" ] || program="$top/lspsync" # (a release has that alone)
+program="$(command -v "$program")" || fail "LSPSYNC names no program: $LSPSYNC"
+program="$(realpath "$program")"
 if [ $# -gt 0 ]; then
     folder="$1"
     mkdir -p "$folder"

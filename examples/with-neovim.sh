@@ -5,8 +5,9 @@
 #
 #   examples/with-neovim.sh [FOLDER]      FOLDER keeps the record and the file; without it they are thrown away
 #
-# It needs Neovim 0.7 or later (on Debian: apt-get install neovim). The status is 0 where both texts are equal, 1 where they aren't,
-# 2 where something that is needed isn't there.
+# LSPSYNC names an lspsync; without it ./look is taken, which compiles one in minutes where none is built. It needs Neovim 0.7 or later
+# (on Debian: apt-get install neovim). The status is 0 where both texts are equal, 1 where they aren't, 2 where something that is needed
+# isn't there.
 set -eu
 [ "${1-}" != --help ] || { awk 'NR > 1 { if (!/^#/) exit; print substr($0, 3) }' "$0"; exit; }
 fail() {
@@ -16,7 +17,11 @@ fail() {
 command -v nvim >/dev/null || fail "there is no nvim: on Debian 12, apt-get install neovim"
 nvim --headless -u NONE -i NONE -n -c 'if has("nvim-0.7") | qall! | else | cquit | endif' 2>/dev/null ||
     fail "Neovim 0.7 or later is needed: on Debian 12, apt-get install neovim"
-program="$(cd "$(dirname "$0")/.." && pwd)/lspsync"
+top="$(cd "$(dirname "$0")/.." && pwd)"
+program="${LSPSYNC:-$top/look}"
+[ -n "${LSPSYNC-}" ] || [ -e "$program" ] || program="$top/lspsync" # (a release has that alone)
+program="$(command -v "$program")" || fail "LSPSYNC names no program: $LSPSYNC"
+program="$(realpath "$program")"
 if [ $# -gt 0 ]; then
     folder="$1"
     mkdir -p "$folder"

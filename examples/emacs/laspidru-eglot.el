@@ -82,7 +82,8 @@ It gets the parts of the response to `initialize' that are for it."
 
 (defun laspidru-eglot--client (server)
   "Return the client of SERVER, or nil if eglot's own messages are to be sent."
-  (when (slot-boundp server 'capabilities)
+  ;; (before the response to `initialize' newer eglots have nil there)
+  (when (and (slot-boundp server 'capabilities) (eglot--capabilities server))
     (unless (oref server client)
       (oset server client (laspidru-eglot--start server)))
     (let ((client (oref server client)))
@@ -190,6 +191,22 @@ Return nil for a method that is to be sent as it is."
     ("shutdown" (oset server documents nil))
     (_ (laspidru-eglot--update-all server (plist-get item :uri)) nil)))
 
+(defun laspidru-eglot--describe (document)
+  "Return a line on DOCUMENT: whether its server has the buffer's text."
+  (pcase-let (((cl-struct laspidru-eglot--document buffer version tick problem) document))
+    (format "%s, version %s: %s" (buffer-name buffer) (or version "none")
+            (cond (problem (concat "the server lacks the text: " problem))
+                  ((equal (car tick) (buffer-chars-modified-tick buffer)) "the server has the text")
+                  (t "its last change isn't sent yet")))))
+
+(defun laspidru-status ()
+  "Say which texts the current buffer's server has."
+  (interactive)
+  (let ((server (eglot-current-server)))
+    (message "%s" (cond ((not (cl-typep server 'laspidru-eglot-server)) "Laspidru: no server of it manages this buffer")
+                        ((eq (oref server client) 'none) "Laspidru: this server gets eglot's own messages")
+                        (t (mapconcat #'laspidru-eglot--describe (oref server documents) "\n"))))))
+
 (cl-defmethod jsonrpc-connection-send :around ((server laspidru-eglot-server) &key method params &allow-other-keys)
   "Send SERVER what laspidru's client has of documents, before all other messages.
 METHOD and PARAMS are those of eglot's message."
@@ -198,6 +215,45 @@ METHOD and PARAMS are those of eglot's message."
                (laspidru-eglot--replace server (string-remove-prefix ":" (format "%s" method))
                                         (and (listp params) (plist-get params :textDocument))))
     (cl-call-next-method)))
+
+;; Eglots of Emacs 30 and later track changes by another package, which loses them in a clone and in a narrowed buffer.  They also keep a
+;; buffer's URI when it gets another name.
+
+(defvar eglot--track-changes)
+(defvar eglot--recent-changes)
+(defvar eglot--TextDocumentIdentifier-cache)
+(declare-function eglot--track-changes-signal "ext:eglot")
+(declare-function track-changes-unregister "ext:track-changes")
+
+(defun laspidru-eglot--changed (&rest _)
+  "Have eglot call for what changed, once the user is idle."
+  (eglot--track-changes-signal nil))
+
+(defun laspidru-eglot--take-over ()
+  "Take the place of eglot's tracker in a buffer of a laspidru server."
+  (when (and (bound-and-true-p eglot--track-changes) (cl-typep (eglot-current-server) 'laspidru-eglot-server))
+    (track-changes-unregister eglot--track-changes)
+    (setq eglot--track-changes nil)
+    (add-hook 'after-change-functions #'laspidru-eglot--changed nil t)))
+
+(defun laspidru-eglot--fetch (fetch tracker)
+  "Call FETCH for a TRACKER of eglot's.
+Without one say that all may have changed: laspidru's client knows better."
+  (cond (tracker (funcall fetch tracker))
+        ((bound-and-true-p eglot--recent-changes) (setq eglot--recent-changes :emacs-messup))))
+
+(defun laspidru-eglot--renamed ()
+  "Have the server of the current buffer open it by its new name."
+  (when (boundp 'eglot--TextDocumentIdentifier-cache)
+    (setq eglot--TextDocumentIdentifier-cache nil))
+  (let ((server (and buffer-file-name (eglot-current-server))))
+    (when (and (cl-typep server 'laspidru-eglot-server) (laspidru-eglot--client server))
+      (laspidru-eglot--update-all server (plist-get (eglot--TextDocumentIdentifier) :uri)))))
+
+(when (fboundp 'eglot--track-changes-signal)
+  (add-hook 'eglot-managed-mode-hook #'laspidru-eglot--take-over)
+  (advice-add 'eglot--track-changes-fetch :around #'laspidru-eglot--fetch)
+  (add-hook 'after-set-visited-file-name-hook #'laspidru-eglot--renamed))
 
 (provide 'laspidru-eglot)
 ;;; laspidru-eglot.el ends here

@@ -135,6 +135,20 @@
     (test-heard "is sent again")
     (should-not test-said)))
 
+(test-case its-status
+  "`laspidru-status' says what the server has."
+  (test-file "status.txt" "one\n")
+  (should (equal (laspidru-status) "Laspidru: no server of it manages this buffer"))
+  (let* ((test-said nil) (laspidru-eglot-max-text 20) (server (test-start)))
+    (insert "x")
+    (should (string-match-p "\\`status.txt, version [0-9]+: its last change isn't sent yet\\'" (laspidru-status)))
+    (test-has server "xone\n")
+    (should (string-match-p "\\`status.txt, version [0-9]+: the server has the text\\'" (laspidru-status)))
+    (insert "a line that is longer than the limit ")
+    (test-has server "xone\n")
+    (should (string-match-p "the server lacks the text: the text is longer than laspidru-eglot-max-text" (laspidru-status)))
+    (test-heard "isn't sent: the text is longer")))
+
 (test-case a-bad-limit
   "Eglot goes on as without the package, and says so."
   (test-file "a.txt" "one\n")

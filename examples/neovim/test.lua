@@ -101,6 +101,7 @@ local function run(client, number)
     local file = assert(io.open(path, "wb"))
     file:write(kind.text(random))
     file:close()
+    vim.go.fixendofline = random(2) == 1
     vim.cmd("silent edit " .. path)
     local uri, all = vim.uri_from_bufnr(0), steps_of(is_everyday)
     local found = { kind = kind.name, everyday = is_everyday, number = number, first = vim.NIL, more = vim.NIL }
@@ -128,7 +129,7 @@ end
 
 local function main()
     vim.o.fileformats = "unix,dos,mac"
-    vim.o.fixendofline, vim.o.hidden, vim.o.swapfile, vim.o.autoread = false, true, false, true
+    vim.o.hidden, vim.o.swapfile, vim.o.autoread = true, false, true
     local client = started()
     local out = assert(io.open(vim.env.OUT, "w"))
     for number = tonumber(vim.env.FIRST), tonumber(vim.env.SESSIONS) - 1, tonumber(vim.env.EACH) do

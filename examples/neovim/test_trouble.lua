@@ -144,11 +144,62 @@ function CASES.line_ends()
     has(client, "one\ntwo\n")
     vim.bo.fileformat = "dos"
     has(client, "one\r\ntwo\r\n")
-    vim.bo.fileformat, vim.bo.endofline = "mac", false
+    vim.bo.fileformat, vim.bo.endofline, vim.bo.fixendofline = "mac", false, false
     has(client, "one\rtwo")
     set("three")
     has(client, "three")
     is_silent()
+end
+
+function CASES.a_last_line_end_that_neovim_adds()
+    local file = assert(io.open(folder .. "/noeol.txt", "wb"))
+    file:write("ab\ncd")
+    file:close()
+    vim.cmd("silent edit " .. folder .. "/noeol.txt")
+    local client = start()
+    assert(vim.bo.fixendofline and not vim.bo.endofline)
+    has(client, "ab\ncd\n")
+    vim.bo.fixendofline = false
+    has(client, "ab\ncd")
+    vim.bo.fixendofline = true
+    has(client, "ab\ncd\n")
+    vim.bo.binary = true
+    has(client, "ab\ncd")
+    is_silent()
+end
+
+-- (as Neovim 0.11 starts the clients of `vim.lsp.config`)
+function CASES.two_clients_of_one_configuration()
+    local config = sync.config(plain_config())
+    local first, second = start_plain(vim.deepcopy(config)), start_plain(vim.deepcopy(config))
+    set("one")
+    has(first, "one\n")
+    first.stop()
+    wait(function() return first.is_stopped() end)
+    assert(not sync.sessions[first.id] and sync.sessions[second.id])
+    set("two")
+    has(second, "two\n")
+    is_silent()
+end
+
+local function health()
+    vim.cmd("silent checkhealth laspidru")
+    local found = table.concat(vim.api.nvim_buf_get_lines(0, 0, -1, false), "\n")
+    vim.cmd("silent bwipeout!")
+    return found
+end
+
+function CASES.its_health()
+    assert(health():find("no server runs", 1, true))
+    local client = start(nil, { max_text = 9 })
+    assert(health():find("the library is version " .. require("laspidru").version, 1, true))
+    edit("a.txt", "one")
+    lsp.buf_attach_client(0, client.id)
+    has(client, "one\n")
+    assert(health():find("a.txt, version %d+: the server has the text"))
+    set("a longer line")
+    heard("isn't sent")
+    assert(health():find("the server lacks the text: the text is longer than max_text", 1, true))
 end
 
 function CASES.whole_texts()

@@ -1,7 +1,7 @@
 //! A server by tower-lsp whose documents are laspidru's. Hover shows the document.
 use laspidru::{Change, Document, Encoding};
 use std::collections::HashMap;
-use std::sync::Mutex;
+use std::sync::{Mutex, OnceLock};
 use tower_lsp::jsonrpc::Result;
 use tower_lsp::lsp_types::*;
 use tower_lsp::{Client, LanguageServer, LspService, Server};
@@ -14,12 +14,13 @@ struct Open {
 
 struct Backend {
     client: Client,
+    encoding: OnceLock<Encoding>,
     documents: Mutex<HashMap<Url, Open>>,
 }
 
 impl Backend {
     fn open(&self, item: TextDocumentItem) -> std::result::Result<(), laspidru::Error> {
-        let document = Document::new(&item.text, Encoding::Utf16)?;
+        let document = Document::new(&item.text, *self.encoding.get_or_init(|| Encoding::Utf16))?;
         self.documents.lock().unwrap().insert(item.uri, Open { document, version: item.version });
         Ok(())
     }
@@ -44,9 +45,13 @@ impl Backend {
 
 #[tower_lsp::async_trait]
 impl LanguageServer for Backend {
-    async fn initialize(&self, _: InitializeParams) -> Result<InitializeResult> {
-        // (without a `position_encoding` positions count UTF-16 units)
+    async fn initialize(&self, params: InitializeParams) -> Result<InitializeResult> {
+        // UTF-8 if the client offers it, else UTF-16, which each client has
+        let offered = params.capabilities.general.and_then(|it| it.position_encodings).unwrap_or_default();
+        let is_utf8 = offered.contains(&PositionEncodingKind::UTF8);
+        self.encoding.get_or_init(|| if is_utf8 { Encoding::Utf8 } else { Encoding::Utf16 });
         let capabilities = ServerCapabilities {
+            position_encoding: is_utf8.then_some(PositionEncodingKind::UTF8),
             text_document_sync: Some(TextDocumentSyncCapability::Kind(TextDocumentSyncKind::INCREMENTAL)),
             hover_provider: Some(HoverProviderCapability::Simple(true)),
             ..Default::default()
@@ -86,7 +91,7 @@ impl LanguageServer for Backend {
 
 #[tokio::main(flavor = "current_thread")]
 async fn main() {
-    let (service, socket) = LspService::new(|client| Backend { client, documents: Mutex::default() });
+    let (service, socket) = LspService::new(|client| Backend { client, encoding: OnceLock::new(), documents: Mutex::default() });
     // one message at a time, in their order
     Server::new(tokio::io::stdin(), tokio::io::stdout(), socket).concurrency_level(1).serve(service).await;
 }

@@ -7,7 +7,8 @@ local laspidru = require("laspidru")
 local text = require("laspidru_sync.text")
 local api, lsp = vim.api, vim.lsp
 
-local M = {}
+-- The sessions that run, by the numbers of their clients
+local M = { sessions = {} }
 local Session = {}
 Session.__index = Session
 
@@ -26,24 +27,39 @@ local function warn(...)
     vim.notify("laspidru: " .. string.format(...), vim.log.levels.WARN)
 end
 
--- Returns a configuration of vim.lsp's with the change: for `vim.lsp.start_client`, `vim.lsp.start` or `vim.lsp.config`. In `options`
+-- Returns a configuration of vim.lsp's with the change: for `vim.lsp.start_client`, `vim.lsp.start`, and Neovim 0.11's `vim.lsp.config`. In `options`
 -- `max_text`, `max_body` and `max_docs` are laspidru's limits. Of a buffer with more than `long` lines (5000) only those are read at once
 -- that Neovim reports as changed, and the others a little later.
 function M.config(config, options)
     local calls, on_exit = type(config.on_init) == "table" and config.on_init or { config.on_init }, config.on_exit
-    local session
     return vim.tbl_extend("force", config, {
         on_init = function(client, result)
             for _, call in ipairs(calls) do
                 call(client, result)
             end
-            session = Session.new(client, result.capabilities, options or {})
+            M.sessions[client.id] = Session.new(client, result.capabilities, options or {})
         end,
-        on_exit = function(...)
-            if session then session:stop() end
-            if on_exit then on_exit(...) end
+        on_exit = function(code, signal, id) -- (a configuration may have several clients)
+            if M.sessions[id] then M.sessions[id]:stop() end
+            if on_exit then on_exit(code, signal, id) end
         end,
     })
+end
+
+-- What each session's server has: a list of {server, encoding, documents}, and of each document its {name, version, problem}, where
+-- `problem` says why its text isn't the buffer's, or is nil.
+function M.status()
+    local all = {}
+    for _, session in pairs(M.sessions) do
+        local found = { server = session.client.name, encoding = session.client.offset_encoding, documents = {} }
+        for buffer, entry in pairs(session.entries) do
+            local is_sent = not entry.problem and entry.state and text.is_same(entry.state, text.read(buffer))
+            local problem = entry.problem and (WHY[entry.problem] or entry.problem) or not is_sent and "its last change isn't sent yet" or nil
+            table.insert(found.documents, { name = vim.fn.fnamemodify(api.nvim_buf_get_name(buffer), ":~:."), version = entry.version, problem = problem })
+        end
+        table.insert(all, found)
+    end
+    return all
 end
 
 -- Laspidru's client of a session whose `initialize` was vim.lsp's own, or nil and why there can be none. It gets the server's response to
@@ -186,7 +202,7 @@ function Session:listen_to_all()
             callback = function(event) call(self.entries[event.buf ~= 0 and event.buf or api.nvim_get_current_buf()]) end,
         })
     end
-    on("OptionSet", { "fileformat", "endofline", "binary" }, function()
+    on("OptionSet", { "fileformat", "endofline", "fixendofline", "binary" }, function()
         for _, entry in pairs(self.entries) do
             self:flush_soon(entry)
         end
@@ -286,6 +302,7 @@ end
 -- The server ends: nothing more is sent to it.
 function Session:stop()
     self.entries = {}
+    M.sessions[self.client.id] = nil
     vim.schedule(function() pcall(api.nvim_del_augroup_by_id, self.group) end)
 end
 

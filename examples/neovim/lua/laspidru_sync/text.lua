@@ -12,10 +12,15 @@ local function has_no_line(buffer, lines)
     return #lines == 1 and lines[1] == "" and api.nvim_buf_call(buffer, function() return vim.fn.wordcount().bytes == 0 end)
 end
 
+-- Whether Neovim would write an end of the last line: with `fixendofline` it does where the file has none, too.
+local function writes_last_end(options)
+    return options.endofline or (options.fixendofline and not options.binary)
+end
+
 -- The state of a buffer: its lines as Neovim keeps them, the format of their ends, and whether the last line has one.
 function M.read(buffer)
     local options, lines = vim.bo[buffer], api.nvim_buf_get_lines(buffer, 0, -1, false)
-    return { lines = lines, format = options.fileformat, has_last_end = options.endofline and not has_no_line(buffer, lines) }
+    return { lines = lines, format = options.fileformat, has_last_end = writes_last_end(options) and not has_no_line(buffer, lines) }
 end
 
 -- A span of lines that changed: after the first `first` lines up to line `old_last` of the old lines, `new_last` of the new ones.
@@ -33,7 +38,7 @@ end
 -- The state of a buffer whose lines are as before but for a span: only those are read. Nothing where that can't be all that changed.
 function M.read_span(buffer, old, span)
     local options, count = vim.bo[buffer], #old.lines + span.new_last - span.old_last
-    local is_same = options.fileformat == old.format and options.endofline == old.has_last_end
+    local is_same = options.fileformat == old.format and writes_last_end(options) == old.has_last_end
     if not is_same or count == 1 or count ~= api.nvim_buf_line_count(buffer) then return nil end
     local read, lines, rest = api.nvim_buf_get_lines(buffer, span.first, span.new_last, false), {}, span.new_last - span.old_last
     for index = 1, span.first do

@@ -6,6 +6,7 @@
 //!     hover URI                                                     (the answer is a line with the text)
 //!     close URI
 //!
+//! The first line that it prints is the encoding of positions. With the word `utf-8` the client offers UTF-8 too.
 //! What the user is shown is a line on standard error.
 pub use attributes::async_trait;
 use jsonrpc::Result;
@@ -81,8 +82,25 @@ pub mod lsp_types {
         pub range: Option<Range>,
     }
 
-    #[derive(Default)]
-    pub struct InitializeParams {}
+    #[derive(Clone, PartialEq, Eq)]
+    pub struct PositionEncodingKind(pub &'static str);
+
+    impl PositionEncodingKind {
+        pub const UTF8: Self = PositionEncodingKind("utf-8");
+        pub const UTF16: Self = PositionEncodingKind("utf-16");
+    }
+
+    pub struct GeneralClientCapabilities {
+        pub position_encodings: Option<Vec<PositionEncodingKind>>,
+    }
+
+    pub struct ClientCapabilities {
+        pub general: Option<GeneralClientCapabilities>,
+    }
+
+    pub struct InitializeParams {
+        pub capabilities: ClientCapabilities,
+    }
 
     #[derive(Default)]
     pub struct InitializeResult {
@@ -92,7 +110,7 @@ pub mod lsp_types {
 
     #[derive(Default)]
     pub struct ServerCapabilities {
-        pub position_encoding: Option<()>,
+        pub position_encoding: Option<PositionEncodingKind>,
         pub text_document_sync: Option<TextDocumentSyncCapability>,
         pub hover_provider: Option<HoverProviderCapability>,
     }
@@ -160,7 +178,10 @@ impl Server {
 
     pub async fn serve<S: LanguageServer>(self, service: LspService<S>) {
         let server = service.0;
-        server.initialize(InitializeParams {}).await.unwrap();
+        let encodings = std::env::args().any(|word| word == "utf-8").then(|| vec![PositionEncodingKind::UTF16, PositionEncodingKind::UTF8]);
+        let general = Some(GeneralClientCapabilities { position_encodings: encodings });
+        let initialized = server.initialize(InitializeParams { capabilities: ClientCapabilities { general } }).await.unwrap();
+        println!("{}", initialized.capabilities.position_encoding.map_or("utf-16", |kind| kind.0));
         for line in stdin().lock().split(b'\n') {
             handle(&server, &String::from_utf8(line.unwrap()).unwrap()).await;
         }
