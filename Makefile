@@ -26,8 +26,8 @@ RELEASE = .
 endif
 HEADER = crates/laspidru/include/laspidru.h
 # The programs over logs, with what they import, and the pages that say what a log, a code and a note are
-TOOLS = record log-from lines-from-log log-from-lines
-TOOL_FILES = bin/session_log.py bin/log_forms.py
+TOOLS = record front log-from lines-from-log log-from-lines
+TOOL_FILES = bin/session_log.py bin/between.py bin/log_forms.py
 PAGES = $(addprefix docs/,PROTOCOL.md LSPSYNC.md LOGS.md CLIENTS.md LIBRARY.md c.md) crates/laspidru/include/CODES.md
 LICENCES = LICENSE-MIT LICENSE-APACHE
 EXAMPLES = $(sort $(wildcard examples/*.log examples/*.events))
@@ -39,6 +39,18 @@ SHARED = $(BUILD)/liblaspidru.so.$(VERSION)
 RELEASES = release
 PACKAGES = packages
 KINDS = wheel npm crate deb lua zip
+
+# To try a binding soon: the library compiled without proofs, under a name of its own. Nothing is installed, packed or released of it. As it
+# is loaded it says so on standard error, unless LASPIDRU_UNPROVED is `quiet`.
+UNPROVED =
+ifneq ($(UNPROVED),)
+BUILD = build/unproved
+ARCHIVE = $(BUILD)/code.a
+SONAME = liblaspidru-unproved.so.0
+ifneq ($(filter-out library,$(MAKECMDGOALS)),)
+$(error make $(MAKECMDGOALS): UNPROVED is for `make library` alone, which isn't proved)
+endif
+endif
 SUMS = $(wildcard $(RELEASES)/laspidru-$(VERSION).sha256 $(PACKAGES)/laspidru-$(VERSION)-packages.sha256)
 
 define IN_A_RELEASE_TOO
@@ -66,6 +78,7 @@ To change it (docs/DEVELOPING.md)
   make refused         out of memory at each request that a test makes (CRATE)             rt, after the gate          seconds
   make definitions     what a clause speaks of (OF=Pair::step.history), or all such pages  python3                     seconds
   make c               the archive for C, and its test in C                                rt                          up to an hour
+    (make library UNPROVED=1 is without proofs, in build/unproved/: try a binding by it    rt, cc                      5 minutes)
   make targets         for other systems, in build/ (TARGET="wasm32 ..", ARGS=--check)     rt, it says what else       minutes, once proved
 
 To test what needs no proof, as the gate does at its end
@@ -100,8 +113,13 @@ $(SHARED): $(ARCHIVE) $(BUILD)/heap.o bindings/exports.map
 	    -Wl,--whole-archive "$(ARCHIVE)" -Wl,--no-whole-archive "$(BUILD)/heap.o"
 	mv "$@.new" "$@"
 
+ifneq ($(UNPROVED),)
+$(ARCHIVE): tools/unproved tools/unproved.c crates.txt $(shell find crates/*/src crates/*/specs -type f)
+	tools/unproved "$@"
+else
 $(ARCHIVE):
-	@echo "$@ isn't built: tools/c proves and builds it ($$(cat install/kit); README.md, Run it)" >&2; exit 1
+	@echo "$@ isn't built: tools/c proves and builds it ($$(cat install/kit); README.md, With the kit)" >&2; exit 1
+endif
 
 prefix:
 	@case "$(PREFIX)" in /*) ;; *) echo "PREFIX has to begin with /, and it is $(PREFIX)" >&2; exit 1 ;; esac
@@ -195,7 +213,8 @@ refused:
 	@tools/refused $(CRATE)
 
 pages:
-	@status=0; tools/links || status=1; tools/definitions --check || status=1; exit $$status
+	@failed=0; for tool in "tools/links" "tools/definitions --check"; do $$tool || failed=$$((failed + 1)); done; \
+	echo "$$((2 - failed)) passed, $$failed failed"; [ $$failed = 0 ]
 
 definitions:
 	@tools/definitions $(if $(OF),--of "$(OF)",--pages)

@@ -1,6 +1,8 @@
 'use strict';
 // Texts that are kept as LSP 3.17 says, and both ends of a session, by a library that is proved (docs/node.md). `TextDocument` has the members
 // of vscode-languageserver-textdocument. Unlike there a position inside a character is refused by a RangeError.
+const { logFrom: madeFrom } = require('./log-from.js');
+
 let addon; // what calls the library: what module.js has over laspidru.node, or over the WebAssembly module
 
 const [encoder, decoder] = [new TextEncoder(), new TextDecoder()];
@@ -616,6 +618,12 @@ const normalise = (log, options) => run('normalise', log, options, ['squash', 'd
 /** A log of version 1 in version 2, with the replies that a server gives. */
 const convert = (log, options) => run('convert', log, options);
 
+/** A log of what an editor or a server wrote by itself (log-from.js). */
+const logFrom = (log, options) => {
+  const made = madeFrom(bytesOf(read(log)), options);
+  return { ...made, log: Buffer.from(made.log) };
+};
+
 /** What the package has, over an addon, and what reads a log that isn't bytes. There is one for all that is made of it. */
 function over(its, reading = (log) => log) {
   [addon, read] = [its, reading];
@@ -624,7 +632,7 @@ function over(its, reading = (log) => log) {
   WHY = Object.fromEntries(texts);
   const number = addon.version();
   const version = [10000, 100, 1].map((of) => Math.floor(number / of) % 100).join('.');
-  return { version, WHY, TextDocument, Framer, Server, Client, FrameFault, LogFault, check, trace, replay, compare, normalise, convert };
+  return { version, WHY, TextDocument, Framer, Server, Client, FrameFault, LogFault, check, trace, replay, compare, normalise, convert, logFrom };
 }
 
 module.exports = { over, Buffer };

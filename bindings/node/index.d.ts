@@ -308,6 +308,25 @@ export function normalise(log: Log, options?: LogOptions & { squash?: boolean; d
 /** A log of version 1 in version 2, with the replies that a server gives. */
 export function convert(log: Log, options?: LogOptions): LogOutput;
 
+export interface LogFrom {
+  log: Buffer;
+  /** The form that was known, in words. */
+  form: string;
+  /** Which session the log is of, from 1, and all that there are; `root` is '' where it isn't known. */
+  session: number;
+  sessions: { line: number; messages: number; documents: number; root: string }[];
+  /** What can't be known of the session, in sentences. */
+  doubts: string[];
+  /** What ended the reading, with its line, or ''. The log is of what comes before it. */
+  fault: string;
+}
+
+/**
+ * A log of what an editor or a server wrote by itself, as `bin/log-from` makes it; of several sessions the one of this number, or the last. It
+ * throws with the code `UNKNOWN_FORM` where it knows no such form, and with `BAD_LOG` where there is no message.
+ */
+export function logFrom(log: Log, options?: { session?: number }): LogFrom;
+
 /** What each code means, by its name. */
 export const WHY: Record<string, string>;
 

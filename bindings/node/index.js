@@ -38,4 +38,4 @@ const read = (log) => (typeof log === 'string' || typeof log === 'number' || log
 
 module.exports = over(loaded(), read);
 // `import { TextDocument } from 'laspidru'` finds the names here: Node reads them from the source of a CommonJS module, and runs nothing of it.
-0 && (module.exports = { version, WHY, TextDocument, Framer, Server, Client, FrameFault, LogFault, check, trace, replay, compare, normalise, convert });
+0 && (module.exports = { version, WHY, TextDocument, Framer, Server, Client, FrameFault, LogFault, check, trace, replay, compare, normalise, convert, logFrom });

@@ -1,4 +1,4 @@
-// The package where there is no Node, or for a bundler. tools/targets puts api.js and module.js before this, so that laspidru.mjs is one file.
+// The package where there is no Node, or for a bundler. tools/targets puts log-from.js, api.js and module.js before this, so that laspidru.mjs is one file.
 let loading;
 
 /** The bytes of a module, or the module that they were compiled to. */

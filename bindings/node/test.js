@@ -5,7 +5,7 @@ const fs = require('fs');
 const path = require('path');
 const { test } = require('node:test');
 const { TextDocument, Framer, Server, Client, FrameFault, LogFault, WHY, version, ...logs } = require('./index.js');
-const { check, trace, replay, compare, normalise, convert } = logs;
+const { check, trace, replay, compare, normalise, convert, logFrom } = logs;
 
 const at = (line, character) => ({ line, character });
 const change = (start, end, text) => ({ range: { start, end }, text });
@@ -394,6 +394,15 @@ test('positions and lines of open documents, at both ends', () => {
     }
   }
   assert.deepStrictEqual([new Client().lineAt('a', 0), new Server().byteOffset('a', at(0, 0))], [undefined, undefined]);
+});
+
+test("a log of an editor's own", () => { // (bin/test has the forms)
+  const own = 'V[10:12:13.123] <<< {"method":"initialize"}\nV[10:12:13.124] <<< {"method":"\xff"}\n';
+  const { log, doubts, fault, sessions } = logFrom(Buffer.from(own, 'latin1'));
+  assert.strictEqual(log.toString('latin1'), 'Content-Length: 23\r\n\r\n{"method":"initialize"}Content-Length: 14\r\n\r\n{"method":"\xff"}');
+  assert.deepStrictEqual([doubts, fault, sessions], [[], '', [{ line: 1, messages: 2, documents: 0, root: '' }]]);
+  assert.throws(() => logFrom(Buffer.from('none')), { code: 'UNKNOWN_FORM' });
+  assert.throws(() => logFrom(Buffer.from('I[10:12:13.123] clangd\n')), { code: 'BAD_LOG', message: /with --log=verbose/ });
 });
 
 test('a framer', () => {

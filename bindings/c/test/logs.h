@@ -4,10 +4,10 @@ static const laspidru_log_settings log_settings = {.max_body = 4096, .max_text =
 static const char change_b[] = "{\"jsonrpc\":\"2.0\",\"method\":\"textDocument/didChange\",\"params\":{\"textDocument\":"
                                "{\"uri\":\"file:///a\",\"version\":8},\"contentChanges\":[{\"range\":{\"start\":"
                                "{\"line\":0,\"character\":0},\"end\":{\"line\":0,\"character\":0}},\"text\":\"!\"}]}}";
-static const char empty_7[] = "{\"jsonrpc\":\"2.0\",\"method\":\"textDocument/didChange\",\"params\":{\"textDocument\":"
-                              "{\"uri\":\"file:///a\",\"version\":7},\"contentChanges\":[]}}";
-static const char empty_8[] = "{\"jsonrpc\":\"2.0\",\"method\":\"textDocument/didChange\",\"params\":{\"textDocument\":"
-                              "{\"uri\":\"file:///a\",\"version\":8},\"contentChanges\":[]}}";
+/* A message of no change, which has a note. */
+#define EMPTY(version) \
+    "{\"jsonrpc\":\"2.0\",\"method\":\"textDocument/didChange\",\"params\":{\"textDocument\":" \
+    "{\"uri\":\"file:///a\",\"version\":" version "},\"contentChanges\":[]}}"
 static const char open_b[] = "{\"jsonrpc\":\"2.0\",\"method\":\"textDocument/didOpen\",\"params\":{\"textDocument\":"
                              "{\"uri\":\"file:///b\",\"languageId\":\"c\",\"version\":1,\"text\":\"\"}}}";
 static const char canonical_a[] = "{\"jsonrpc\":\"2.0\",\"method\":\"textDocument/didChange\",\"params\":{\"contentChanges\":["
@@ -178,7 +178,7 @@ static void test_log_options(void) {
 
 /* Whether the output of `explain` begins so. */
 static int explains(const laspidru_log_settings *how, part log, const char *begins) {
-    unsigned char out[128];
+    unsigned char out[256];
     laspidru_handle output = {0};
     laspidru_ending ending = {9, 9, 9, 9, 9, 9, 9};
     laspidru_size copied = 0;
@@ -189,14 +189,16 @@ static int explains(const laspidru_log_settings *how, part log, const char *begi
     return is_right;
 }
 
-/* Which lines and notes `explain` has: the second note of a kind is a habit. */
+#define NOTED(number) number " changed of \"file:///a\": it has no changes\n"
+
+/* Which lines and notes `explain` has: five notes of a kind are a habit. */
 static void test_log_listing(void) {
-    static const char *const session[] = {initialize, open_a, empty_7, empty_8, change_a, 0};
+    static const char *const session[] = {initialize, open_a, EMPTY("7"), EMPTY("8"), EMPTY("9"), EMPTY("10"), EMPTY("11"), change_a, 0};
     laspidru_log_settings brief = log_settings, all = log_settings;
     brief.brief = all.all = 1;
-    CHECK(explains(&log_settings, log_of(session), "1 reply\n2 changed\n3 changed of \"file:///a\": it has no changes\n4 changed\n"));
-    CHECK(explains(&all, log_of(session), "1 reply\n2 changed\n3 changed of \"file:///a\": it has no changes\n4 changed of "));
-    CHECK(explains(&brief, log_of(session), "3 changed of \"file:///a\": it has no changes\n5 refused S5 of "));
+    CHECK(explains(&log_settings, log_of(session), "1 reply\n2 changed\n" NOTED("3") NOTED("4") NOTED("5") NOTED("6") "7 changed\n"));
+    CHECK(explains(&all, log_of(session), "1 reply\n2 changed\n" NOTED("3") NOTED("4") NOTED("5") NOTED("6") "7 changed of "));
+    CHECK(explains(&brief, log_of(session), NOTED("3") NOTED("4") NOTED("5") NOTED("6") "8 refused S5 of "));
 }
 
 static void test_compare(void) {

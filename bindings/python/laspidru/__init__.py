@@ -8,7 +8,8 @@
         output.write(event.frame)
     check(log).output                  # what a server answers to each record of a log, as bytes
 
-The shared library is the one that LASPIDRU_LIBRARY names, or liblaspidru.so.0 where the loader finds it."""
+The shared library is the one that LASPIDRU_LIBRARY names, or that `make library` made here, or liblaspidru.so.0 where the loader finds
+it."""
 from ._library import VERSION as __version__
 from ._library import ENCODINGS, WHY, EditsFault, FrameFault, LaspidruError, LogFault
 from .documents import Document, TextDocument

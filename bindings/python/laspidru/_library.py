@@ -2,6 +2,7 @@
 from __future__ import annotations
 
 import ctypes
+import glob
 import operator
 import os
 import platform
@@ -34,14 +35,20 @@ def _structures() -> Iterator[Any]:
 
 
 NAME = {"Windows": "laspidru.dll", "Darwin": "liblaspidru.dylib"}.get(platform.system(), "liblaspidru.so.0")
+IN_THE_REPOSITORY = os.path.join("bindings", "python", "laspidru")
 # The systems that the library is built for, each with its processors
 BUILT = {"Linux": ("x86_64", "aarch64"), "Windows": ("AMD64",), "Darwin": ("x86_64", "arm64")}
 
 
 def _path() -> str:
-    """The library that LASPIDRU_LIBRARY names, else the one beside this file, as a wheel has it, else the installed one."""
-    beside = os.path.join(os.path.dirname(os.path.abspath(__file__)), NAME)
-    return os.environ.get("LASPIDRU_LIBRARY") or (beside if os.path.exists(beside) else NAME)
+    """The library that LASPIDRU_LIBRARY names, else the one beside this file, as a wheel has it, else the one that `make library` made
+    here, the proved one if it is there, else the installed one."""
+    folder = os.path.dirname(os.path.abspath(__file__))
+    found = glob.glob(os.path.join(folder, NAME))
+    if folder.endswith(IN_THE_REPOSITORY):
+        build = os.path.join(folder[:-len(IN_THE_REPOSITORY)], "build")
+        found += [it for at in (build, os.path.join(build, "unproved")) for it in glob.glob(os.path.join(at, "liblaspidru.so.*.*.*"))]
+    return os.environ.get("LASPIDRU_LIBRARY") or (found[0] if found else NAME)
 
 
 def _why(problem: str) -> str:
