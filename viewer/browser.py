@@ -18,6 +18,16 @@ ELEMENT = "element-6066-11e4-a52e-4f735466cecf"
 SECONDS = 120
 
 
+CODES = {"ArrowUp": "\ue013", "ArrowDown": "\ue015", "ArrowLeft": "\ue012", "ArrowRight": "\ue014", "Home": "\ue011", "End": "\ue010",
+         "PageUp": "\ue00e", "PageDown": "\ue00f", "Enter": "\ue007", "Tab": "\ue004", "Escape": "\ue00c"}
+
+
+def pressing(keys):
+    """The actions that press keys."""
+    downs = [{"type": kind, "value": CODES.get(key, key)} for key in keys for kind in ("keyDown", "keyUp")]
+    return [{"type": "key", "id": "keys", "actions": downs}]
+
+
 class Browser:
     def __init__(self):
         self.home = tempfile.TemporaryDirectory()
@@ -63,10 +73,7 @@ class Browser:
 
     def press(self, *keys):
         """Presses keys where the focus is."""
-        codes = {"ArrowUp": "\ue013", "ArrowDown": "\ue015", "ArrowLeft": "\ue012", "ArrowRight": "\ue014", "Home": "\ue011",
-                 "End": "\ue010", "PageUp": "\ue00e", "PageDown": "\ue00f", "Enter": "\ue007", "Tab": "\ue004"}
-        downs = [{"type": kind, "value": codes.get(key, key)} for key in keys for kind in ("keyDown", "keyUp")]
-        self.post("/actions", actions=[{"type": "key", "id": "keys", "actions": downs}])
+        self.post("/actions", actions=pressing(keys))
 
     def find(self, selector):
         return [it[ELEMENT] for it in self.post("/elements", using="css selector", value=selector)]
@@ -150,6 +157,18 @@ class Firefox:
     def run(self, script, *values):
         """Runs a script beside the page: it sees the page's elements, and none of its names."""
         return self.ask("WebDriver:ExecuteScript", script=script, args=list(values))
+
+    def find(self, selector):
+        return self.ask("WebDriver:FindElement", using="css selector", value=selector)[ELEMENT]
+
+    def click(self, selector):
+        self.ask("WebDriver:ElementClick", id=self.find(selector))
+
+    def upload(self, selector, path):
+        self.ask("WebDriver:ElementSendKeys", id=self.find(selector), text=path)
+
+    def press(self, *keys):
+        self.ask("WebDriver:PerformActions", actions=pressing(keys))
 
     def shoot(self, path):
         with open(path, "wb") as file:

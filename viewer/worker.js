@@ -1,5 +1,6 @@
 "use strict";
-// What the page's worker does: it runs lspsync, a WebAssembly module, on a log. viewer/page puts bindings/node/program.js before this.
+// What the page's worker does: it runs lspsync, a WebAssembly module, on a log, and makes logs of what editors write themselves. viewer/page puts
+// program.js and log-from.js of bindings/node before this.
 
 const LONGEST_BODY = 20000, SHORTENED_BODY = 2000, MOST_BODIES = 2e8, MOST_GATHERED = 1 << 18, LONGEST_PIECE = 1 << 23, BETWEEN_POSTS = 50;
 // How many bytes of the page's memory all records may take, of which a browser has 4 GB, and about how many one takes besides its texts.
@@ -144,8 +145,19 @@ async function compiled(engine) {
 
 let compiling;
 
-/** Runs the program on a log, or without one only compiles it, for the first run. */
-onmessage = async ({ data: { engine, words, files, isTrace } }) => {
+/** What a file is made to, a log of its session of that number, or why it can't be. */
+function madeOf(file, session) {
+  try {
+    const { log, ...made } = logFrom(new Uint8Array(new FileReaderSync().readAsArrayBuffer(file)), { session });
+    return { ...made, log: new Blob([log]) };
+  } catch ({ code, message }) {
+    return { code, said: message };
+  }
+}
+
+/** Makes a log of a file, or runs the program on a log, or without one only compiles it, for the first run. */
+onmessage = async ({ data: { source, number, engine, words, files, isTrace } }) => {
+  if (source) return postMessage({ made: madeOf(source, number) });
   compiling ??= compiled(engine);
   if (!words) return compiling.catch(() => {}); // (the first run says why)
   const gathered = new Gathered(), said = [], take = isTrace ? linesOf(gathered) : piece => gathered.add(piece.slice(), piece.length);
