@@ -23,7 +23,7 @@ _lspsync() {
                 trace) words="$words --texts --bodies --live" ;;
                 replay) words="$words --at --uri" ;;
                 compare) words="$words --uri" ;;
-                normalise) words="$words --documents --squash" ;;
+                normalise) words="$words --documents --squash --whole --live" ;;
                 help) words=$commands ;;
                 convert) ;;
                 *) words="$commands --help --version" ;;

@@ -33,3 +33,5 @@ complete -c lspsync -n '__fish_seen_subcommand_from replay' -l uri -x -d 'Print 
 complete -c lspsync -n '__fish_seen_subcommand_from compare' -l uri -x -d 'Compare the document whose URI ends so'
 complete -c lspsync -n '__fish_seen_subcommand_from normalise' -l documents -d 'Leave out each message that is neither about the session nor about a document\'s text'
 complete -c lspsync -n '__fish_seen_subcommand_from normalise' -l squash -d 'Write changes of one document that follow each other as one message'
+complete -c lspsync -n '__fish_seen_subcommand_from normalise' -l whole -d 'Write each accepted change as one that holds the whole text after it'
+complete -c lspsync -n '__fish_seen_subcommand_from normalise' -l live -d 'Flush what is printed before more is read'

@@ -47,12 +47,12 @@ class Scope:
 
 
 class Definition:
-    """A definition: where it is, the heading that it is under, its lines as they stand there, and those that count."""
+    """A definition: where it is, the heading that it is under, its lines as they stand there, and those that count, with their numbers."""
 
     def __init__(self, module, name, kind, line, comment):
         self.module, self.name, self.kind, self.line, self.comment = module, name, kind, line, comment
         self.section = module.section
-        self.text, self.counted = [], []
+        self.text, self.counted, self.numbers = [], [], []
 
     @property
     def crate(self):
@@ -128,5 +128,6 @@ class Module:
             if current:
                 current.text.append(line)
                 current.counted.append(line)
+                current.numbers.append(number)
                 if current.kind == "data" and (variants := VARIANTS.match(line)):
                     self.variants |= {it: current for it in variants[1].split()}
