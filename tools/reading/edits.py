@@ -1,13 +1,10 @@
-"""Must-fail edits: what they change, which functions of src/ these changes are in, and what those may call."""
+"""Must-fail edits: what they change, and which functions of src/ these changes are in."""
 import os
 import re
 import shutil
 
 FUNCTION = re.compile(r'( *)((?:[\w()"]+ )*)fn (\w+)')
 NAMED = re.compile(r"\b(?:fn (\w+)|macro_rules! (\w+)|(?:const|static) (\w+):)")
-
-# What calls a method of a trait beside its name.
-OPERATORS = {"from": r"\?|\binto\b", "fmt": r"!\(", "eq": "[=!]=", "next": r"\bfor\b", "cmp": "[<>]", "partial_cmp": "[<>]"}
 
 
 class Unfit(Exception):
@@ -29,7 +26,6 @@ class Function:
                 self.ends = lines.index(f"{indent}}}", n)
             if outer and (self.ends > n or n > first and not re.match(r" *(\)|where\b)", lines[n])):
                 break
-        self.body = "\n".join(lines[self.opens + 1 : self.ends])
         self.key = path, first
 
     @property
@@ -46,14 +42,6 @@ class Function:
             return "Slice"
         last = re.findall(r"\w+", named)[-1] if named else ""
         return last[:1].upper() + last[1:]
-
-    def may_call(self, other):
-        """Returns whether its body has what may be a call of another function, by that one's name, or by its operator."""
-        if not other.owner:
-            return re.search(rf"(?<![\w.]){other.name}(?:\(|::<)|[(,] *(?:\w+::)*{other.name}[,)]", self.body) is not None
-        owner = r"\w+" if other.is_of_trait else rf"(?:{other.owner}{'|Self' * (self.owner == other.owner)})"
-        ways = rf"(?<!\.)\.{other.name}\(|\b{owner}(?:::<[^;]*>)?::{other.name}\b|{OPERATORS.get(other.name, '(?!)')}"
-        return re.search(ways, self.body) is not None
 
     def is_named(self, name, crate):
         """Returns whether a name of the prover is this function's, or that of a closure in it. The name of a method has the path of its type."""
@@ -94,6 +82,8 @@ class Edit:
                 old = None
         if not was:
             raise Unfit("it has no pair of `old:` and `new:`")
+        if self.texts == was:
+            raise Unfit("it changes nothing")
         return was
 
     def replace(self, path, old, new, was):
@@ -107,44 +97,20 @@ class Edit:
             raise Unfit(f"an `old:` is in {path} {self.texts[path].count(old)} times, and not once")
         self.texts[path] = self.texts[path].replace(old, new)
 
+    def shares(self, other):
+        """Returns whether another edit changes a function that this one changes."""
+        return any(one.key == two.key for one in self.functions for two in other.functions)
+
     def changed_in(self, path, was):
         """Returns the functions of a file whose bodies have all that the edit changes there, or none."""
         if not path.endswith(".rt"):
             return []
-        changed = [n for n, (a, b) in enumerate(zip(was.split("\n"), self.texts[path].split("\n"))) if a != b]
+        # (what is put after the brace that opens a body is in it)
+        pairs = list(zip(was.split("\n"), self.texts[path].split("\n")))
+        changed = [(n, new.startswith(old)) for n, (old, new) in enumerate(pairs) if old != new]
         functions = functions_of(path, was)
-        found = [[it for it in functions if it.opens < n < it.ends] for n in changed]
+        found = [[it for it in functions if it.opens < n < it.ends or it.opens == n < it.ends and goes_on] for n, goes_on in changed]
         return list({it.key: it for one in found for it in one}.values()) if all(found) else []
-
-
-class Calls:
-    """Which functions may call which, by the names in their bodies: more than do, and none less."""
-
-    def __init__(self, functions):
-        self.functions = functions
-        self.direct = {it.key: self.called_by(it) for it in functions}
-        self.reached = {}
-
-    def called_by(self, function):
-        return [it.key for it in self.functions if function.may_call(it)]
-
-    def below(self, edit):
-        """Returns the functions that those which an edit changes may call, before it or after, and those that these may call."""
-        if edit.name not in self.reached:
-            after = [it for path, text in edit.texts.items() for it in functions_of(path, text)]
-            keys = {it.key for it in edit.functions}
-            found, new = set(), [key for it in [*edit.functions, *after] if it.key in keys for key in self.called_by(it)]
-            while new:
-                key = new.pop()
-                new += [] if key in found else self.direct[key]
-                found.add(key)
-            self.reached[edit.name] = found
-        return self.reached[edit.name]
-
-    def are_apart(self, edit, other):
-        """Returns whether two edits change different functions, none of which may call another."""
-        one, two = ({it.key for it in some.functions} for some in (edit, other))
-        return not (one & two or one & self.below(other) or two & self.below(edit))
 
 
 def functions_of(path, text):

@@ -1,6 +1,6 @@
 """What isn't as it is elsewhere in the repository: lines that are too wide, names that two crates define, and words that aren't used here.
 
-The file tools/allowed names what stays all the same. An exception that nothing needs is a fault too."""
+The file tools/allowed.ini names what stays all the same. An exception that nothing needs is a fault too."""
 import collections
 import configparser
 import re
@@ -27,7 +27,7 @@ SPECS = re.compile(r"crates/(\w+)/specs/(?!inside/|laws/).*\.antt$")
 
 
 class Allowed:
-    """The exceptions of tools/allowed, and which of them were needed."""
+    """The exceptions of tools/allowed.ini, and which of them were needed."""
 
     def __init__(self, path):
         self.file = configparser.ConfigParser(delimiters=("=",), comment_prefixes=("#",), interpolation=None)
@@ -44,11 +44,11 @@ class Allowed:
     def note(self, section, name):
         """Returns what to add to a fault that has an exception for something else."""
         said = self.file.get(section, name, fallback=None)
-        return f" (tools/allowed says {said})" if said else ""
+        return f" (tools/allowed.ini says {said})" if said else ""
 
     def unneeded(self):
         rows = [(section, name) for section in self.file.sections() for name in self.file[section]]
-        return [f"tools/allowed: nothing needs the row {name} under [{section}]" for section, name in rows if (section, name) not in self.needed]
+        return [f"tools/allowed.ini: nothing needs the row {name} under [{section}]" for section, name in rows if (section, name) not in self.needed]
 
 
 def numbered(text):

@@ -1,4 +1,4 @@
-"""The pages of tools/pages: a sentence, the clauses that say it, what is said elsewhere, and how long the page may be."""
+"""The pages of tools/pages.ini: a sentence, the clauses that say it, what is said elsewhere, and how long the page may be."""
 import configparser
 import glob
 import re
@@ -19,7 +19,7 @@ def words_of(text):
 
 
 class Page:
-    """A row of tools/pages."""
+    """A row of tools/pages.ini."""
 
     def __init__(self, title, row):
         self.title, self.sentence = title, row.get("sentence")
@@ -152,6 +152,7 @@ class Pages:
         counts = {
             r"each of (\S+) mistakes in the code": len(edits),
             r"in the code of (\S+) crates": len({it.partition("/")[0] for it in edits}),
+            r"`tools/edits` tries (\S+) others": len(self.edits_in("more-must-fail")),
         }
         if self.repository.kit:
             kit_lines = lambda name: sum(it.size for it in self.closure_of(self.page_of(name)).kit_definitions)
@@ -164,14 +165,14 @@ class Pages:
     def faults_of_edits(self):
         """Yields edits of the gate for which no clause is named, and rows that name what isn't there."""
         edits = self.edits_in("must-fail")
-        yield from (f"tools/pages: [edits] has no row for {it}" for it in sorted(edits - self.edits.keys()))
+        yield from (f"tools/pages.ini: [edits] has no row for {it}" for it in sorted(edits - self.edits.keys()))
         for it in sorted(self.edits.keys() - edits):
-            yield f"tools/pages: [edits] names {it}, and the gate tries no such edit"
+            yield f"tools/pages.ini: [edits] names {it}, and the gate tries no such edit"
         for edit, clause in self.edits.items():
             try:
                 clause.startswith(REQUIRES) or target_named(self.repository, clause)
             except Unknown as fault:
-                yield f"tools/pages: [edits] {edit}: {fault}"
+                yield f"tools/pages.ini: [edits] {edit}: {fault}"
 
     def faults_of(self, page):
         closure = self.closure_of(page)
@@ -198,4 +199,4 @@ class Pages:
                 yield f"the clause {clause} reaches specs/inside/: {names}"
         for clause in self.known:
             if clause not in inside:
-                yield f"tools/pages: the clause {clause} is listed under [inside], and reaches nothing there"
+                yield f"tools/pages.ini: the clause {clause} is listed under [inside], and reaches nothing there"

@@ -1,6 +1,5 @@
 """What `tools/definitions` prints: a page, and tables."""
 import collections
-import os
 
 from .antt import Definition
 from .closures import Closure

@@ -117,7 +117,7 @@ class File:
     def imported(self):
         """Returns the crate that each imported type is of."""
         found = {}
-        for use in re.finditer(rf"(?m)^(?:pub )?use (\w+)::(?:[\w:]*::)?(?:\{{([^}}]*)\}}|(\w+));", "\n".join(self.lines)):
+        for use in re.finditer(r"(?m)^(?:pub )?use (\w+)::(?:[\w:]*::)?(?:\{([^}]*)\}|(\w+));", "\n".join(self.lines)):
             crate = self.crate if use[1] in ("crate", "self", "super") else use[1]
             for item in (use[2] or use[3]).split(","):
                 found[item.split("::")[-1].split(" as ")[-1].strip()] = crate

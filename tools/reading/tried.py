@@ -127,11 +127,11 @@ class Tried:
             os.close(folder)
 
 
-def void_counts(top, kit, crates):
-    """Yields each crate that has edits which weren't refused over its files as they are, with how many, and how many it has."""
+def void_edits(top, kit, crates):
+    """Yields each crate that has edits which weren't refused over its files as they are, with these, and how many it has in all."""
     states, tried = States(top, kit), Tried(top)
     for crate in crates:
         sums = states.of_edits(crate)
         void = [it for it, sum_ in sums.items() if not tried.is_refused(crate, it, sum_)]
         if void:
-            yield crate, len(void), len(sums)
+            yield crate, void, len(sums)
