@@ -1,28 +1,5 @@
 # shellcheck shell=bash disable=SC2016,SC2154
 # Functions for tests in a root of a Debian, for install/test_packages and tools/peers. `made` is the test's own folder.
-passed=0
-failed=0
-skipped=0
-
-skip() {
-    echo "$1: not run: $2"
-    skipped=$((skipped + 1))
-}
-
-part() {
-    local name=$1
-    shift
-    (set -e; "$@") >"$made/said" 2>&1 # (`if` would take no heed of -e)
-    # shellcheck disable=SC2181
-    if [ $? = 0 ]; then
-        echo "$name: passed"
-        passed=$((passed + 1))
-    else
-        sed 's/^/    /' "$made/said"
-        echo "$name: failed"
-        failed=$((failed + 1))
-    fi
-}
 
 # Says why no root can be made or used here.
 may_make_roots() {
