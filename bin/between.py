@@ -173,22 +173,23 @@ class Listener:
         self.framer = Framer()
 
     def records(self, piece):
-        """Yields each message that the piece ends, with its number in the log. No fault stops the session."""
+        """Yields each message that the piece ends, with its number in the log. No fault ends the session, or loses a message."""
+        record = None
         try:
             self.framer.feed(piece)
-            while True:
-                record = self.framer.next()
-                if record is None:
-                    return
+            while record := self.framer.next():
                 yield self.log.add(self.mark, record) if self.log else 0, record
+                record = None
         except Exception as fault:  # (whatever it is, the session has to go on)
             self.framer = None
             complain("from the %s: %s; this direction is %s no further" % (self.name, str(fault) or repr(fault),
                                                                          "recorded" if self.log else "read"))
+            if record:
+                yield 0, record
 
     def hear(self, piece):
         """Takes what came, and yields what passes on for it."""
-        if self.framer is not None:
+        if self.log and self.framer is not None:
             for _ in self.records(piece):
                 pass
         yield piece
@@ -267,8 +268,8 @@ def thread(*arguments):
     return passing
 
 
-def pass_between(server, editor_listener, server_listener):
-    """Passes both directions on until the server ends. Returns the exit status."""
+def pass_between(server, *listeners):
+    """Passes both directions on until the server ends, with the editor's listener and the server's. Returns the exit status."""
     def forward(number, _):
         try:
             os.kill(server.pid, number)
@@ -279,15 +280,19 @@ def pass_between(server, editor_listener, server_listener):
         signal.signal(number, forward)
     ended, has_ended = os.pipe()
     never, _ = os.pipe()
-    thread(0, os.dup(server.stdin.fileno()), editor_listener, never)
+    thread(0, os.dup(server.stdin.fileno()), listeners[0], never)
     server.stdin.close()
-    replies = thread(os.dup(server.stdout.fileno()), 1, server_listener, ended)
+    replies = thread(os.dup(server.stdout.fileno()), 1, listeners[1], ended)
     server.stdout.close()
     status = server.wait()
     for number in FORWARDED:
         signal.signal(number, signal.SIG_IGN)
     os.close(has_ended)
     replies.join()
+    if listeners[0].log:
+        listeners[0].log.close()
+    for listener in listeners:
+        listener.end()
     return status if status >= 0 else KILLED - status
 
 
