@@ -1,4 +1,4 @@
-# The one door to all that can be made, installed, tested and tried here: `make` alone lists it. A release, where there is no `launch`, has
+# The one door to all that can be made, installed, tested and tried here: `make` alone lists it. A release, where there is no `crates.txt`, has
 # only what its users need.
 VERSION := $(shell cat VERSION)
 SONAME = liblaspidru.so.$(firstword $(subst ., ,$(VERSION)))
@@ -12,17 +12,20 @@ DATADIR = $(PREFIX)/share
 DOCDIR = $(DATADIR)/doc/laspidru
 INSTALL = install
 
-# In the repository the programs lie where rt builds them, and a release has them at its top.
-ifneq ($(wildcard launch),)
+# In the repository the programs lie where rt builds them, and a release has them at its top. HELP has man pages and completions, which are
+# made of what the programs print as help.
+ifneq ($(wildcard crates.txt),)
 SYNC_PROGRAM = crates/lspsync/out/lspsync
 SIMULATE_PROGRAM = crates/lsp_simulate/out/lsp_simulate
 PAGE = $(BUILD)/wasm32/laspidru.html
 RELEASE = $(RELEASES)/laspidru-$(VERSION).tar.gz
+HELP = $(BUILD)/help
 else
 SYNC_PROGRAM = lspsync
 SIMULATE_PROGRAM = lsp_simulate
 PAGE = laspidru.html
 RELEASE = .
+HELP = help
 endif
 HEADER = crates/laspidru/include/laspidru.h
 # The programs over logs, with what they import, and the pages that say what a log, a code and a note are
@@ -94,7 +97,7 @@ To measure (bench/README.md)
 endef
 
 help:
-	@: $(info $(IN_A_RELEASE_TOO))$(if $(wildcard launch),$(info $(IN_THE_REPOSITORY)))
+	@: $(info $(IN_A_RELEASE_TOO))$(if $(wildcard crates.txt),$(info $(IN_THE_REPOSITORY)))
 
 library: $(STATIC) $(SHARED)
 
@@ -128,6 +131,7 @@ needed: prefix
 	@install/needed "$(SYNC_PROGRAM)" "$(SIMULATE_PROGRAM)" "$(ARCHIVE)" "$(STATIC)" "$(SHARED)"
 
 install: needed
+	@[ -e SHA256SUMS ] || install/made "$(HELP)" "$(SYNC_PROGRAM)" "$(SIMULATE_PROGRAM)"
 	$(INSTALL) -d "$(DESTDIR)$(BINDIR)" "$(DESTDIR)$(LIBDIR)/pkgconfig" "$(DESTDIR)$(INCLUDEDIR)" "$(DESTDIR)$(DATADIR)/man/man1" \
 	    "$(DESTDIR)$(DATADIR)/bash-completion/completions" "$(DESTDIR)$(DATADIR)/zsh/site-functions" \
 	    "$(DESTDIR)$(DATADIR)/fish/vendor_completions.d" "$(DESTDIR)$(DATADIR)/laspidru" "$(DESTDIR)$(DOCDIR)/examples"
@@ -141,10 +145,7 @@ install: needed
 	sed -e 's|@LIBDIR@|$(LIBDIR)|; s|@INCLUDEDIR@|$(INCLUDEDIR)|; s|=$(PREFIX)/|=$${prefix}/|' \
 	    -e 's|@PREFIX@|$(PREFIX)|; s|@VERSION@|$(VERSION)|' install/laspidru.pc.in \
 	    >"$(DESTDIR)$(LIBDIR)/pkgconfig/laspidru.pc"
-	for name in $(MAN_PAGES); do \
-	    sed -e 's|@VERSION@|$(VERSION)|' "install/$$name.1" >"$(DESTDIR)$(DATADIR)/man/man1/$$name.1" || exit 1; \
-	    chmod 644 "$(DESTDIR)$(DATADIR)/man/man1/$$name.1"; \
-	done
+	$(INSTALL) -m 644 $(MAN_PAGES:%="$(HELP)/%.1") "$(DESTDIR)$(DATADIR)/man/man1"
 	chmod 644 "$(DESTDIR)$(LIBDIR)/pkgconfig/laspidru.pc"
 	$(INSTALL) -m 755 $(TOOLS:%=bin/%) "$(DESTDIR)$(DATADIR)/laspidru"
 	$(INSTALL) -m 644 $(TOOL_FILES) "$(DESTDIR)$(DATADIR)/laspidru"
@@ -155,9 +156,9 @@ install: needed
 	done
 	$(INSTALL) -m 644 $(LICENCES) $(wildcard $(PAGE)) "$(DESTDIR)$(DOCDIR)"
 	$(INSTALL) -m 644 $(EXAMPLES) "$(DESTDIR)$(DOCDIR)/examples"
-	$(INSTALL) -m 644 install/lspsync.bash "$(DESTDIR)$(DATADIR)/bash-completion/completions/lspsync"
-	$(INSTALL) -m 644 install/_lspsync "$(DESTDIR)$(DATADIR)/zsh/site-functions/_lspsync"
-	$(INSTALL) -m 644 install/lspsync.fish "$(DESTDIR)$(DATADIR)/fish/vendor_completions.d/lspsync.fish"
+	$(INSTALL) -m 644 "$(HELP)/lspsync.bash" "$(DESTDIR)$(DATADIR)/bash-completion/completions/lspsync"
+	$(INSTALL) -m 644 "$(HELP)/_lspsync" "$(DESTDIR)$(DATADIR)/zsh/site-functions/_lspsync"
+	$(INSTALL) -m 644 "$(HELP)/lspsync.fish" "$(DESTDIR)$(DATADIR)/fish/vendor_completions.d/lspsync.fish"
 	@[ -n "$(DESTDIR)" ] || install/loader "$(LIBDIR)" "$(SONAME)"
 
 uninstall: prefix
@@ -179,7 +180,7 @@ check-packages:
 
 .PHONY: help library prefix needed install uninstall packages check-packages
 
-ifneq ($(wildcard launch),)
+ifneq ($(wildcard crates.txt),)
 CRATE =
 OF =
 PART =

@@ -584,6 +584,21 @@ class Pylsp(Form):
         yield "the server's messages are left out: pylsp writes only some of them"
 
 
+class LineFeeds(Form):
+    name = "a log of a session whose CRLFs became LFs, in git or in an editor"
+    remedy = "it has no message with a header"
+    begins = re.compile(r"\A(?:lsp-session-log 2\n[<>])?(?i:content-(?:length|type)):[^\r\n]*\n")
+    HEAD = re.compile(r"([<>]?)(?:content-type:[^\n]*\n)?content-length: *\d+\n(?:content-type:[^\n]*\n)?\n\s*(?=\{)",
+                      re.ASCII | re.IGNORECASE)
+
+    def messages(self, text):
+        lines, at = Lines(text), 0
+        while found := self.HEAD.search(text, at):
+            message = message_at(text, found.end(), lines.number(found.start()), SERVER if found[1] == "<" else EDITOR)
+            at = found.end() + len(message.body)
+            yield message
+
+
 def members_of(body):
     """Returns the text of each of an object's members, as it is there, by its name."""
     members, at = {}, skip_blanks(body, body.index("{") + 1)
@@ -601,7 +616,7 @@ def skip_blanks(text, at):
 
 
 BLANKS = re.compile(r"[ \t\r\n]*")
-FORMS = (Neovim, Eglot, Trace, TraceJson, Clangd, Vim, Devtools, Helix, Pylsp)
+FORMS = (Neovim, Eglot, Trace, TraceJson, Clangd, Vim, Devtools, Helix, Pylsp, LineFeeds)
 
 # What editors write where no form is: what it is, and what makes it a log
 WITHOUT_MESSAGES = (
@@ -612,7 +627,8 @@ WITHOUT_MESSAGES = (
 
 # What is no log of an editor, and what it is
 OTHERS = (
-    (re.compile(r"lsp-session-log 2\n|(?i:content-length|content-type):"), "this is a log of a session already, which lspsync reads"),
+    (re.compile(r"(?!%s)(?:lsp-session-log 2\n|(?i:content-length|content-type):)" % LineFeeds.begins.pattern),
+     "this is a log of a session already, which lspsync reads"),
     (re.compile(r"\x1f\udc8b"), "this is packed by gzip: `gzip -d` unpacks it"),
     (re.compile(r'\{"(?:number|body|from)":'), "these are lines of messages, which log-from-lines reads"),
     (re.compile(r"\s*\Z"), "this is empty"),

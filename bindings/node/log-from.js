@@ -573,7 +573,20 @@ class Pylsp extends Form {
   }
 }
 
-const FORMS = [Neovim, Eglot, Trace, TraceJson, Clangd, Vim, Devtools, Helix, Pylsp];
+class LineFeeds extends Form {
+  static title = 'a log of a session whose CRLFs became LFs, in git or in an editor';
+  static remedy = 'it has no message with a header';
+  static begins = /^(?:lsp-session-log 2\n[<>])?content-(?:length|type):[^\r\n]*\n/gi;
+  static head = new RegExp(`([<>]?)(?:content-type:[^\\n]*\\n)?content-length: *\\d+\\n(?:content-type:[^\\n]*\\n)?\\n[${BLANK}]*(?=\\{)`, 'gi');
+
+  * read([, mark], line, at, text) {
+    const { body } = jsonAt(text, at, line);
+    yield messageAt(text, at, line, mark === SERVER ? SERVER : EDITOR);
+    return at + body.length;
+  }
+}
+
+const FORMS = [Neovim, Eglot, Trace, TraceJson, Clangd, Vim, Devtools, Helix, Pylsp, LineFeeds];
 
 // What editors write where no form is: what it is, and what makes it a log
 const WITHOUT_MESSAGES = [
@@ -584,7 +597,7 @@ const WITHOUT_MESSAGES = [
 
 // What is no log of an editor, and what it is
 const OTHERS = [
-  [/^(?:lsp-session-log 2\n|content-length:|content-type:)/i, 'this is a log of a session already, which lspsync reads'],
+  [/^(?!(?:lsp-session-log 2\n[<>])?content-(?:length|type):[^\r\n]*\n)(?:lsp-session-log 2\n|content-(?:length|type):)/i, 'this is a log of a session already, which lspsync reads'],
   [/^\x1f\x8b/, 'this is packed by gzip: `gzip -d` unpacks it'],
   [/^\{"(?:number|body|from)":/, 'these are lines of messages, which log-from-lines reads'],
   [/^[ \t\n\r\f\v]*$/, 'this is empty'],

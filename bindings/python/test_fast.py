@@ -3,7 +3,6 @@ import types
 import unittest
 from unittest import mock
 
-import laspidru
 from laspidru import Document, LaspidruError, _library
 
 AT = {"line": 1, "character": 2}

@@ -17,4 +17,5 @@ from .ends import Client, Event, Framer, Server
 from .logs import LogOutput, check, compare, convert, normalise, replay, trace
 
 __all__ = ["ENCODINGS", "WHY", "Client", "Document", "EditsFault", "Event", "FrameFault", "Framer", "LaspidruError", "LogFault",
-           "LogOutput", "Server", "TextDocument", "check", "compare", "convert", "normalise", "replay", "trace"]
+           "LogOutput", "Server", "TextDocument", "__version__", "check", "compare", "convert", "normalise",
+           "replay", "trace"]
