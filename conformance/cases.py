@@ -4,7 +4,7 @@
 The named cases are below, each with a sentence on what it tests, the section of LSP 3.17 that it is about, and whether the standard
 "says" what it means or leaves it "open". The random ones are the same on each run.
 
-After a change of these, `python3 conformance/cases.py edits | ./launch lsp_vectors > edits.jsonl` makes a file of vectors anew, and so for
+After a change of these, `python3 conformance/cases.py edits | bin/launch lsp_vectors > edits.jsonl` makes a file of vectors anew, and so for
 the others. They are in crates/lsp_vectors/data/."""
 import json
 import sys

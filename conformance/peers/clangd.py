@@ -21,7 +21,8 @@ class Clangd(Wire):
             style.write("DisableFormat: true\n")
         words = ["--background-index=0", "--clang-tidy=0", "--log=info", "-j=4"]
         super().__init__([*COMMAND, *words], open(self.path, "wb"), cwd=room)
-        self.request("initialize", {"processId": None, "rootUri": None, "capabilities": {"offsetEncoding": [encoding], "workspace": {"applyEdit": True}}})
+        capabilities = {"offsetEncoding": [encoding], "workspace": {"applyEdit": True}}
+        self.request("initialize", {"processId": None, "rootUri": None, "capabilities": capabilities})
 
     def logged(self):
         """What it logged since the last call."""

@@ -1,14 +1,19 @@
-"""gopls over the wire, in UTF-16. Its debug server has a page for each open file, with its text and the SHA-256 of that."""
+"""gopls over the wire, in UTF-16. Its debug server has a page for each open file, with its text and the SHA-256 of that.
+
+Without the command `go` it has no files, and so no pages."""
 import hashlib
 import html
 import os
 import re
+import shutil
 import socket
 import subprocess
 import urllib.request
 
 from peers.wire import Wire, answers_of, output_of
 
+if shutil.which("go") is None:
+    raise ImportError("gopls needs the command go (on Debian: golang-go)")
 COMMAND = ["gopls", "serve"]
 VERSION = output_of("dpkg-query", "-W", "-f", "${Version}", "gopls")
 # (Debian's first packages have the version of the tools that gopls came with)
@@ -44,18 +49,25 @@ def shown(page):
     return None
 
 
+def pages(server, vector):
+    """Yields the pages of open files, which are named by the sums of their texts. The right text's is the first: the list
+    of them gets longer each time that it is asked, and slower."""
+    if "text" in vector["expect"]:
+        yield server.page("/file/1/" + hashlib.sha256(vector["expect"]["text"].encode()).hexdigest())
+    yield from map(server.page, re.findall(r'href="?(/file/[^" >]*)', server.page("/session/1")))
+
+
 def answer(server, path, vector):
     document = {"uri": f"file://{path}.go"}
     server.notify("textDocument/didOpen", {"textDocument": {**document, "languageId": "go", "version": 1, "text": vector["text"]}})
     server.notify("textDocument/didChange", {"textDocument": {**document, "version": 2}, "contentChanges": vector["changes"]})
     server.request("textDocument/foldingRange", {"textDocument": document})
-    pages = [server.page(page) for page in re.findall(r'href="?(/file/[^" >]*)', server.page("/session/1"))]
+    page = next((it for it in pages(server, vector) if f"{path}.go<" in it), None)
     server.notify("textDocument/didClose", {"textDocument": document})
-    for page in pages:
-        if f"{path}.go<" in page:
-            version = re.search(r"Version: <b>(.*?)</b>", page).group(1)
-            return {"text": shown(page)} if version.startswith("2") else {"refused": "version " + version}
-    return {"text": None}
+    if page is None:
+        return {"text": None}
+    version = re.search(r"Version: <b>(.*?)</b>", page).group(1)
+    return {"text": shown(page)} if version.startswith("2") else {"refused": "version " + version}
 
 
 def answers(vectors):
