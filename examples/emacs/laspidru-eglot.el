@@ -229,9 +229,14 @@ METHOD and PARAMS are those of eglot's message."
   "Have eglot call for what changed, once the user is idle."
   (eglot--track-changes-signal nil))
 
+(defun laspidru-eglot--has-client (server)
+  "Return whether SERVER gets the messages of laspidru's client."
+  (and (cl-typep server 'laspidru-eglot-server) (laspidru-eglot--client server)))
+
 (defun laspidru-eglot--take-over ()
-  "Take the place of eglot's tracker in a buffer of a laspidru server."
-  (when (and (bound-and-true-p eglot--track-changes) (cl-typep (eglot-current-server) 'laspidru-eglot-server))
+  "Take the place of eglot's tracker in a buffer of a laspidru server.
+For eglot's own messages its tracker stays: it also counts their versions."
+  (when (and (bound-and-true-p eglot--track-changes) (laspidru-eglot--has-client (eglot-current-server)))
     (track-changes-unregister eglot--track-changes)
     (setq eglot--track-changes nil)
     (add-hook 'after-change-functions #'laspidru-eglot--changed nil t)))
@@ -244,10 +249,9 @@ Without one say that all may have changed: laspidru's client knows better."
 
 (defun laspidru-eglot--renamed ()
   "Have the server of the current buffer open it by its new name."
-  (when (boundp 'eglot--TextDocumentIdentifier-cache)
-    (setq eglot--TextDocumentIdentifier-cache nil))
   (let ((server (and buffer-file-name (eglot-current-server))))
-    (when (and (cl-typep server 'laspidru-eglot-server) (laspidru-eglot--client server))
+    (when (laspidru-eglot--has-client server)
+      (setq eglot--TextDocumentIdentifier-cache nil)
       (laspidru-eglot--update-all server (plist-get (eglot--TextDocumentIdentifier) :uri)))))
 
 (when (fboundp 'eglot--track-changes-signal)

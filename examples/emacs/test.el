@@ -155,9 +155,10 @@
   (let* ((laspidru-eglot-max-body 1) (server (test-start)))
     (test-heard "keeps eglot's own messages: a limit is out of its range")
     (test-has server "one\n")
-    (insert "x")
-    (eglot--signal-textDocument/didChange)
-    (test-has server "xone\n")))
+    (dolist (wanted '("xone\n" "xxone\n"))
+      (insert "x")
+      (eglot--signal-textDocument/didChange)
+      (test-has server wanted))))
 
 (test-case no-text
   "A buffer with a byte that is no text isn't sent."

@@ -30,7 +30,7 @@
 (defun edits-in-server ()
   "Return the server's text."
   (eglot--signal-textDocument/didChange)
-  (let* ((answer (jsonrpc-request (eglot-current-server) :textDocument/hover (eglot--TextDocumentPositionParams)))
+  (let* ((answer (jsonrpc-request (eglot-current-server) :textDocument/hover (eglot--TextDocumentPositionParams) :timeout 60))
          (contents (plist-get answer :contents)))
     (if (vectorp contents) (aref contents 0) contents)))
 
@@ -44,4 +44,4 @@
     (when (equal (edits-in-server) (buffer-string)) (setq right (1+ right))))
   (princ (format "%d of %d\n" right count))
   (set-buffer-modified-p nil)
-  (eglot-shutdown (eglot-current-server)))
+  (eglot-shutdown (eglot-current-server) nil 60))

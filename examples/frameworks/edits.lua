@@ -41,13 +41,13 @@ local function started()
 end
 
 -- Neovim loses the last line end once all lines were deleted (docs/CLIENTS.md). Such a document is opened again, and no
--- undo leads back.
+-- undo leads back. It is changed while no client is there, since what hears changes goes only then: else there are two.
 local function open_again(client, lines)
     local levels = vim.o.undolevels
+    vim.lsp.buf_detach_client(0, client.id)
     vim.o.undolevels = -1
     api.nvim_buf_set_lines(0, 0, -1, true, lines)
     vim.o.undolevels = levels
-    vim.lsp.buf_detach_client(0, client.id)
     vim.lsp.buf_attach_client(0, client.id)
 end
 
@@ -74,7 +74,7 @@ local function main()
     end
     io.stdout:write(("%d of %d\n"):format(right, tonumber(vim.env.EDITS)))
     client.stop()
-    vim.wait(5000, function() return client.is_stopped() end, 5)
+    vim.wait(20000, function() return client.is_stopped() end, 5)
 end
 
 vim.schedule(function()
