@@ -221,6 +221,6 @@ CONSTRUCTORS = set("None Some Ok Err true false [] zero suc pos negsuc tt null b
 
 
 def library_table():
-    """The table of the library, as docs/DEFINITIONS.md has it."""
+    """The table of the library."""
     rows = "".join(f"| {subject} | {', '.join(f'`{name}`' for name in group)} |\n" for subject, group in LIBRARY.items())
     return f"| Of | Written anew |\n|---|---|\n{rows}"

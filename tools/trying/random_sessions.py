@@ -215,8 +215,10 @@ def chosen_sessions():
         return {"method": "textDocument/didOpen", "params": {"textDocument": {**document, "text": text}}}
     # (a text with a byte order mark and two forms of line ends, of which each message made one)
     last = {"range": {"start": {"line": 1, "character": 0}, "end": {"line": 2, "character": 0}}, "text": "c\n"}
+    stale = {"method": CHANGE, "params": {"textDocument": {"uri": "file:///a", "version": 1}, "contentChanges": [{"text": "b"}]}}
     begin = {"id": 1, "method": "initialize", "params": {"capabilities": {}}}
     for name, messages in (
+        ("refusals", [opened("a"), *7 * [stale]]),
         ("rare", [{"id": 5, "method": 3}, {"method": "textDocument/didClose"}, opened(""), {"method": CHANGE, "params": change}]),
         ("ends", [opened("\ufeffa\rb\n"), {"method": CHANGE, "params": {**change, "contentChanges": [last]}}]),
     ):
