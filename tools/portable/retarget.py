@@ -163,7 +163,7 @@ NARROWED = [(re.compile(form), way) for form, way in (
     (rf"(\s+)({NAME}) = extractvalue (\{{ {TYPE}, {TYPE} \}}) ({NAME}), (\d)", extract),
     (rf"(\s+)({NAME}) = alloca ptr, align 8", lambda space, to: [f"{space}{to} = alloca i64, align 8"]),
     (rf"(\s+)({NAME}) = ptrtoaddr ptr ({NAME}) to i64", lambda space, to, of: [f"{space}{to} = ptrtoint ptr {of} to i64"]),
-    (rf"(\s+)((?:tail )?call void @llvm\.(?:memset\.p0|memmove\.p0\.p0|memcpy\.p0\.p0))\.i64\((.*), i64 (\S+), i1 false\)((?: #\d+)?)", copy),
+    (r"(\s+)((?:tail )?call void @llvm\.(?:memset\.p0|memmove\.p0\.p0|memcpy\.p0\.p0))\.i64\((.*), i64 (\S+), i1 false\)((?: #\d+)?)", copy),
 )]
 ARGUMENTS = r"\((?:[^(){}]|sret\(\[2 x i64\]\))*\)"
 UNCHANGED = re.compile("|".join((
