@@ -1,10 +1,12 @@
 -- The facts of a record, what is known after it, and the output of `trace` and `check --explain` from the record on.
-use Rattle.log_report.proofs.Prelude.{arith, common_steps, ◌≡◌, ◌≢◌, ℕ, Bool, List, ◌∷◌, option_map, string_bytes, refl, sym, ap, ap₂, ◌∙◌, reading, change_view, ChangeData, IncomingData, incoming_of, ServerData, Head, Sender, Client, Server, Version, Record, Facts, Taken, written_first, change_in, writes, rare_notes, Known, LineView, is_renamed, is_strict_refusal, known_after, last_in, lines, uri_of, is_mention, notes_if, notes_of, ranged_after, Session, bad, encoding_for, judge, judge_from, BodyData, body_read, AreFacts, IsAbout, IsLearned, known_by, saved_in, judge_at, IsTaken, ranged_read, ranged_with, verdict_view, output_in, notification_params, None, Option, Some, [], lengths_of, learned, notes_on, is_some, on_client}
+use Rattle.log_report.proofs.Prelude.{arith, common_steps, ◌≡◌, ◌≢◌, ℕ, Bool, List, ◌∷◌, option_map, string_bytes, refl, sym, ap, ap₂, ◌∙◌, reading, change_view, ChangeData, IncomingData, incoming_of, ServerData, Head, Sender, Client, Server, Version, Record, Facts, Taken, written_first, change_in, writes, rare_notes, Known, LineView, hint_after, hint_in, is_strict_in, known_after, last_in, lines, uri_of, is_mention, notes_if, notes_of, ranged_after, Session, bad, encoding_for, judge, judge_from, BodyData, body_read, AreFacts, IsAbout, IsLearned, known_by, noted_in, noted_of, noted_uri, saved_in, judge_at, IsTaken, ranged_read, ranged_with, uri_text, verdict_view, output_in, notification_params, None, Option, Some, [], lengths_of, learned, notes_on, is_some, on_client}
+use Rattle.log_report.specs.Lacks.{lack_in}
+use Rattle.log_report.specs.Growths.{Growth, grown_in, version_rejected}
 use Rattle.log_report.specs.declared.facts.About.{About}
 use Rattle.log_session.proofs.Records.ChangeLemmas.{heard_as}
 use Rattle.log_session.proofs.Records.OutputLemmas.{output_after, unless_not}
 use Rattle.log_session.proofs.Records.OpeningLemmas.{on_side}
-use Rattle.log_report.proofs.Reports.ReasonLemmas.{mention_at, strict_at}
+use Rattle.log_report.proofs.Reports.ReasonLemmas.{hint_at, mention_at, rejected_at, strict_at}
 
 -- ---- what was read of a record's body, and the body itself
 
@@ -17,13 +19,13 @@ module _ (s : Session) (body : List ℕ) where
   ranged_at ranged version Client = refl
   ranged_at ranged version Server = refl
 
-  notes_at : (ranged : Bool) (version : Version) (side : Sender)
-      → notes_if (on_client [] (notes_on s.server ranged (lengths_of (reading body)) (notification_params (reading
+  notes_at : (growths : List Growth) (ranged : Bool) (version : Version) (side : Sender)
+      → notes_if (on_client [] (notes_on s.server growths ranged (lengths_of (reading body)) (notification_params (reading
       body)))
       (body_read version side body))
-      (judge_from s version side body).verdict ≡ notes_of s ranged body (judge_from s version side body).verdict
-  notes_at ranged version Client = refl
-  notes_at ranged version Server =
+      (judge_from s version side body).verdict ≡ notes_of s growths ranged body (judge_from s version side body).verdict
+  notes_at growths ranged version Client = refl
+  notes_at growths ranged version Server =
       grind (arith, common_steps, (heard_as s (encoding_for s.expected (reading body))))
 
 -- ---- a record, by what was read of it, what it is about, and what became of it
@@ -34,28 +36,66 @@ some_map f (Some a) = refl
 
 module _ (known : Known) (s : Session) (head : Head) (body : List ℕ) (read : BodyData)
     (is_read : read ≡ body_read head.version head.side body)
-    (about : About) (is_about : IsAbout s.server known.ranged (reading body) read about) (t : Session) (taken : Taken)
+    (about : About) (is_about : IsAbout s.server known.growths known.ranged (reading body) read about) (t : Session) (taken : Taken)
     {Same : Type 0} {HasSeen : ServerData → ChangeData → Type 0} (is_taken : IsTaken Same HasSeen s t head body taken)
   where
     uri_is : option_map string_bytes about.uri ≡ uri_of head.side (incoming_of (reading body))
     uri_is = is_about.uri ∙ ap (on_client None (uri_of Client)) is_read
         ∙ on_side None uri_of (λ m. refl) head.version head.side body
 
+    saved_is : option_map string_bytes about.saved
+        ≡ saved_in head.side (incoming_of (reading body)) (notification_params (reading body))
+    saved_is = is_about.saved
+        ∙ ap (on_client None (λ m. saved_in Client m (notification_params (reading body)))) is_read
+        ∙ on_side None (λ side m. saved_in side m (notification_params (reading body))) (λ m. refl) head.version
+        head.side body
+
+    noted_is : uri_text (noted_of about) ≡ uri_text (noted_in head.side (incoming_of (reading body))
+        (notification_params (reading body)))
+    noted_is = ap₂ (λ (uri saved : Option (List ℕ)). uri_text (noted_uri uri saved)) uri_is saved_is
+
     mention_is : is_mention (is_some taken.change) (verdict_view taken.verdict)
         ≡ is_mention (is_some (change_in (incoming_of (reading body)))) (judge_at s head body).verdict
     mention_is = ap₂ is_mention (some_map change_view taken.change
         ∙ ap (λ (change : Option ChangeData). is_some change) is_taken.change) is_taken.judged ∙ mention_at s head body
 
-    notes_are : notes_if about.notes.items (verdict_view taken.verdict) ≡ notes_of s known.ranged body
+    notes_are : notes_if about.notes.items (verdict_view taken.verdict) ≡ notes_of s known.growths known.ranged body
         (judge_at s head body).verdict
     notes_are =
-        ap₂ notes_if (is_about.notes ∙ ap (on_client [] (notes_on s.server known.ranged
+        ap₂ notes_if (is_about.notes ∙ ap (on_client [] (notes_on s.server known.growths known.ranged
         (lengths_of (reading body)) (notification_params (reading body)))) is_read) is_taken.judged
-        ∙ notes_at s body known.ranged head.version head.side
+        ∙ notes_at s body known.growths known.ranged head.version head.side
 
-    strict_is : is_strict_refusal (option_map change_view taken.change) (verdict_view taken.verdict)
-        ≡ is_strict_refusal (change_in (incoming_of (reading body))) (judge_at s head body).verdict
-    strict_is = ap₂ is_strict_refusal is_taken.change is_taken.judged ∙ strict_at s head body
+    lack_is : about.lack ≡ lack_in head.side (incoming_of (reading body)) (notification_params (reading body))
+    lack_is = is_about.lack
+        ∙ ap (on_client None (λ m. lack_in Client m (notification_params (reading body)))) is_read
+        ∙ on_side None (λ side m. lack_in side m (notification_params (reading body))) (λ m. refl) head.version
+        head.side body
+
+    grown_is : about.grown ≡ grown_in s.server known.growths head.side (incoming_of (reading body))
+    grown_is = is_about.grown ∙ ap (on_client None (grown_in s.server known.growths Client)) is_read
+        ∙ on_side None (grown_in s.server known.growths) (λ m. refl) head.version head.side body
+
+    rejected_is : version_rejected (option_map change_view taken.change) (verdict_view taken.verdict)
+        ≡ version_rejected (change_in (incoming_of (reading body))) (judge_at s head body).verdict
+    rejected_is = ap₂ version_rejected is_taken.change is_taken.judged ∙ rejected_at s head body
+
+    abbrev its_uri : Option (List ℕ)
+    its_uri = uri_of head.side (incoming_of (reading body))
+
+    hint_is : hint_in known (option_map string_bytes about.uri) (option_map change_view taken.change)
+        (verdict_view taken.verdict)
+        ≡ hint_in known its_uri (change_in (incoming_of (reading body))) (judge_at s head body).verdict
+    hint_is = ap (λ (uri : Option (List ℕ)). hint_in known uri (option_map change_view taken.change)
+        (verdict_view taken.verdict)) uri_is
+        ∙ ap₂ (hint_in known its_uri) is_taken.change is_taken.judged ∙ hint_at known its_uri s head body
+
+    strict_is : is_strict_in known (option_map string_bytes about.uri) (option_map change_view taken.change)
+        (verdict_view taken.verdict)
+        ≡ is_strict_in known its_uri (change_in (incoming_of (reading body))) (judge_at s head body).verdict
+    strict_is = ap (λ (uri : Option (List ℕ)). is_strict_in known uri (option_map change_view taken.change)
+        (verdict_view taken.verdict)) uri_is
+        ∙ ap₂ (is_strict_in known its_uri) is_taken.change is_taken.judged ∙ strict_at known its_uri s head body
 
     ranged_is : ranged_with known.ranged taken.ranged ≡ ranged_after known.ranged s head.side body
     ranged_is = is_taken.heard known.ranged ∙ ranged_at s body known.ranged head.version head.side
@@ -72,20 +112,17 @@ module _ (known : Known) (s : Session) (head : Head) (body : List ℕ) (read : B
           verdict = (ap verdict_view learned.verdict ∙ is_taken.judged) i;
           uri = (ap (option_map string_bytes) learned.uri ∙ uri_is) i;
           change = (ap (option_map change_view) learned.change ∙ is_taken.change) i;
-          renamed = (learned.renamed ∙ ap₂ (is_renamed known) uri_is is_taken.judged) i;
+          hint = (learned.hint ∙ ap₂ hint_after lack_is hint_is) i;
           last = (learned.last ∙ ap₂ (last_in known) uri_is is_taken.judged) i;
           notes = (learned.notes ∙ notes_are) i;
         };
-        saved = ap (option_map string_bytes) learned.saved ∙ is_about.saved
-            ∙ ap (on_client None (λ m. saved_in Client m (notification_params (reading body)))) is_read
-            ∙ on_side None (λ side m. saved_in side m (notification_params (reading body))) (λ m. refl) head.version
-            head.side body;
-        rare = learned.rare ∙ ap (rare_notes known.counts) notes_are;
+        saved = ap (option_map string_bytes) learned.saved ∙ saved_is;
+        rare = learned.rare ∙ ap₂ (rare_notes known.counts) noted_is notes_are;
       }
 
       pub known_is : (next : Known) → next ≡ known_by known number about taken
           → next ≡ known_after known s head body (judge_at s head body)
-      known_is next is = is ∙ rw (mention_is, notes_are, uri_is, strict_is, is_taken.judged, ranged_is, counted) refl
+      known_is next is = is ∙ rw (mention_is, notes_are, strict_is, rejected_is, uri_is, saved_is, grown_is, is_taken.judged, ranged_is, counted) refl
 
 -- ---- a line, and the output after it
 

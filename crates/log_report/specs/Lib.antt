@@ -2,6 +2,8 @@ pub mod Check
 pub mod Compare
 pub mod Counts
 pub mod Explain
+pub mod Growths
+pub mod Lacks
 pub mod Lines
 pub mod Mentions
 pub mod Notes

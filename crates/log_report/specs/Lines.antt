@@ -1,16 +1,21 @@
 -- The commands that write a line for each record by what is known of the records before it: `trace`
 -- and `check --explain`.
 use Rattle.std.specs.Prelude.{◌&&◌, ◌||◌, if◌then◌else◌, ◌∷◌}
-use Rattle.log_report.specs.Prelude.{ℕ, Bool, true, false, not, List, [], Option, Some, None, is_none, is_some, reading, ErrorCode, ParseError, ChangeData, AlreadyOpen, NotOpen, StaleVersion, refused, reply, IncomingData, did_open, did_change, did_close, incoming_of, Store, Head, Sender, Record, Note}
+use Rattle.log_report.specs.Prelude.{ℕ, Bool, true, false, not, List, [], Option, Some, None, is_none, is_some, reading, ErrorCode, ParseError, ChangeData, AlreadyOpen, NotOpen, StaleVersion, refused, reply, IncomingData, did_open, did_change, did_close, other_notification, is_save, notification_params, Data, incoming_of, Store, Head, Sender, Record, Note}
 use Rattle.lsp_log.specs.declared.record.Sender.TheVariants.{Client}
 use Rattle.log_session.specs.View.{View, unless_bad, writes}
 use Rattle.log_session.specs.Canonical.{change_in}
-use Rattle.log_report.specs.Counts.{Counts, counts_after, nothing_counted}
+use Rattle.log_report.specs.Counts.{Counts, counts_after, hides, nothing_counted}
+use Rattle.log_report.specs.Growths.{Growth, gaps_of, grown_in, growths_after, is_left_out, version_rejected}
 use Rattle.log_report.specs.Mentions.{Mention, is_mention, last_for, last_record, mentioned}
-use Rattle.log_report.specs.Notes.{notes_of}
+use Rattle.log_report.specs.Notes.{notes_of, saved_uri}
 use Rattle.log_session.specs.Session.{ranged_after, Session, Judged, Verdict, answered, has_changed, session_outcome}
 use Rattle.log_report.specs.Reasons.{is_empty, is_idle}
 use Rattle.lsp_server.specs.declared.answer.Refusal.{Refusal}
+use Rattle.log_report.specs.declared.facts.Hint.{Hint}
+use Rattle.log_report.specs.declared.facts.Hint.TheVariants.{Lacks, Renamed, Swapped}
+use Rattle.log_report.specs.declared.lacks.Lack.{Lack}
+use Rattle.log_report.specs.Lacks.{lack_in}
 use Rattle.lsp_server.specs.declared.answer.Refusal.TheVariants.{InvalidParams as BadParams}
 
 -- The document that a record of one side is about: the URI in valid parameters of an editor's
@@ -21,6 +26,29 @@ uri_of Client (did_change (Some p)) = Some p.uri
 uri_of Client (did_close (Some p)) = Some p.uri
 uri_of side m = None
 
+-- The document whose text was saved, of an editor's message, or that of one whose params can't be
+-- read.
+abbrev pub saved_in : Sender → IncomingData → Option Data → Option (List ℕ)
+saved_in Client (did_open None) params = saved_uri params
+saved_in Client (did_change None) params = saved_uri params
+saved_in Client (did_close None) params = saved_uri params
+saved_in Client (other_notification method) params = if is_save method then saved_uri params else None
+saved_in side m params = None
+
+-- The document that notes are about: the record's, or that of the text that was saved.
+abbrev pub noted_uri : Option (List ℕ) → Option (List ℕ) → Option (List ℕ)
+noted_uri None saved = saved
+noted_uri (Some uri) saved = Some uri
+
+-- The same, by the side, what a body asks and its params.
+abbrev pub noted_in : Sender → IncomingData → Option Data → Option (List ℕ)
+noted_in side m params = noted_uri (uri_of side m) (saved_in side m params)
+
+-- Its URI, by which its notes are counted.
+abbrev pub uri_text : Option (List ℕ) → List ℕ
+uri_text None = []
+uri_text (Some uri) = uri
+
 -- ---- what is known of the records before one
 
 -- What is known of them.
@@ -29,11 +57,14 @@ pub record Known : Type 0 where
   pub mentions : List Mention
   -- the documents that were opened, changed or closed last
   pub made : List Mention
+  -- how the versions of documents grew
+  pub growths : List Growth
   -- did the server ask for ranges?
   pub ranged : Bool
   -- the last one that couldn't be read, and may have opened a document
   pub unread : Option ℕ
-  -- is one of them refused with S1 or S5, which lenient limits never do, and meant to change a text?
+  -- is one of them refused with S1 or S5, which lenient limits never do, and meant to change a text,
+  -- and not swapped with another?
   pub strict_refusal : Bool
   -- how often what came
   pub counts : Counts
@@ -43,6 +74,7 @@ abbrev pub nothing_known : Known
 nothing_known = record {
   mentions = [];
   made = [];
+  growths = [];
   ranged = false;
   unread = None;
   strict_refusal = false;
@@ -114,11 +146,46 @@ abbrev pub is_renamed : Known → Option (List ℕ) → Verdict → Bool
 is_renamed known uri verdict =
     is_not_open verdict && (is_new_name known.made uri && is_none known.unread)
 
+-- Is a record refused whose version was left out before? Then messages were swapped.
+abbrev pub was_left_out : List Growth → Option (List ℕ) → Option ChangeData → Bool
+was_left_out growths (Some uri) (Some p) = is_left_out p.version (gaps_of uri growths)
+was_left_out growths uri change = false
+
+abbrev pub is_swapped : Known → Option (List ℕ) → Option ChangeData → Verdict → Bool
+is_swapped known uri change verdict =
+    is_stale_refusal verdict && was_left_out known.growths uri change
+
+-- What comes after a reason.
+abbrev pub hint_in : Known → Option (List ℕ) → Option ChangeData → Verdict → Option Hint
+hint_in known uri change verdict = if is_renamed known uri verdict then Some Renamed
+    else if is_swapped known uri change verdict then Some Swapped else None
+
+-- What a record lacks comes first.
+abbrev pub hint_after : Option Lack → Option Hint → Option Hint
+hint_after None hint = hint
+hint_after (Some lack) hint = Some (Lacks lack)
+
+-- What comes after the reason of a record, by what its body asks.
+abbrev pub hint_of : Known → Record → Judged → IncomingData → Option Hint
+hint_of known r j m =
+    hint_after (lack_in r.head.side m (notification_params (reading r.body)))
+    (hint_in known (uri_of r.head.side m) (change_in m) j.verdict)
+
+-- Is a record refused that lenient limits would mend?
+abbrev pub is_strict_in : Known → Option (List ℕ) → Option ChangeData → Verdict → Bool
+is_strict_in known uri change verdict =
+    is_strict_refusal change verdict && not (is_swapped known uri change verdict)
+
 -- The number that a record is known by, which has to look at another one: where its document isn't
 -- open, the number of that one, so that many such records lead to one.
 abbrev pub lead_of : Option ℕ → ℕ → Verdict → ℕ
 lead_of None number verdict = number
 lead_of (Some last) number verdict = if is_not_open verdict then last else number
+
+-- What is counted after a record with these notes of a document.
+abbrev pub counts_noted : Counts → ℕ → Verdict → List ℕ → List Note → Counts
+counts_noted counts number verdict uri notes =
+    counts_after counts number verdict uri notes (hides counts uri notes)
 
 -- What is known after a record with this head and body, by the session before it.
 abbrev pub known_after : Known → Session → Head → List ℕ → Judged → Known
@@ -129,12 +196,17 @@ known_after known s head body j = record {
       j.session.records j.verdict) known.mentions;
   made = mentioned (has_changed j.verdict) (uri_of head.side (incoming_of (reading body)))
       j.session.records known.made;
+  growths = growths_after (has_changed j.verdict) (uri_of head.side (incoming_of (reading body)))
+      (grown_in s.server known.growths head.side (incoming_of (reading body)))
+      (version_rejected (change_in (incoming_of (reading body))) j.verdict) known.growths;
   ranged = ranged_after known.ranged s head.side body;
   unread = unread_after known.unread j.session.records j.verdict;
   strict_refusal = known.strict_refusal
-      || is_strict_refusal (change_in (incoming_of (reading body))) j.verdict;
-  counts = counts_after known.counts j.session.records j.verdict
-      (notes_of s known.ranged body j.verdict);
+      || is_strict_in known (uri_of head.side (incoming_of (reading body)))
+      (change_in (incoming_of (reading body))) j.verdict;
+  counts = counts_noted known.counts j.session.records j.verdict
+      (uri_text (noted_in head.side (incoming_of (reading body))
+      (notification_params (reading body)))) (notes_of s known.growths known.ranged body j.verdict);
 }
 
 -- What a line says of a record.
@@ -145,8 +217,8 @@ pub record FactsData : Type 0 where
   pub uri : Option (List ℕ)
   -- the change that it asks for
   pub change : Option ChangeData
-  -- may its document be another one under a new name?
-  pub renamed : Bool
+  -- what comes after the reason
+  pub hint : Option Hint
   -- the record to look at
   pub last : Option ℕ
   pub notes : List Note
@@ -159,9 +231,9 @@ facts_of known s r j m = record {
   verdict = j.verdict;
   uri = uri_of r.head.side m;
   change = change_in m;
-  renamed = is_renamed known (uri_of r.head.side m) j.verdict;
+  hint = hint_of known r j m;
   last = last_in known (uri_of r.head.side m) j.verdict;
-  notes = notes_of s known.ranged r.body j.verdict;
+  notes = notes_of s known.growths known.ranged r.body j.verdict;
 }
 
 -- ---- the output

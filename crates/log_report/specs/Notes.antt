@@ -9,7 +9,9 @@ use Rattle.memchr.specs.Find.{first_of, matches}
 use Rattle.lsp_text.specs.Positions.{denoted, exact_position}
 use Rattle.lsp_edit.specs.Indexed.{text_within}
 use Rattle.lsp_message.specs.Values.{member_at, text_in}
-use Rattle.log_report.specs.declared.notes.Note.TheVariants.{OpenAlready, LoneReturn, OldVersion, NoChanges, WholeText, PastEnd, WrongLength, SameText, OtherSaved, PartSaved}
+use Rattle.log_report.specs.declared.notes.Note.TheVariants.{OpenAlready, LoneReturn, OldVersion, OddVersion, NoChanges, WholeText, PastEnd, WrongLength, SameText, OtherSaved, PartSaved}
+use Rattle.log_report.specs.declared.growths.Pace.{Pace}
+use Rattle.log_report.specs.Growths.{Growth, grown_on, odd_notes, pace_of}
 use Rattle.log_report.specs.Reasons.{change_words, is_empty, position_words}
 use Rattle.log_session.specs.Session.{Session, Verdict, answered}
 
@@ -125,11 +127,12 @@ batch_notes terms text (change ∷ changes) = notes_from terms 0 text (change �
 abbrev pub version_notes : ℤ → ℤ → List Note
 version_notes sent current = if int_le sent current then OldVersion sent current ∷ [] else []
 
--- The notes of a change of a document that may be open.
-abbrev pub changing_notes : Terms → ChangeData → Option DocumentItem → List Note
-changing_notes terms p None = []
-changing_notes terms p (Some entry) =
+-- The notes of a change of a document that may be open, by how its versions grew.
+abbrev pub changing_notes : Pace → Terms → ChangeData → Option DocumentItem → List Note
+changing_notes pace terms p None = []
+changing_notes pace terms p (Some entry) =
     version_notes p.version entry.version
+    ++ odd_notes pace (grown_on pace (Some entry) p)
     ++ batch_notes terms entry.text (map content_change_from_data p.changes)
 
 -- The note of the opening of a document that is open, which lenient limits accept.
@@ -193,16 +196,18 @@ terms_in s ranged lengths =
     record { units = units_in (session_encoding s); lengths = lengths; ranged = ranged }
 
 -- What there is to note of a message on the documents before it, unless it is refused, by the
--- `rangeLength` of its changes or its params. `ranged`: did the server ask for ranges? Of a
--- `didSave` of an open document with the text "abc" the text "abc" has none, "abX" has one.
-abbrev pub notes_on : ServerData → Bool → List (Option ℕ) → Option Data → IncomingData → List Note
-notes_on s ranged lengths params (did_open (Some p))
+-- `rangeLength` of its changes or its params, and by how versions grew. `ranged`: did the server ask
+-- for ranges? Of a `didSave` of an open document with the text "abc" the text "abc" has none, "abX"
+-- has one.
+abbrev pub notes_on : ServerData → List Growth → Bool → List (Option ℕ) → Option Data →
+    IncomingData → List Note
+notes_on s growths ranged lengths params (did_open (Some p))
     = opening_notes (entry_at s.table p.uri) p.text
-notes_on s ranged lengths params (did_change (Some p))
-    = changing_notes (terms_in s ranged lengths) p (entry_at s.table p.uri)
-notes_on s ranged lengths params (other_notification method) = if is_save method then
+notes_on s growths ranged lengths params (did_change (Some p)) =
+    changing_notes (pace_of p.uri growths) (terms_in s ranged lengths) p (entry_at s.table p.uri)
+notes_on s growths ranged lengths params (other_notification method) = if is_save method then
     saved_notes (option_and_then (entry_at s.table) (saved_uri params)) (saved_text params) else []
-notes_on s ranged lengths params m = []
+notes_on s growths ranged lengths params m = []
 
 -- Notes, if a message is accepted, or ignored by a running server. A refused one has its reason.
 abbrev pub notes_if : List Note → Verdict → List Note
@@ -211,9 +216,9 @@ notes_if notes (answered ignored) = notes
 notes_if notes verdict = []
 
 -- The notes of a record, by the session before it, its body and its judgement.
-abbrev pub notes_of : Session → Bool → List ℕ → Verdict → List Note
-notes_of s ranged body verdict =
-    notes_if (notes_on s.server ranged (lengths_of (reading body))
+abbrev pub notes_of : Session → List Growth → Bool → List ℕ → Verdict → List Note
+notes_of s growths ranged body verdict =
+    notes_if (notes_on s.server growths ranged (lengths_of (reading body))
     (notification_params (reading body)) (incoming_of (reading body))) verdict
 
 -- ---- in words
@@ -229,6 +234,15 @@ past_words sent taken =
     if sent.line == taken.line then codes ", past the line's end (taken as "
     else codes ", past the last line (taken as "
 
+-- How many changes.
+abbrev pub changes_words : ℕ → List ℕ
+changes_words count = if count == 1 then codes "1 change" else decimal count ++ codes " changes"
+
+-- What versions grew by: a number, else the number of changes.
+abbrev pub usual_words : Option ℕ → List ℕ
+usual_words None = codes "the number of changes"
+usual_words (Some step) = decimal step
+
 -- A note.
 abbrev pub note_words : Note → List ℕ
 note_words OpenAlready = codes "the document was open already"
@@ -236,6 +250,10 @@ note_words LoneReturn = codes "a CR alone ends a line, and an LF another"
 note_words (OldVersion sent current) =
     codes "version " ++ signed_decimal sent ++ codes " was sent, and the current one was "
     ++ signed_decimal current
+note_words (OddVersion sent before changes usual) =
+    codes "version " ++ signed_decimal sent ++ codes " came after " ++ signed_decimal before
+    ++ codes ", with " ++ changes_words changes ++ codes ", and until here it grew by "
+    ++ usual_words usual
 note_words NoChanges = codes "it has no changes"
 note_words (WholeText index) =
     change_words index ++ codes " is the whole text, and the server asked for ranges"
@@ -263,6 +281,7 @@ abbrev pub note_kind : Note → List ℕ
 note_kind OpenAlready = codes "open already"
 note_kind LoneReturn = codes "a CR alone"
 note_kind (OldVersion sent current) = codes "an old version"
+note_kind (OddVersion sent before changes usual) = codes "an odd version"
 note_kind NoChanges = codes "no changes"
 note_kind (WholeText index) = codes "a whole text"
 note_kind (PastEnd index side sent taken) =

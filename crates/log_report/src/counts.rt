@@ -1,10 +1,11 @@
 //! How often what came, for the last lines of `check --explain`.
 
-ghost use Rattle.std.specs.Prelude.{◌≡◌, IfOk, OnOk, option_map};
-ghost use Rattle.std.specs.List.{list_any};
+ghost use Rattle.std.specs.Prelude.{◌≡◌, IfOk, OnOk, option_map, string_bytes};
 ghost use Rattle.lsp_server.specs.Seen.{answer_view};
-ghost use Rattle.log_report.specs.Counts.{answer_code, counted_code, counts_after, dropped_word, is_habit, is_hidden, is_of_save, is_same_text};
-ghost use Rattle.log_report.specs.Counts.{nothing_counted, rare_notes, tallied_notes};
+ghost use Rattle.log_report.specs.Counts.{answer_code, counted_code, counts_after, dropped_word, first_hidden, habit_of, hidden_after};
+ghost use Rattle.log_report.specs.Counts.{is_habit, is_hidden, is_of_save, is_same_text};
+ghost use Rattle.log_report.specs.Counts.{nothing_counted, rare_notes, tallied_habits, tallied_notes, uri_if};
+ghost use Rattle.log_session.specs.Session.{count_if};
 ghost use Rattle.log_session.specs.inside.Verdicts.{verdict_view};
 
 pub(crate) mod tallies;
@@ -18,11 +19,42 @@ use lsp_server::Answer;
 use std::alloc::{AllocError, Global};
 use std::marker::Model;
 
-/// A kind of note is a habit, if so many records had it already,
+/// A kind of note is a habit of a document, if so many notes of it had the kind already,
 const HABIT_COUNT: u64 = 4;
 
-/// and about one of so many records that changed documents.
+/// and about one of so many records that changed it.
 const HABIT_RATE: u64 = 100;
+
+/// The records with notes that are on no line: how many there are, the first and the last.
+#[derive(Clone, Copy)]
+pub struct Hidden {
+    pub count: u64,
+    pub first: u64,
+    pub last: u64,
+}
+
+impl Hidden {
+    /// Takes a record of this number, if it has such notes.
+    fn after(self, number: u64, hiding: bool) -> Self
+        ensures { result ≡ hidden_after self number hiding }
+    {
+        if !hiding {
+            return self;
+        }
+        Hidden {
+            count: one_more(self.count),
+            first: self.first_after(number),
+            last: number,
+        }
+    }
+
+    /// Returns the first record with such notes, where one of this number has some.
+    fn first_after(self, number: u64) -> u64
+        ensures { result ≡ first_hidden self number }
+    {
+        if self.count == 0 { number } else { self.first }
+    }
+}
 
 /// What is counted of the records of a log.
 #[derive(Drop)]
@@ -36,8 +68,12 @@ pub struct Counts {
     pub refused: Vec<Tally>,
     /// The kinds of the notes.
     pub noted: Vec<Tally>,
-    /// Whether a note was on no line.
-    pub hides: bool,
+    // How many changed each document.
+    documents: Vec<Tally>,
+    // The kinds of the notes of each document.
+    habits: Vec<Tally>,
+    /// Those with notes that are on no line.
+    pub hidden: Hidden,
 }
 
 impl Model for Counts {
@@ -50,7 +86,9 @@ impl Model for Counts {
       drops = counts.dropped.items;
       refusals = counts.refused.items;
       noted = counts.noted.items;
-      hides = counts.hides;
+      documents = counts.documents.items;
+      habits = counts.habits.items;
+      hidden = counts.hidden;
     } };
 }
 
@@ -65,63 +103,99 @@ impl Counts {
             dropped: Vec::new(alloc),
             refused: Vec::new(alloc),
             noted: Vec::new(alloc),
-            hides: false,
+            documents: Vec::new(alloc),
+            habits: Vec::new(alloc),
+            hidden: Hidden {
+                count: 0,
+                first: 0,
+                last: 0,
+            },
         }
     }
 
-    /// Counts a record with this number and these notes.
+    /// Counts a record with this number, about this document, and with these notes. `hiding`: are
+    /// some of them on no line?
     pub fn count(
         &mut self,
         number: u64,
         verdict: &Verdict,
+        uri: &str,
         notes: &[Note],
+        hiding: bool,
     ) -> Result<(), AllocError>
-        ensures { OnOk result
-            (self.new ≡ counts_after self.old number (verdict_view verdict.now) notes.now) }
+        ensures { OnOk result (self.new
+            ≡ counts_after self.old number (verdict_view verdict.now) uri.now notes.now hiding) }
     {
-        self.hides = self.hides || self.has_hidden(notes);
-        if has_changed(verdict) {
-            self.changed = one_more(self.changed);
+        let alloc = self.alloc;
+        self.hidden = self.hidden.after(number, hiding);
+        add_if(alloc, &mut self.dropped, dropped_word(verdict), number)?;
+        add_if(alloc, &mut self.refused, counted_code(verdict), number)?;
+        add_notes(alloc, &mut self.noted, notes, number)?;
+        add_habits(alloc, &mut self.habits, uri, notes, number)?;
+        let changed = has_changed(verdict);
+        self.changed = count_if(changed, self.changed);
+        add_if(alloc, &mut self.documents, uri_if(changed, uri), number)
+    }
+
+    /// Returns whether the kind of a note is a habit of its document.
+    fn is_habit(&self, uri: &str, note: Note) -> Result<bool, AllocError>
+        ensures { IfOk result (λ habit. habit ≡ is_habit self.now uri.now note) }
+    {
+        let words = habit_of(self.alloc, uri, note)?;
+        let count = count_of(self.habits.as_slice(), words.as_str());
+        let changes = count_of(self.documents.as_slice(), uri);
+        Ok(count >= HABIT_COUNT && changes / HABIT_RATE <= count)
+    }
+
+    /// Returns whether a note of this document is on no line.
+    fn is_hidden(&self, uri: &str, note: Note) -> Result<bool, AllocError>
+        ensures { IfOk result (λ hidden. hidden ≡ is_hidden self.now uri.now note) }
+    {
+        if is_same_text(note) {
+            return Ok(true);
         }
-        add_if(self.alloc, &mut self.dropped, dropped_word(verdict), number)?;
-        add_if(self.alloc, &mut self.refused, counted_code(verdict), number)?;
-        add_notes(self.alloc, &mut self.noted, notes, number)
+        if is_of_save(note) {
+            return Ok(false);
+        }
+        self.is_habit(uri, note)
     }
 
-    /// Returns whether the kind of a note is a habit.
-    fn is_habit(&self, note: Note) -> bool
-        ensures { result ≡ is_habit self.now note }
-    {
-        let count = count_of(self.noted.as_slice(), note_kind(note));
-        count >= HABIT_COUNT && self.changed / HABIT_RATE <= count
-    }
-
-    /// Returns whether a note is on no line.
-    fn is_hidden(&self, note: Note) -> bool
-        ensures { result ≡ is_hidden self.now note }
-    {
-        is_same_text(note) || !is_of_save(note) && self.is_habit(note)
-    }
-
-    /// Returns whether one of some notes is on no line.
-    fn has_hidden(&self, notes: &[Note]) -> bool
-        ensures { result ≡ list_any (is_hidden self.now) notes.now }
-    {
-        notes.iter().any(|note| self.is_hidden(*note))
-    }
-
-    /// Returns the notes that are on a line.
-    pub fn rare(&self, notes: &[Note]) -> Result<Vec<Note>, AllocError>
-        ensures { IfOk result (λ rare. rare.items ≡ rare_notes self.now notes.now) }
+    /// Returns the notes of this document that are on a line.
+    pub fn rare(&self, uri: &str, notes: &[Note]) -> Result<Vec<Note>, AllocError>
+        ensures { IfOk result (λ rare. rare.items ≡ rare_notes self.now uri.now notes.now) }
     {
         let mut rare = Vec::new(self.alloc);
         for note in notes {
-            if !self.is_hidden(*note) {
+            if !self.is_hidden(uri, *note)? {
                 rare.push(*note)?;
             }
         }
         Ok(rare)
     }
+}
+
+/// Counts once more, if something counts.
+pub fn count_if(counts: bool, count: u64) -> u64
+    ensures { result ≡ count_if counts count }
+{
+    if counts { one_more(count) } else { count }
+}
+
+/// Returns the document, if a record changed it.
+fn uri_if(has_changed: bool, uri: &str) -> Option<&str>
+    ensures { option_map (λ uri. uri.now) result ≡ uri_if has_changed uri.now }
+{
+    if has_changed { Some(uri) } else { None }
+}
+
+/// Returns what a kind of note of a document is counted by.
+fn habit_of(alloc: Global, uri: &str, note: Note) -> Result<String, AllocError>
+    ensures { IfOk result (λ words. string_bytes words ≡ habit_of uri.now note) }
+{
+    let mut words = String::from_str(alloc, note_kind(note))?;
+    words.push_str(" of ")?;
+    words.push_str(uri)?;
+    Ok(words)
 }
 
 /// Returns whether a note is that a change's text is what it replaces.
@@ -184,6 +258,24 @@ fn add_notes(
 {
     for note in notes {
         add(alloc, tallies, note_kind(*note), number)?;
+    }
+    Ok(())
+}
+
+/// Counts the notes of this document that came with the record of this number.
+fn add_habits(
+    alloc: Global,
+    tallies: &mut Vec<Tally>,
+    uri: &str,
+    notes: &[Note],
+    number: u64,
+) -> Result<(), AllocError>
+    ensures { OnOk result
+        (tallies.new.items ≡ tallied_habits uri.now notes.now number tallies.old.items) }
+{
+    for note in notes {
+        let words = habit_of(alloc, uri, *note)?;
+        add(alloc, tallies, words.as_str(), number)?;
     }
     Ok(())
 }

@@ -3,17 +3,16 @@
 //!
 //! `noting` has what is suspicious of a message, `asked` what a body asks.
 
-ghost use Rattle.std.specs.Prelude.{◌≡◌, ◌≢◌, ◌⊎◌, IfErr, IfOk, OnOk, option_map, true};
+ghost use Rattle.std.specs.Prelude.{◌≡◌, ◌≢◌, ◌⊎◌, IfErr, IfOk, OnOk, length, nat_lt, option_map, true};
 ghost use Rattle.lsp_log.specs.Splitting.{record_of};
 ghost use Rattle.lsp_message.specs.Seen.{change_view};
 ghost use Rattle.log_report.specs.Lines.{is_new_name, is_not_open, is_open_already};
-ghost use Rattle.log_report.specs.Lines.{is_bad_params, is_parse_error, is_unread, unread_after};
-ghost use Rattle.log_report.specs.Lines.{is_renamed, is_stale_refusal, is_strict_refusal, known_after};
-ghost use Rattle.log_report.specs.Lines.{last_in, lead_of, nothing_known, or_unread};
+ghost use Rattle.log_report.specs.Lines.{hint_after, hint_in, is_bad_params, is_parse_error, is_renamed, is_stale_refusal, is_strict_in, is_strict_refusal, is_swapped, is_unread, known_after, last_in, lead_of, noted_uri, nothing_known, or_unread, uri_text, unread_after, was_left_out};
+ghost use Rattle.log_report.specs.Growths.{version_rejected};
 ghost use Rattle.log_report.specs.Mentions.{is_mention, last_for};
 ghost use Rattle.log_session.specs.Session.{bad};
 ghost use Rattle.log_session.specs.inside.Bodies.{judge_at};
-ghost use Rattle.log_report.specs.inside.Facts.{AreFacts, IsLearned, known_by, noted_by};
+ghost use Rattle.log_report.specs.inside.Facts.{AreFacts, IsLearned, kept_by, known_by, noted_by};
 ghost use Rattle.log_session.specs.inside.Reads.{IsNotedOf, IsReadOf};
 ghost use Rattle.log_session.specs.inside.Taken.{IsShown, accepted_of, ranged_with};
 ghost use Rattle.log_session.specs.inside.Verdicts.{verdict_view};
@@ -23,6 +22,8 @@ mod noting;
 
 use crate::counts::Counts;
 use crate::facts::noting::{about_of, notes_if};
+use crate::growths::{Grown, Growths};
+use crate::lacks::Lack;
 use crate::mentions::Mentions;
 use crate::notes::Note;
 use crate::printer::reasons::is_idle;
@@ -35,15 +36,31 @@ use lsp_stream::EngineFault;
 use std::alloc::{AllocError, Global};
 use std::marker::Model;
 
+/// What comes after the reason of a record that the documents refused.
+#[derive(Clone, Copy, Debug, PartialEq, Eq)]
+pub enum Hint {
+    /// Its document may be another one under a new name.
+    Renamed,
+    /// Its version was left out before, so messages were swapped.
+    Swapped,
+    /// Its params lack something.
+    Lacks(Lack),
+}
+
 /// What a record is about, before it is taken.
 #[derive(Drop)]
 pub struct About {
     /// The URI of its document.
     pub uri: Option<String>,
-    /// The URI of the document whose text was saved, if it isn't about the documents.
+    /// The URI of the document whose text was saved, if it isn't about the documents, or of the one
+    /// that params name which can't be read.
     pub saved: Option<String>,
     /// What is suspicious of it, unless it is refused.
     pub notes: Vec<Note>,
+    /// What it lacks, if its params can't be read.
+    pub lack: Option<Lack>,
+    /// How much its version is above the current one, if it is a change.
+    pub grown: Option<Grown>,
 }
 
 /// The facts of a record that was taken.
@@ -58,8 +75,8 @@ pub struct Facts {
     pub saved: Option<String>,
     /// The params of a change that a running server received: what a reason quotes.
     pub change: Option<ChangeParams>,
-    /// Whether the document may be another one under a new name, if the documents refused it.
-    pub renamed: bool,
+    /// What comes after the reason.
+    pub hint: Option<Hint>,
     /// The record to look at, if the documents refused this one: which made the current version, if
     /// this one has an old version; else which opened, closed or refused the document last.
     pub last: Option<u64>,
@@ -70,14 +87,44 @@ pub struct Facts {
 }
 
 impl Facts {
+    /// Returns what comes after a reason: what a record lacks comes first.
+    fn hint_after(lack: Option<Lack>, hint: Option<Hint>) -> Option<Hint>
+        ensures { result ≡ hint_after lack hint }
+    {
+        match lack {
+            Some(lack) => Some(Hint::Lacks(lack)),
+            None => hint,
+        }
+    }
+
+    /// Returns the version of a change that the documents refused.
+    fn version_rejected(change: Option<&ChangeParams>, verdict: &Verdict) -> Option<i32>
+        ensures { result ≡ version_rejected (option_map (λ p. change_view p.now) change.entry)
+            (verdict_view verdict.now) }
+    {
+        match (change, verdict) {
+            (Some(params), Verdict::Answered(Answer::Refused(_))) => Some(params.version),
+            _ => None,
+        }
+    }
+
+    /// Returns whether a version of a document was left out.
+    fn was_left_out(growths: &Growths, uri: Option<&str>, change: Option<&ChangeParams>) -> bool
+        ensures { result ≡ was_left_out growths.now.documents.items
+            (option_map (λ uri. uri.now) uri.entry)
+            (option_map (λ p. change_view p.now) change.entry) }
+    {
+        match (uri, change) {
+            (Some(uri), Some(params)) => growths.has_left_out(uri, params.version),
+            _ => false,
+        }
+    }
+
     /// Returns the document that notes are about: the record's, or that of the text that was saved.
     pub fn noted(&self) -> Option<&str>
         ensures { option_map (λ uri. uri.now) result ≡ noted_by self.now }
     {
-        match &self.uri {
-            Some(uri) => Some(uri.as_str()),
-            None => self.saved.as_deref(),
-        }
+        noted_uri(self.uri.as_deref(), self.saved.as_deref())
     }
 }
 
@@ -89,6 +136,8 @@ pub struct Known {
     mentions: Mentions,
     // The documents that were opened, changed or closed last.
     made: Mentions,
+    // How the versions of documents grew.
+    growths: Growths,
     // Whether the server asked for ranges.
     ranged: bool,
     // The last record that couldn't be read, and may have opened a document.
@@ -107,6 +156,7 @@ impl Model for Known {
     ghost view = { λ known. record {
       mentions = known.mentions.newest.items;
       made = known.made.newest.items;
+      growths = known.growths.documents.items;
       ranged = known.ranged;
       unread = known.unread;
       strict_refusal = known.strict_refusal;
@@ -123,6 +173,7 @@ impl Known {
             alloc,
             mentions: Mentions::new(alloc),
             made: Mentions::new(alloc),
+            growths: Growths::new(alloc),
             ranged: false,
             unread: None,
             strict_refusal: false,
@@ -157,7 +208,14 @@ impl Known {
             ⊎ ((fault ≡ EngineFault.BadLog item.now.head.place)
             × ((judge_at session.old item.now.head item.now.body.now).verdict ≡ bad))) }
     {
-        let about = about_of(self.alloc, session.server(), self.ranged, &read)?;
+        let about = about_of(
+            self.alloc,
+            session.server(),
+            &self.growths,
+            self.ranged,
+            item.body,
+            &read,
+        )?;
         let taken = session.take(read, witness)?;
         in_log(&taken.verdict, item.head.place)?;
         Ok(self.learn(session.records(), about, taken)?)
@@ -168,37 +226,67 @@ impl Known {
         ensures facts { IfOk result (IsLearned self.old number about taken) }
         ensures known { OnOk result (self.new ≡ known_by self.old number about taken) }
     {
-        let About { uri, saved, notes } = about;
+        let About {
+            uri,
+            saved,
+            notes,
+            lack,
+            grown,
+        } = about;
         let Taken {
             verdict,
             change,
             ranged,
         } = taken;
-        let renamed = self.is_renamed(uri.as_deref(), &verdict);
+        let hint = hint_after(
+            lack,
+            self.hint_in(uri.as_deref(), change.as_ref(), &verdict),
+        );
+        let is_strict = self.is_strict_in(uri.as_deref(), change.as_ref(), &verdict);
         let last = self.last_in(uri.as_deref(), &verdict);
         let notes = notes_if(notes, &verdict);
-        let rare = self.counts.rare(&notes)?;
-        let mentioned = is_mention(change.is_some(), &verdict);
-        let lead = lead_of(last, number, &verdict);
-        self.mentions.keep(mentioned, uri.as_deref(), lead)?;
-        self.made
-            .keep(has_changed(&verdict), uri.as_deref(), number)?;
+        let noted = uri_text(noted_uri(uri.as_deref(), saved.as_deref()));
+        let rare = self.counts.rare(noted, &notes)?;
+        let hiding = hides(&rare, &notes);
+        self.counts.count(number, &verdict, noted, &notes, hiding)?;
+        self.keep(number, uri.as_deref(), change.is_some(), &verdict)?;
+        let rejected = version_rejected(change.as_ref(), &verdict);
+        self.growths
+            .take(has_changed(&verdict), uri.as_deref(), grown, rejected)?;
         self.ranged = ranged_with(self.ranged, ranged);
-        self.unread = unread_after(self.unread, number, &verdict);
-        let is_strict = is_strict_refusal(change.as_ref(), &verdict);
         self.strict_refusal = self.strict_refusal || is_strict;
-        self.counts.count(number, &verdict, &notes)?;
         Ok(Facts {
             number,
             verdict,
             uri,
             saved,
             change,
-            renamed,
+            hint,
             last,
             notes,
             rare,
         })
+    }
+
+    /// Keeps which documents a record of this number opened, changed, closed or refused, and whether
+    /// it couldn't be read.
+    fn keep(
+        &mut self,
+        number: u64,
+        uri: Option<&str>,
+        is_change: bool,
+        verdict: &Verdict,
+    ) -> Result<(), AllocError>
+        ensures { OnOk result (self.new ≡ kept_by self.old number
+            (option_map (λ uri. uri.now) uri.entry) is_change (verdict_view verdict.now)) }
+    {
+        let last = self.last_in(uri, verdict);
+        let lead = lead_of(last, number, verdict);
+        self.mentions
+            .keep(is_mention(is_change, verdict), uri, lead)?;
+        self.made.keep(has_changed(verdict), uri, number)?;
+        self.unread = unread_after(self.unread, number, verdict);
+        Ok(())
     }
 
     /// Returns the record to look at, if the documents refused one about a document: which made the
@@ -224,6 +312,112 @@ impl Known {
     {
         is_not_open(verdict) && (is_new_name(&self.made, uri) && self.unread.is_none())
     }
+
+    /// Returns whether messages were swapped: a record is refused whose version was left out before.
+    fn is_swapped(
+        &self,
+        uri: Option<&str>,
+        change: Option<&ChangeParams>,
+        verdict: &Verdict,
+    ) -> bool
+        ensures { result ≡ is_swapped self.now (option_map (λ uri. uri.now) uri.entry)
+            (option_map (λ p. change_view p.now) change.entry) (verdict_view verdict.now) }
+    {
+        is_stale_refusal(verdict) && was_left_out(&self.growths, uri, change)
+    }
+
+    /// Returns what comes after the reason of a record.
+    fn hint_in(
+        &self,
+        uri: Option<&str>,
+        change: Option<&ChangeParams>,
+        verdict: &Verdict,
+    ) -> Option<Hint>
+        ensures { result ≡ hint_in self.now (option_map (λ uri. uri.now) uri.entry)
+            (option_map (λ p. change_view p.now) change.entry) (verdict_view verdict.now) }
+    {
+        if self.is_renamed(uri, verdict) {
+            Some(Hint::Renamed)
+        } else if self.is_swapped(uri, change, verdict) {
+            Some(Hint::Swapped)
+        } else {
+            None
+        }
+    }
+
+    /// Returns whether a record is refused that lenient limits would mend.
+    fn is_strict_in(
+        &self,
+        uri: Option<&str>,
+        change: Option<&ChangeParams>,
+        verdict: &Verdict,
+    ) -> bool
+        ensures { result ≡ is_strict_in self.now (option_map (λ uri. uri.now) uri.entry)
+            (option_map (λ p. change_view p.now) change.entry) (verdict_view verdict.now) }
+    {
+        is_strict_refusal(change, verdict) && !self.is_swapped(uri, change, verdict)
+    }
+}
+
+/// Returns what comes after a reason: what a record lacks comes first.
+fn hint_after(lack: Option<Lack>, hint: Option<Hint>) -> Option<Hint>
+    ensures { result ≡ hint_after lack hint }
+{
+    match lack {
+        Some(lack) => Some(Hint::Lacks(lack)),
+        None => hint,
+    }
+}
+
+/// Returns the version of a change that the documents refused.
+fn version_rejected(change: Option<&ChangeParams>, verdict: &Verdict) -> Option<i32>
+    ensures { result ≡ version_rejected (option_map (λ p. change_view p.now) change.entry)
+        (verdict_view verdict.now) }
+{
+    match (change, verdict) {
+        (Some(params), Verdict::Answered(Answer::Refused(_))) => Some(params.version),
+        _ => None,
+    }
+}
+
+/// Returns whether a version of a document was left out.
+fn was_left_out(growths: &Growths, uri: Option<&str>, change: Option<&ChangeParams>) -> bool
+    ensures { result ≡ was_left_out growths.now.documents.items
+        (option_map (λ uri. uri.now) uri.entry)
+        (option_map (λ p. change_view p.now) change.entry) }
+{
+    match (uri, change) {
+        (Some(uri), Some(params)) => growths.has_left_out(uri, params.version),
+        _ => false,
+    }
+}
+
+/// Returns the document that notes are about: the record's, or that of the text that was saved.
+fn noted_uri<'a>(uri: Option<&'a str>, saved: Option<&'a str>) -> Option<&'a str>
+    ensures { option_map (λ uri. uri.now) result ≡ noted_uri (option_map (λ uri. uri.now) uri.entry)
+        (option_map (λ saved. saved.now) saved.entry) }
+{
+    match uri {
+        Some(uri) => Some(uri),
+        None => saved,
+    }
+}
+
+/// Returns the URI of a document, by which its notes are counted.
+fn uri_text(uri: Option<&str>) -> &str
+    ensures { result.now ≡ uri_text (option_map (λ uri. uri.now) uri.entry) }
+{
+    match uri {
+        Some(uri) => uri,
+        None => "",
+    }
+}
+
+/// Returns whether a record has notes that are on no line, by those that are on one.
+fn hides(rare: &[Note], notes: &[Note]) -> bool
+    ensures { result ≡ nat_lt (length rare.now) (length notes.now) }
+{
+    rare.len() < notes.len()
 }
 
 /// Returns the record that is about a document last in a list, if the documents refused one about

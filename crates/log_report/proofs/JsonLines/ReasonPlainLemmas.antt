@@ -1,5 +1,10 @@
 -- The words of a line need no escape in a JSON string.
-use Rattle.log_report.proofs.Prelude.{Bool, ◌==◌, [], ◌++◌, Option, Some, None, refl, codes, list_all-append, LimitsData, Position, Range, EditFault, ErrorCode, ParseError, ChangeData, fault_code, StoreFault, AnswerData, reply, refused, exits, Sent, one_more, Sender, Client, Server, Note, code_word, verdict_word, note_words, past_words, side_words, edit_reason, end_words, error_reason, idle_words, is_idle, position_words, range_sent, reason_words, renamed_words, store_reason, version_words, Verdict, answered, side_word}
+use Rattle.log_report.proofs.Prelude.{ℕ, Bool, ◌==◌, [], ◌++◌, Option, Some, None, refl, codes, list_all-append, LimitsData, Position, Range, EditFault, ErrorCode, ParseError, ChangeData, fault_code, StoreFault, AnswerData, reply, refused, exits, Sent, one_more, Sender, Client, Server, Note, code_word, verdict_word, changes_words, decimal, note_words, past_words, usual_words, side_words, edit_reason, end_words, error_reason, idle_words, is_idle, position_words, range_sent, reason_words, hint_words, store_reason, version_words, Verdict, answered, side_word}
+use Rattle.log_report.specs.declared.facts.Hint.{Hint}
+use Rattle.log_report.specs.declared.facts.Hint.TheVariants.{Lacks, Renamed, Swapped}
+use Rattle.log_report.specs.declared.lacks.Lack.{Lack}
+use Rattle.log_report.specs.declared.lacks.Lack.TheVariants.{Change, Changes, Language, Text, Uri, Version}
+use Rattle.log_report.specs.Lacks.{lack_words}
 use Rattle.lsp_edit.specs.declared.fault.EditFault.TheVariants.{InsideCharacter, ReversedRange, NoMemory as NoMemoryToEdit}
 use Rattle.lsp_edit.specs.declared.fault.Side.{Side}
 use Rattle.lsp_edit.specs.declared.fault.Side.TheVariants.{Start, Stop}
@@ -7,7 +12,7 @@ use Rattle.lsp_store.specs.declared.fault.StoreFault.TheVariants.{TooManyDocumen
 use Rattle.lsp_server.specs.Codes.{server_refusal_code}
 use Rattle.lsp_server.specs.declared.answer.Refusal.{Refusal}
 use Rattle.lsp_server.specs.declared.answer.Refusal.TheVariants.{InvalidParams as BadParams, Store}
-use Rattle.log_report.specs.declared.notes.Note.TheVariants.{LoneReturn, NoChanges, OpenAlready, PartSaved}
+use Rattle.log_report.specs.declared.notes.Note.TheVariants.{LoneReturn, NoChanges, OddVersion, OpenAlready, PartSaved}
 use Rattle.log_report.proofs.JsonLines.PlainLemmas.{IsPlain, either_plain, is_ascii_plain, plain-append, plain_decimal, plain_signed}
 
 -- ---- the word of an answer
@@ -82,11 +87,24 @@ plain_reason limits p (reply m) = plain_error m.code
 plain_reason limits p (refused (Store fault)) = plain_store limits p fault
 plain_reason limits p _ = refl
 
-pub plain_reason_with : (limits : LimitsData) (p : Option ChangeData) (answer : AnswerData Sent) (renamed : Bool)
-    → IsPlain (reason_words limits p answer ++ renamed_words renamed)
-plain_reason_with limits p answer renamed =
-    plain-append (reason_words limits p answer) (renamed_words renamed) (plain_reason limits p answer)
-    (either_plain renamed (codes "; its editor may have renamed a document that was open") [] refl refl)
+plain_lack : (lack : Lack) → IsPlain (lack_words lack)
+plain_lack Uri = refl
+plain_lack Language = refl
+plain_lack Version = refl
+plain_lack Text = refl
+plain_lack Changes = refl
+plain_lack Change = refl
+
+plain_hint : (hint : Option Hint) → IsPlain (hint_words hint)
+plain_hint None = refl
+plain_hint (Some (Lacks lack)) = plain_lack lack
+plain_hint (Some Renamed) = refl
+plain_hint (Some Swapped) = refl
+
+pub plain_reason_with : (limits : LimitsData) (p : Option ChangeData) (answer : AnswerData Sent) (hint : Option Hint)
+    → IsPlain (reason_words limits p answer ++ hint_words hint)
+plain_reason_with limits p answer hint =
+    plain-append (reason_words limits p answer) (hint_words hint) (plain_reason limits p answer) (plain_hint hint)
 
 -- ---- the words of a note
 
@@ -97,9 +115,20 @@ plain_from Stop = refl
 plain_past : (sent taken : Position) → IsPlain (past_words sent taken)
 plain_past sent taken = either_plain (sent.line == taken.line) _ _ refl refl
 
+plain_changes : (count : ℕ) → IsPlain (changes_words count)
+plain_changes count =
+    either_plain (count == 1) (codes "1 change") (decimal count ++ codes " changes") refl
+    (plain-append (decimal count) (codes " changes") (plain_decimal count) refl)
+
+plain_usual : (usual : Option ℕ) → IsPlain (usual_words usual)
+plain_usual None = refl
+plain_usual (Some step) = plain_decimal step
+
 pub plain_note : (note : Note) → IsPlain (note_words note)
 plain_note OpenAlready = refl
 plain_note LoneReturn = refl
 plain_note NoChanges = refl
 plain_note PartSaved = refl
+plain_note (OddVersion sent before changes usual) =
+    simp (list_all-append is_ascii_plain, plain_signed, plain_changes changes, plain_usual usual)
 plain_note _ = simp (list_all-append is_ascii_plain, plain_decimal, plain_signed, plain_from, plain_past)

@@ -6,25 +6,28 @@ use Rattle.log_report.specs.declared.facts.About.{About}
 use Rattle.log_report.specs.declared.facts.Facts.{Facts}
 use Rattle.log_session.specs.declared.session.canonical.Appended.TheVariants.{Body}
 use Rattle.log_report.specs.Counts.{counts_after, rare_notes}
-use Rattle.log_report.specs.Explain.{noted_uri, saved_in}
-use Rattle.log_report.specs.Lines.{FactsData, Known, facts_of, is_renamed, is_strict_refusal, last_in, lead_of, unread_after, uri_of}
+use Rattle.log_report.specs.Lines.{FactsData, Known, counts_noted, facts_of, hint_after, hint_in, is_renamed, is_strict_in, is_strict_refusal, is_unread, last_in, lead_of, noted_in, noted_uri, saved_in, uri_text, unread_after, uri_of}
+use Rattle.log_report.specs.Growths.{Growth, grown_in, growths_after, version_rejected}
+use Rattle.log_report.specs.Lacks.{lack_in}
 use Rattle.log_report.specs.Mentions.{is_mention, mentioned}
 use Rattle.log_report.specs.Notes.{notes_if, notes_of, notes_on}
-use Rattle.log_session.specs.Session.{Session, has_changed, judge}
+use Rattle.log_session.specs.Session.{Session, Verdict, has_changed, judge}
 use Rattle.log_session.specs.inside.Bodies.{BodyData, body_read, on_client}
 use Rattle.log_session.specs.inside.Taken.{ranged_with, received_of}
 use Rattle.log_session.specs.inside.Verdicts.{verdict_view}
 
 -- ---- before the record is taken, by what was read of its body
 
-pub record IsAbout (s : ServerData) (ranged : Bool) (body : Reading) (read : BodyData)
-    (about : About) :
+pub record IsAbout (s : ServerData) (growths : List Growth) (ranged : Bool) (body : Reading)
+    (read : BodyData) (about : About) :
     Type 0 where
   pub uri : option_map string_bytes about.uri ≡ on_client None (uri_of Client) read
   pub saved : option_map string_bytes about.saved
       ≡ on_client None (λ m. saved_in Client m (notification_params body)) read
   pub notes : about.notes.items
-      ≡ on_client [] (notes_on s ranged (lengths_of body) (notification_params body)) read
+      ≡ on_client [] (notes_on s growths ranged (lengths_of body) (notification_params body)) read
+  pub lack : about.lack ≡ on_client None (λ m. lack_in Client m (notification_params body)) read
+  pub grown : about.grown ≡ on_client None (grown_in s growths Client) read
 
 -- ---- after it
 
@@ -35,10 +38,15 @@ facts_view facts = record {
   verdict = verdict_view facts.verdict;
   uri = option_map string_bytes facts.uri;
   change = option_map change_view facts.change;
-  renamed = facts.renamed;
+  hint = facts.hint;
   last = facts.last;
   notes = facts.notes.items;
 }
+
+-- The document that notes are about.
+abbrev pub noted_of : About → Option (List ℕ)
+noted_of about =
+    noted_uri (option_map string_bytes about.uri) (option_map string_bytes about.saved)
 
 -- By what the record is about, and what became of it.
 pub record IsLearned (known : Known) (n : ℕ) (about : About) (taken : Taken) (facts : Facts) :
@@ -48,13 +56,26 @@ pub record IsLearned (known : Known) (n : ℕ) (about : About) (taken : Taken) (
   pub uri : facts.uri ≡ about.uri
   pub saved : facts.saved ≡ about.saved
   pub change : facts.change ≡ taken.change
-  pub renamed : facts.renamed
-      ≡ is_renamed known (option_map string_bytes about.uri) (verdict_view taken.verdict)
+  pub hint : facts.hint ≡ hint_after about.lack (hint_in known (option_map string_bytes about.uri)
+      (option_map change_view taken.change) (verdict_view taken.verdict))
   pub last : facts.last
       ≡ last_in known (option_map string_bytes about.uri) (verdict_view taken.verdict)
   pub notes : facts.notes.items ≡ notes_if about.notes.items (verdict_view taken.verdict)
-  pub rare : facts.rare.items
-      ≡ rare_notes known.counts (notes_if about.notes.items (verdict_view taken.verdict))
+  pub rare : facts.rare.items ≡ rare_notes known.counts (uri_text (noted_of about))
+      (notes_if about.notes.items (verdict_view taken.verdict))
+
+-- What is known of documents after a record with this number.
+abbrev pub kept_by : Known → ℕ → Option (List ℕ) → Bool → Verdict → Known
+kept_by known number uri is_change verdict = record {
+  mentions = mentioned (is_mention is_change verdict) uri
+      (lead_of (last_in known uri verdict) number verdict) known.mentions;
+  made = mentioned (has_changed verdict) uri number known.made;
+  growths = known.growths;
+  ranged = known.ranged;
+  unread = unread_after known.unread number verdict;
+  strict_refusal = known.strict_refusal;
+  counts = known.counts;
+}
 
 -- What is known after a record with this number.
 abbrev pub known_by : Known → ℕ → About → Taken → Known
@@ -65,12 +86,17 @@ known_by known number about taken = record {
       number (verdict_view taken.verdict)) known.mentions;
   made = mentioned (has_changed (verdict_view taken.verdict))
       (option_map string_bytes about.uri) number known.made;
+  growths = growths_after (has_changed (verdict_view taken.verdict))
+      (option_map string_bytes about.uri) about.grown
+      (version_rejected (option_map change_view taken.change) (verdict_view taken.verdict))
+      known.growths;
   ranged = ranged_with known.ranged taken.ranged;
   unread = unread_after known.unread number (verdict_view taken.verdict);
   strict_refusal = known.strict_refusal
-      || is_strict_refusal (option_map change_view taken.change) (verdict_view taken.verdict);
-  counts = counts_after known.counts number (verdict_view taken.verdict)
-      (notes_if about.notes.items (verdict_view taken.verdict));
+      || is_strict_in known (option_map string_bytes about.uri)
+      (option_map change_view taken.change) (verdict_view taken.verdict);
+  counts = counts_noted known.counts number (verdict_view taken.verdict)
+      (uri_text (noted_of about)) (notes_if about.notes.items (verdict_view taken.verdict));
 }
 
 -- Of a record before which the session was `s`. The change is one that a running server received.
@@ -81,8 +107,9 @@ pub record AreFacts (known : Known) (s : Session) (r : Record) (facts : Facts) :
       }
   pub saved : option_map string_bytes facts.saved
       ≡ saved_in r.head.side (incoming_of (reading r.body)) (notification_params (reading r.body))
-  pub rare : facts.rare.items
-      ≡ rare_notes known.counts (notes_of s known.ranged r.body (judge s r).verdict)
+  pub rare : facts.rare.items ≡ rare_notes known.counts
+      (uri_text (noted_in r.head.side (incoming_of (reading r.body))
+      (notification_params (reading r.body)))) (notes_of s known.growths known.ranged r.body (judge s r).verdict)
 
 -- ---- the lines, by the facts
 

@@ -11,9 +11,10 @@ use Rattle.log_session.specs.Canonical.{canonical_of_record, change_in}
 use Rattle.log_session.specs.Replay.{document_line}
 use Rattle.log_session.specs.Settings.{log_config}
 use Rattle.log_report.specs.Check.{verdict_word}
-use Rattle.log_report.specs.Lines.{Known, is_renamed, known_after, last_in, nothing_known, uri_of}
+use Rattle.log_report.specs.Lines.{Known, hint_of, known_after, last_in, nothing_known, uri_of}
 use Rattle.log_report.specs.Notes.{note_words, notes_of}
-use Rattle.log_report.specs.Reasons.{reason_words, renamed_words}
+use Rattle.log_report.specs.declared.facts.Hint.{Hint}
+use Rattle.log_report.specs.Reasons.{reason_words, hint_words}
 use Rattle.log_session.specs.Session.{Session, Judged, Verdict, answered, bad, has_changed, is_refused, judge, opened}
 use Rattle.log_report.specs.Trace.{document_after, id_of, is_json, method_of, side_word, traced, within}
 use Rattle.log_session.specs.OneLine.{one_line}
@@ -59,12 +60,12 @@ abbrev pub id_value : IdData → Json
 id_value (whole z) = integer z
 id_value (text s) = string s
 
--- Why a record was refused, if it counts as refused. `renamed`: may its document be another one
--- under a new name?
-abbrev pub reason_value : LimitsData → IncomingData → Bool → Verdict → Option Json
-reason_value limits m renamed (answered answer) = if is_refused answer then
-    Some (string (reason_words limits (change_in m) answer ++ renamed_words renamed)) else None
-reason_value limits m renamed verdict = None
+-- Why a record was refused, if it counts as refused. `hint`: what comes after the
+-- words.
+abbrev pub reason_value : LimitsData → IncomingData → Option Hint → Verdict → Option Json
+reason_value limits m hint (answered answer) = if is_refused answer then
+    Some (string (reason_words limits (change_in m) answer ++ hint_words hint)) else None
+reason_value limits m hint verdict = None
 
 -- The notes of a record.
 abbrev pub notes_value : List Note → Option Json
@@ -95,10 +96,10 @@ trace_value details known s r j m = object (members_with (
     ∷ (
       codes "reason",
       reason_value j.session.server.config.limits m
-          (is_renamed known (uri_of r.head.side m) j.verdict) j.verdict,
+          (hint_of known r j m) j.verdict,
     )
     ∷ (codes "last", option_map natural (last_in known (uri_of r.head.side m) j.verdict))
-    ∷ (codes "notes", notes_value (notes_of s known.ranged r.body j.verdict))
+    ∷ (codes "notes", notes_value (notes_of s known.growths known.ranged r.body j.verdict))
     ∷ (
       codes "version",
       option_map (λ entry. integer entry.version)

@@ -1,22 +1,26 @@
 //! What is suspicious of a message on the documents before it.
 
-ghost use Rattle.std.specs.Prelude.{◌≡◌, IfOk, option_map, List, string_bytes, true, ℕ};
+ghost use Rattle.std.specs.Prelude.{◌≡◌, ◌++◌, IfOk, OnOk, if◌then◌else◌, option_map, string_bytes, true};
 ghost use Rattle.serde_json.specs.View.{view};
 ghost use Rattle.lsp_message.specs.Lengths.{is_save};
 ghost use Rattle.lsp_message.specs.Message.{reading};
 ghost use Rattle.lsp_message.specs.Seen.{change_view};
 ghost use Rattle.lsp_server.specs.Seen.{incoming_view};
 ghost use Rattle.lsp_store.specs.Table.{entry_at};
-ghost use Rattle.log_report.specs.Explain.{saved_in};
+ghost use Rattle.log_report.specs.Growths.{grown_in, odd_notes};
+ghost use Rattle.log_report.specs.Lines.{saved_in};
 ghost use Rattle.log_report.specs.Notes.{changing_notes, notes_if, notes_on, opening_notes};
 ghost use Rattle.log_report.specs.Notes.{terms_in};
 ghost use Rattle.log_session.specs.inside.Bodies.{body_view};
+ghost use Rattle.log_report.specs.inside.Lacks.{is_broken};
 ghost use Rattle.log_report.specs.inside.Facts.{IsAbout};
 ghost use Rattle.log_session.specs.inside.Reads.{IsNotedOf};
 ghost use Rattle.log_session.specs.inside.Verdicts.{verdict_view};
 
 use crate::facts::About;
 use crate::facts::asked::uri_of;
+use crate::growths::{Grown, Growths, Pace, grown_by};
+use crate::lacks::{broken_params, lack_in};
 use crate::notes::Note;
 use crate::notes::changes::{Terms, push_batch_notes};
 use crate::notes::returns::{has_feed, has_lone_return};
@@ -26,29 +30,38 @@ use lsp_log::Sender;
 use lsp_message::{ChangeParams, Noted, OpenParams};
 use lsp_server::{Answer, Incoming, Server};
 use lsp_text::Encoding;
+use serde_json::Value;
 use std::alloc::{AllocError, Global};
 
 /// Returns what a record is about that was read. A server's record is about no document.
 pub(super) fn about_of(
     alloc: Global,
     server: &Server,
+    growths: &Growths,
     ranged: bool,
+    body: &[u8],
     read: &RecordBody<'_>,
 ) -> Result<About, AllocError>
-    ensures { IfOk result (λ about. (body : List ℕ) → IsNotedOf true body read.now
-        → IsAbout server.now ranged (reading body) (body_view read.now) about) }
+    ensures { IfOk result (λ about. IsNotedOf true body.now read.now
+        → IsAbout server.now growths.now.documents.items ranged (reading body.now)
+        (body_view read.now) about) }
 {
     let RecordBody::Client(_, incoming, noted) = read else {
         return Ok(About {
             uri: None,
             saved: None,
             notes: Vec::new(alloc),
+            lack: None,
+            grown: None,
         });
     };
+    let params = broken_params(alloc, body, incoming)?;
     Ok(About {
         uri: copied_text(alloc, uri_of(Sender::Client, incoming))?,
-        saved: copied_text(alloc, saved_in(incoming, noted))?,
-        notes: notes_on(alloc, server, ranged, incoming, noted)?,
+        saved: copied_text(alloc, saved_in(incoming, noted, params.as_ref()))?,
+        notes: notes_on(alloc, server, growths, ranged, incoming, noted)?,
+        lack: lack_in(incoming, params.as_ref()),
+        grown: grown_in(server, growths, incoming),
     })
 }
 
@@ -59,12 +72,17 @@ fn is_save(method: &str) -> bool
     method == "textDocument/didSave"
 }
 
-/// Returns the URI of the document whose text was saved.
-fn saved_in<'a>(incoming: &Incoming, noted: &'a Noted) -> Option<&'a str>
+/// Returns the URI of the document whose text was saved, or which params name that can't be read.
+fn saved_in<'a>(incoming: &Incoming, noted: &'a Noted, params: Option<&'a Value>) -> Option<&'a str>
     ensures { option_map (λ uri. uri.now) result ≡ saved_in Sender.Client
-        (incoming_view incoming.now) (option_map view noted.now.params) }
+        (incoming_view incoming.now) (if is_broken (incoming_view incoming.now)
+        then option_map (λ params. view params.now) params.entry
+        else option_map view noted.now.params) }
 {
     match incoming {
+        Incoming::DidOpen(None) | Incoming::DidChange(None) | Incoming::DidClose(None) => {
+            saved_uri(params)
+        }
         Incoming::OtherNotification { method } if is_save(method) => {
             saved_uri(noted.params.as_ref())
         }
@@ -72,21 +90,37 @@ fn saved_in<'a>(incoming: &Incoming, noted: &'a Noted) -> Option<&'a str>
     }
 }
 
+/// Returns how much the version of a change is above the current one of its document.
+fn grown_in(server: &Server, growths: &Growths, incoming: &Incoming) -> Option<Grown>
+    ensures { result ≡ grown_in server.now growths.now.documents.items Sender.Client
+        (incoming_view incoming.now) }
+{
+    let Incoming::DidChange(Some(params)) = incoming else {
+        return None;
+    };
+    let document = server.store().get(&params.uri)?;
+    let before = growths.pace(&params.uri).last_sent(document.version());
+    grown_by(params.version, before, params.changes.len())
+}
+
 /// Returns what there is to note of a message, unless it is refused.
 fn notes_on(
     alloc: Global,
     server: &Server,
+    growths: &Growths,
     ranged: bool,
     incoming: &Incoming,
     noted: &Noted,
 ) -> Result<Vec<Note>, AllocError>
-    ensures { IfOk result (λ notes. notes.items ≡ notes_on server.now ranged noted.now.lengths.items
+    ensures { IfOk result (λ notes. notes.items
+        ≡ notes_on server.now growths.now.documents.items ranged noted.now.lengths.items
         (option_map view noted.now.params) (incoming_view incoming.now)) }
 {
     match incoming {
         Incoming::DidOpen(Some(params)) => opening_notes(alloc, server, params),
         Incoming::DidChange(Some(params)) => {
-            changing_notes(alloc, server, ranged, &noted.lengths, params)
+            let pace = growths.pace(&params.uri);
+            changing_notes(alloc, server, pace, ranged, &noted.lengths, params)
         }
         Incoming::OtherNotification { method } => {
             let mut notes = Vec::new(alloc);
@@ -125,12 +159,13 @@ fn opening_notes(
 fn changing_notes(
     alloc: Global,
     server: &Server,
+    pace: Pace,
     ranged: bool,
     lengths: &[Option<u64>],
     params: &ChangeParams,
 ) -> Result<Vec<Note>, AllocError>
     ensures { IfOk result (λ notes. notes.items
-        ≡ changing_notes (terms_in server.now ranged lengths.now) (change_view params.now)
+        ≡ changing_notes pace (terms_in server.now ranged lengths.now) (change_view params.now)
         (entry_at server.now.table (string_bytes params.now.uri))) }
 {
     let mut notes = Vec::new(alloc);
@@ -147,8 +182,28 @@ fn changing_notes(
     if sent <= current {
         notes.push(Note::OldVersion { sent, current })?;
     }
+    let grown = grown_by(sent, pace.last_sent(current), params.changes.len());
+    push_odd_note(&mut notes, pace, grown)?;
     push_batch_notes(alloc, &mut notes, document.text(), &terms, &params.changes)?;
     Ok(notes)
+}
+
+/// Notes a version that breaks the habit of its document.
+fn push_odd_note(notes: &mut Vec<Note>, pace: Pace, grown: Option<Grown>) -> Result<(), AllocError>
+    ensures { OnOk result (notes.new.items ≡ notes.old.items ++ odd_notes pace grown) }
+{
+    let Some(grown) = grown else {
+        return Ok(());
+    };
+    if pace.is_odd(grown) {
+        notes.push(Note::OddVersion {
+            sent: grown.sent,
+            before: grown.before,
+            changes: grown.changes,
+            usual: pace.usual_step(),
+        })?;
+    }
+    Ok(())
 }
 
 /// Returns the notes of a message that is accepted or ignored; any other has none.

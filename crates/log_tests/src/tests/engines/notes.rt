@@ -164,6 +164,9 @@ fn whole_texts_are_noted_where_ranges_were_asked_for(rt: HostRuntime) -> Result<
 const LENIENT: &str =
     "1 reply\n2 changed\n3 changed of \"file:///a\": the document was open already\n4 changed\n5 changed of \"file:///a\": version 2 was sent, and the current one was 2\nmessages of the editor: 5, changed documents: 4\nnoted open already: 1, first message 3\nnoted an old version: 1, first message 5\nnoted changes nothing: 1, first message 5\n";
 
+const LENIENT_HIDDEN: &str =
+    "Messages with notes that are on no line: 1, from 5 to 5; `--all` has them.\n";
+
 /// Returns whether what lenient limits accept is noted.
 fn is_accepted(alloc: Global) -> Result<bool, Fail> {
     let settings = settings()?;
@@ -173,7 +176,7 @@ fn is_accepted(alloc: Global) -> Result<bool, Fail> {
     };
     let input = log(alloc, &[INITIALIZE, OPEN, OPEN, WHOLE, WHOLE])?;
     let run = run_with(alloc, Command::Explain, &input, settings, SMOOTH)?;
-    let output = format!(in alloc; "{LENIENT}{SEE}{HIDDEN}")?;
+    let output = format!(in alloc; "{LENIENT}{SEE}{LENIENT_HIDDEN}")?;
     Ok(run.answer == Ended(0, 5, 0).answer() && run.output.as_slice() == output.as_bytes())
 }
 
@@ -198,7 +201,7 @@ static SAME: [&str; 6] = [
 const SAME_COUNTED: &str =
     "messages of the editor: 6, changed documents: 5\nnoted a CR alone: 1, first message 2\nnoted changes nothing: 3, first message 4\nNothing was refused; see the notes. `lspsync replay --at N`: the texts after message N.\n";
 
-const HIDDEN: &str = "Some notes are on no line: `--all` has each on its line.\n";
+const HIDDEN: &str = "Messages with notes that are on no line: 3, from 4 to 6; `--all` has them.\n";
 
 /// What `check` with reasons writes of this session: without the notes that changes change nothing,
 /// with each note, and only lines with a reason or notes.
@@ -389,5 +392,29 @@ fn has_few_notes(alloc: Global) -> Result<bool, Fail> {
 #[test]
 fn a_line_has_few_notes_of_a_kind(rt: HostRuntime) -> Result<(), Fail> {
     assert!(rt; has_few_notes(rt.alloc())?);
+    Ok(())
+}
+
+/// The notes and refusals of a document whose versions grow by one until 9 follows 6, where 8 comes
+/// later.
+const ODD: &str =
+    "8 changed of \"file:///a\": version 9 came after 6, with 1 change, and until here it grew by 1\n9 refused S5 of \"file:///a\": version 8 was sent, and the current one is 9; this version was left out before: messages were swapped; see message 8\nmessages of the editor: 9, changed documents: 7\nrefused by S5: 1, first message 9\nnoted an odd version: 1, first message 8\nRefused messages change nothing. `lspsync replay --at N`: the texts after message N.\n";
+
+/// Returns whether a version that breaks the habit of its document is noted, and one that was left out
+/// before is called that.
+fn has_odd_versions(alloc: Global) -> Result<bool, Fail> {
+    let mut input = log(alloc, &[INITIALIZE, OPEN])?;
+    for version in [2, 3, 4, 5, 6, 9, 8] {
+        let text = format!(in alloc; r#"{{"text":"{version}"}}"#)?;
+        let changed = change(alloc, version, text.as_str())?;
+        input.extend_from_slice(&frame(alloc, changed.as_bytes())?)?;
+    }
+    let run = run_with(alloc, Command::Brief, &input, settings()?, SMOOTH)?;
+    Ok(run.output.as_slice() == ODD.as_bytes())
+}
+
+#[test]
+fn versions_that_break_a_habit_are_noted(rt: HostRuntime) -> Result<(), Fail> {
+    assert!(rt; has_odd_versions(rt.alloc())?);
     Ok(())
 }
