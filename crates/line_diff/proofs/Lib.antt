@@ -3,5 +3,7 @@ mod GapLemmas
 mod HunkLemmas
 mod LineLemmas
 mod MakerLemmas
+mod NumberLemmas
+mod RepeatLemmas
 mod ReportLemmas
 mod Prelude

@@ -5,6 +5,7 @@ pub mod Hunks
 pub mod Lines
 pub mod Makers
 pub mod Owners
+pub mod Repeats
 pub mod Report
 pub mod Shown
 pub mod Tracked

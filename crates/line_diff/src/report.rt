@@ -1,7 +1,7 @@
 //! How a document's text and a file differ, in words.
 
 ghost use Rattle.std.specs.Prelude.{◌≡◌, ◌++◌, ◌-◌, OnOk, decimal, flat_map, map};
-ghost use Rattle.line_diff.specs.Makers.{numbers_in};
+ghost use Rattle.line_diff.specs.Repeats.{row_numbers};
 ghost use Rattle.line_diff.specs.Report.{alike_words, alone_words, ends_words, file_line_at, hunk_head};
 ghost use Rattle.line_diff.specs.Report.{hunk_words, judgement, last_maker_words, maker_words};
 ghost use Rattle.line_diff.specs.Report.{number_words, other_for, own_line, own_line_at, text_at, words_from};
@@ -9,7 +9,8 @@ ghost use Rattle.line_diff.specs.Report.{number_words, other_for, own_line, own_
 use crate::alike::{are_alike, first_end, has_last_end, has_mark, have_same_ends, have_same_marks};
 use crate::hunks::{Hunk, hunks_of};
 use crate::lines::{line_at, lines_of};
-use crate::makers::{Makers, NAMED, Numbers, first_of, makers_of, number_at, row_at, rows_of};
+use crate::makers::{Makers, NAMED, first_of, makers_of, number_at, row_at, rows_of};
+use crate::repeats::Row;
 use crate::shown::push_shown;
 use itoa::Buffer;
 use std::alloc::{AllocError, Global};
@@ -143,20 +144,20 @@ fn push_file_lines(
 /// The lines of a document's text, with the changes that made them, and those of a file.
 #[derive(Drop)]
 struct Sides<'a> {
-    rows: Vec<Numbers<'a>>,
+    rows: Vec<Row<'a>>,
     lines: Vec<&'a str>,
     others: Vec<&'a str>,
 }
 
 impl<'a> Model for Sides<'a> {
     ghost use Rattle.std.specs.Prelude.{map};
-    ghost use Rattle.line_diff.specs.Makers.{numbers_in};
+    ghost use Rattle.line_diff.specs.Repeats.{row_numbers};
     ghost use Rattle.line_diff.specs.Report.{SideLines};
 
     ghost Value = { SideLines };
 
     ghost view = { λ s. record {
-      rows = map numbers_in s.rows.items;
+      rows = map row_numbers s.rows.items;
       lines = map (λ line. line.now) s.lines.items;
       others = map (λ line. line.now) s.others.items;
     } };
@@ -192,7 +193,7 @@ impl<'a> Sides<'a> {
         push_words(buffer, "after line ")?;
         push_number(buffer, hunk.start as u64)?;
         push_words(buffer, " (made by message ")?;
-        push_number(buffer, number_at(row_at(&self.rows, hunk.start).places, 0))?;
+        push_number(buffer, number_at(row_at(&self.rows, hunk.start), 0))?;
         push_words(buffer, "):\n")
     }
 
@@ -261,18 +262,18 @@ fn push_ends(buffer: &mut Vec<u8>, same: bool, known: bool, last: u64) -> Result
 fn push_alike(
     buffer: &mut Vec<u8>,
     text: &[u8],
-    owners: &[u64],
+    numbers: Row<'_>,
     file: &[u8],
 ) -> Result<(), AllocError>
     ensures { OnOk result (buffer.new.items ≡ buffer.old.items
-        ++ alike_words text.now owners.now file.now) }
+        ++ alike_words text.now (row_numbers numbers.entry) file.now) }
 {
     push_words(buffer, "the file's, but for\n")?;
     push_ends(
         buffer,
         have_same_ends(text, file),
         have_same_marks(text, file),
-        number_at(owners, first_end(text, file)),
+        number_at(numbers.from_place(first_end(text, file)), 1),
     )?;
     push_alone(
         buffer,
@@ -295,17 +296,17 @@ pub(crate) fn push_judgement(
     alloc: Global,
     buffer: &mut Vec<u8>,
     text: &str,
-    numbers: Numbers<'_>,
+    numbers: Row<'_>,
     file: &str,
 ) -> Result<(), AllocError>
     ensures { OnOk result (buffer.new.items ≡ buffer.old.items
-        ++ judgement text.now (numbers_in numbers.entry) file.now) }
+        ++ judgement text.now (row_numbers numbers.entry) file.now) }
 {
     if text == file {
         return push_words(buffer, "the file's\n");
     }
     if are_alike(alloc, text.as_bytes(), file.as_bytes())? {
-        return push_alike(buffer, text.as_bytes(), numbers.owners, file.as_bytes());
+        return push_alike(buffer, text.as_bytes(), numbers, file.as_bytes());
     }
     let lines = lines_of(alloc, text)?;
     let others = lines_of(alloc, file)?;
