@@ -1,5 +1,6 @@
 mod FirstLemmas
 mod GapLemmas
+mod HunkLawLemmas
 mod HunkLemmas
 mod LineLemmas
 mod MakerLemmas

@@ -9,3 +9,4 @@ pub mod Repeats
 pub mod Report
 pub mod Shown
 pub mod Tracked
+pub mod laws

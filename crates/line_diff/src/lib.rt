@@ -6,6 +6,7 @@
 //! - `report`: how the text and a file differ, in words.
 //! - `makers`: by which changes a line differs.
 //! - `lines`: the lines of a text. `hunks`: where two texts have other lines.
+//! - `laws`: what hunks say of two texts.
 //! - `alike`: whether texts differ by line ends, the last line end and a byte order mark alone.
 //! - `shown`: a line in quotes, with what can't be seen in it.
 #![tactic(auto)]
@@ -13,6 +14,7 @@
 mod alike;
 mod comparison;
 mod hunks;
+mod laws;
 mod lines;
 mod makers;
 mod numbers;
@@ -23,5 +25,6 @@ mod shown;
 mod tracked;
 
 pub use comparison::{Comparison, ends_so};
+pub use laws::hunk_laws;
 pub use owners::Splice;
 pub use tracked::TrackedText;
