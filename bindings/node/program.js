@@ -51,6 +51,7 @@ function runProgram(module_, words, system) {
       put(Uint8Array.of(0, system.isFile(path(at)) ? 0x80 : 0), Number(out) + 28, 2);
       return 0;
     }, -1),
+    rattle_getrlimit: () => -1, // (no engine says it)
     rattle_signal: () => 0n,
     rattle_errno: () => errno,
     rattle_set_errno: (number) => void (errno = number),

@@ -1,6 +1,6 @@
 """Compares what the definitions say of logs and events with what the programs write: each byte, the status, and the line on a fault."""
-import collections
 import json
+import multiprocessing
 import os
 import pathlib
 import subprocess
@@ -94,16 +94,26 @@ def may_follow(run, words, path, data, saved, said, line):
                and said_of(run, [*words, "--encoding", name], path, data, saved).status == 0 for name, tag in ENCODINGS.items())
 
 
+GIVEN = []  # to each process
+
+
+def compared(path):
+    """A line for each command of which a program writes something else than the definitions say, and how many commands there are."""
+    (run, program), data, lines, count = GIVEN, pathlib.Path(path).read_bytes(), [], 0
+    run.forget()
+    for count, (words, saved) in enumerate(inputs_of(run, path, data), 1):
+        if what := difference(run, program, path, data, words, saved):
+            lines.append(f"{' '.join(words)} {path}: {what}")
+    return lines, count
+
+
 def compare(run, program, paths):
-    """Prints where a program differs, and sums; returns the status."""
-    counts = collections.Counter()
-    for path in paths:
-        data = pathlib.Path(path).read_bytes()
-        run.forget()
-        for words, saved in inputs_of(run, path, data):
-            what = difference(run, program, path, data, words, saved)
-            counts[what is None] += 1
-            if what:
-                print(f"{' '.join(words)} {path}: {what}", flush=True)
-    print(f"{counts[True]} the same, {counts[False]} not")
-    return 1 if counts[False] else 0
+    """Prints where a program differs, and sums; returns the status. Each processor takes some of the files."""
+    same = different = 0
+    with multiprocessing.get_context("fork").Pool(len(os.sched_getaffinity(0)), GIVEN.extend, [(run, program)]) as processes:
+        for lines, count in processes.imap(compared, paths):
+            different += len(lines)
+            same += count - len(lines)
+            print("".join(f"{it}\n" for it in lines), end="", flush=True)
+    print(f"{same} the same, {different} not")
+    return 1 if different else 0

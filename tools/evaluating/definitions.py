@@ -78,7 +78,7 @@ class Definitions:
     def __init__(self, top):
         self.repository = Specifications(top)
         self.names, self.equations, self.rows, self.reached = {}, functools.cache(equations_of), [], set()
-        self.kept, self.callers = [], collections.defaultdict(set)
+        self.kept, self.made, self.callers = [], {}, collections.defaultdict(set)
         self.space = {it.__name__: it for it in (apply, Case, case, equal, Function, joined, List, Record, CannotRun)}
         late = functools.cache(lambda name: lambda *args: self.space[name](*args))
         self.space.update(EMPTY=EMPTY, reach=self.reached.add, late=late)
@@ -92,9 +92,16 @@ class Definitions:
         self.space[name] = keeping(self.space[name])
         self.kept.append(self.space[name])
 
+    def shared(self, key, make):
+        """What was made once for a key."""
+        if key not in self.made:
+            self.made[key] = make()
+        return self.made[key]
+
     def forget(self):
         for it in self.kept:
             it.cache_clear()
+        self.made.clear()
         SUMS.clear()
 
     # ---- names

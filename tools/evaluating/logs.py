@@ -2,7 +2,7 @@
 import collections
 import re
 
-from .values import NONE, CannotRun, apply, bytes_of, case, list_of, record, some
+from .values import EMPTY, NONE, CannotRun, apply, bytes_of, case, list_of, record, some
 
 # The bytes of a header, and of what more bytes may make one
 LINE = rb"[!-9;-~]+:[\t -~]*\r\n"
@@ -50,7 +50,7 @@ class Frames:
         end = sum(header) if header else 0
         if not header or end > len(self.data):
             return None
-        return end, list_of(self.data[start:end]), list_of(self.data[header[0]:end])
+        return end, *(self.run.shared(it, lambda: list_of(it)) for it in (self.data[start:end], self.data[header[0]:end]))
 
     def all_from(self, start):
         """Yields each frame and its body."""
@@ -66,14 +66,15 @@ class Log:
         line = bytes_of(run("version_line"))
         is_two = rules.x_versions and data.startswith(line)
         self.run, self.data, self.version = run, data, case("Two" if is_two else "One")
-        self.records, self.at, self.fault = [], len(line) if is_two else 0, None
+        self.records, self.taken, self.at, self.fault = [], EMPTY, len(line) if is_two else 0, None
         if is_two and rules.x_refuses_two:
             self.fault = case("BadLog", 0)
             return
         self.frames = Frames(run, data, rules.x_max_body)
         while self.at < len(data) and self.fault is None:
             self.take_record(is_two)
-        together = run("together", self.version, list_of(self.records), list_of(data[self.at:]))
+        self.taken = list_of(self.records)
+        together = run("together", self.version, self.taken, list_of(data[self.at:]))
         if bytes_of(run("line_of", self.version)) + bytes_of(together) != data:
             raise CannotRun("a log was split wrongly")
 
@@ -93,6 +94,11 @@ class Log:
 
     def is_line_due(self):
         return self.run("is_line_due", self.version, list_of(self.records[:1]))
+
+
+def log_in(run, data, rules):
+    """The log that bytes are. Commands that read by one rule share its bodies, and what was computed of them."""
+    return run.shared((data, rules.x_max_body, rules.x_versions, rules.x_refuses_two), lambda: Log(run, data, rules))
 
 
 LIMITS = ("body", "text", "docs", "changes")
@@ -184,8 +190,8 @@ def run_log(run, words, data, saved=None, name=None):
 
 def run_engine(run, engine, data):
     """The result of an engine over bytes, and what it writes."""
-    log = Log(run, data, engine.x_log_rules)
-    output = apply(engine.x_run_output, list_of(log.records))
+    log = log_in(run, data, engine.x_log_rules)
+    output = apply(engine.x_run_output, log.taken)
     if output.x_stop.args:
         return output.x_stop.args[0], bytes_of(output.x_out)
     if log.fault:

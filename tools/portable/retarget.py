@@ -22,7 +22,7 @@ LAYOUTS = {
 PROCESSORS = {"aarch64": "generic", "x86_64": "x86-64-v2", "wasm32": "lime1", "wasm64": "lime1"}
 # What a program asks of a C library, by the names that system.c and program.js have.
 FOREIGN = {"main": "rattle_main", "__sysv_signal": "rattle_signal", "__xpg_strerror_r": "rattle_strerror",
-           **{name: f"rattle_{name}" for name in ("open", "close", "read", "write", "isatty", "statx")}}
+           **{name: f"rattle_{name}" for name in ("open", "close", "read", "write", "isatty", "statx", "getrlimit")}}
 NAME = r'(?:%|@)(?:"[^"]*"|[\w.$-]+)'
 TYPE = r"(?:ptr|i\d+|float|double|<\d+ x i\d+>|\[\d+ x i\d+\])"
 

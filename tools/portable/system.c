@@ -21,7 +21,7 @@ typedef __UINT16_TYPE__ uint16_t;
 typedef __INT32_TYPE__ int32_t;
 typedef __INT64_TYPE__ int64_t;
 typedef __UINT64_TYPE__ uint64_t;
-int *__error(void), open(const char *, int, ...), close(int), isatty(int);
+int *__error(void), open(const char *, int, ...), close(int), isatty(int), getrlimit(int, void *);
 long read(int, void *, size_t), write(int, const void *, size_t);
 void *memcpy(void *, const void *, size_t), (*signal(int, void (*)(int)))(int);
 size_t strlen(const char *);
@@ -41,6 +41,7 @@ enum { SIGPIPE = 13, EINVAL = 22, ERANGE = 34, EAGAIN = 35, O_RDONLY = 0, O_CLOE
 #include <signal.h>
 #include <stdint.h>
 #include <string.h>
+#include <sys/resource.h>
 #include <sys/stat.h>
 #include <unistd.h>
 #endif
@@ -100,6 +101,16 @@ int32_t rattle_close(int32_t file) { return close(file); }
 int32_t rattle_isatty(int32_t file) { return isatty(file) != 0; }
 int64_t rattle_read(int32_t file, unsigned char *to, uint64_t room) { return read(file, to, room); }
 int64_t rattle_write(int32_t file, const unsigned char *from, uint64_t length) { return write(file, from, length); }
+
+/* The limit of the stack, and the most that it may be set to: two numbers of 64 bits. A program of Windows has its own, which isn't small. */
+int32_t rattle_getrlimit(int32_t of, void *limits) {
+#ifdef _WIN32
+    (void)of, (void)limits;
+    return -1;
+#else
+    return getrlimit(of, limits);
+#endif
+}
 
 /* The programs ask for one thing: that a write to a closed pipe fails and doesn't end them. Windows has no signal for that. */
 int64_t rattle_signal(int32_t number, int64_t way) {

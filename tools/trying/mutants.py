@@ -4,7 +4,7 @@ import random
 import re
 
 from evaluating.language import Token
-from .reached import counted_in, crates_of, items_of, result_of, signature
+from .reached import counted_in, crates_of, items_of, results_of, signature
 
 PAIRS = ["nat_lt nat_le", "int_lt int_le", "min max", "take drop", "before_first after_first", "list_any list_all", "true false", "&& ||",
          "+ -"]
@@ -74,7 +74,7 @@ class Trial:
         self.run, self.items, self.said, self.reaching = run, list(items_of(run, top, 120)), [], collections.defaultdict(list)
         for number, item in enumerate(self.items):
             run.reached.clear()
-            self.said.append(result_of(run, item))
+            self.said.append(results_of(run, item))
             for row in {(run.rows[it].definition, run.rows[it].line) for it in run.reached}:
                 self.reaching[row].append(number)
 
@@ -88,7 +88,7 @@ class Trial:
         self.run.set_equations(mutant.definition, equations)
         try:
             for number in sorted(reaching, key=lambda it: self.items[it].size):
-                if result_of(self.run, self.items[number]) != self.said[number]:
+                if results_of(self.run, self.items[number]) != self.said[number]:
                     return self.items[number].name
         finally:
             self.run.set_equations(mutant.definition, before)

@@ -13,7 +13,7 @@ from evaluating.vectors import answer, vectors_of
 
 # In these each row is reached, or has a reason
 CRATES = ["lsp_text", "lsp_edit", "lsp_store", "lsp_frame", "lsp_message", "lsp_server", "lsp_client"]
-Item = collections.namedtuple("Item", "name size ask")
+Item = collections.namedtuple("Item", "name size asks")
 # The least and the greatest value of each limit, and those beside them
 LIMITS = {
     "max_body": (4095, 4096, 2 ** 30, 2 ** 30 + 1), "max_text": (0, 2 ** 30, 2 ** 30 + 1), "max_docs": (0, 1, 65536, 65537),
@@ -27,30 +27,33 @@ def limit_refused(run, name, value):
 
 
 def items_of(run, top, count):
-    """Yields what is run: each vector, limits at their bounds, and each command over the logs of examples/ and over random ones and
-    events."""
+    """Yields what is run: limits at their bounds, each vector, and the logs of examples/, random ones and events, each with all commands."""
     for name, values in LIMITS.items():
-        for value in values:
-            yield Item(f"{name} {value}", 1, functools.partial(limit_refused, name=name, value=value))
+        yield Item(name, 1, [functools.partial(limit_refused, name=name, value=value) for value in values])
     for kind, vector in vectors_of(top):
-        yield Item(vector["name"], len(str(vector)), functools.partial(answer, kind=kind, vector=vector))
+        yield Item(vector["name"], len(str(vector)), [functools.partial(answer, kind=kind, vector=vector)])
     sessions, inputs = Sessions(1), list(chosen_sessions())
     for path in sorted(glob.glob(f"{top}/examples/*.log") + glob.glob(f"{top}/examples/*.events")):
         inputs.append((os.path.basename(path), pathlib.Path(path).read_bytes()))
     for number in range(count):
         inputs += [(f"{number}.log", sessions.log()), (f"{number}.events", sessions.events(number % 2))]
     for name, data in inputs:
-        for words, saved in inputs_of(run, name, data):
-            yield Item(f"{' '.join(words)} {name}", len(data), functools.partial(said_of, words=words, path=name, data=data, saved=saved))
+        run.forget()
+        yield Item(name, len(data), [functools.partial(said_of, words=words, path=name, data=data, saved=saved)
+                                     for words, saved in inputs_of(run, name, data)])
 
 
-def result_of(run, item):
-    """What the definitions say of an item; the error, if they can't be run."""
-    run.forget()
+def said_to(run, ask):
+    """What the definitions say; the error, if they can't be run."""
     try:
-        return item.ask(run)
+        return ask(run)
     except (CannotRun, ValueError, TypeError, AttributeError, IndexError, RecursionError) as why:
         return f"{type(why).__name__}: {why}"
+
+
+def results_of(run, item):
+    run.forget()
+    return [said_to(run, ask) for ask in item.asks]
 
 
 def signature(definition):
@@ -102,7 +105,7 @@ def print_reached(run, top, crates):
     """Prints of each crate how many rows were reached, which weren't, and why. Returns 1 if there is a row without a reason."""
     crates, reasons, status = crates_of(run, crates or CRATES), reasons_in(f"{top}/tools/trying/unreached"), 0
     for item in items_of(run, top, 60):
-        result_of(run, item)
+        results_of(run, item)
     rows, used = rows_of(run, crates), set()
     for crate in crates:
         called = {one: rows[one] for one in counted_in(run, [crate]) if is_called(run, one, set())}

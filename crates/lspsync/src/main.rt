@@ -12,6 +12,7 @@
 //! - `reached`: up to which record a faulty log can be replayed.
 //! - `wanted`: the document that a call names.
 //! - `process`: the process's own files and terminal.
+//! - `stack`: how much stack the system lets it have.
 #![tactic(auto)]
 
 mod beginning;
@@ -24,14 +25,16 @@ mod openings;
 mod process;
 mod reached;
 mod run;
+mod stack;
 #[cfg(test)]
 mod tests;
 mod wanted;
 
-use crate::ends::{Ending, refuse};
+use crate::ends::{Ending, refuse, say};
 use crate::process::{Announced, Disk};
 use crate::run::run;
-use lsp_program::exit_code;
+use crate::stack::{TOO_SMALL, is_too_small};
+use lsp_program::{OUT_OF_MEMORY, exit_code};
 use lsp_replay::Told;
 use std::env;
 use std::io::{self, BufWriter, IsTerminal};
@@ -42,6 +45,10 @@ use std::process::ExitCode;
 const GATHERED: usize = 65_536;
 
 fn main(rt: HostRuntime) -> ExitCode {
+    if is_too_small() {
+        let mut errors = Told::new(rt.stderr());
+        return exit_code(say(OUT_OF_MEMORY, None, TOO_SMALL, &mut errors).status);
+    }
     let ending = match answer(&rt) {
         Ok(ending) => ending,
         Err(error) => refuse(error.kind(), &mut Told::new(rt.stderr())),
