@@ -214,7 +214,7 @@ static void test_compare(void) {
     CHECK(is_outcome(ending, 1, 4, 0));
     CHECK(compares("file:///a", "!ab\nXY", log, LASPIDRU_OK,
                    "\"file:///a\" after message 4: the text is not the file's:\nline 2 (made by messages 2, 3): \"XYd\"\n"
-                   "  the file has: \"XY\"\n"
+                   "  the file, which differs from character 3 on, has: \"XY\"\n"
                    "For each line, a message named is wrong, a later one is missing or wrong, or an earlier mistake led it to the wrong line. Look at the lowest numbers after the opening first.\n", &ending));
     CHECK(is_outcome(ending, 1, 4, 0));
     CHECK(compares("a", "ab\nXYd", log_of(stale), LASPIDRU_OK, "\"file:///a\" after message 3: the text is the file's\n", &ending));

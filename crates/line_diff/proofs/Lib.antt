@@ -3,5 +3,8 @@ mod GapLemmas
 mod HunkLemmas
 mod LineLemmas
 mod MakerLemmas
+mod NameLemmas
+mod NumberLemmas
+mod RepeatLemmas
 mod ReportLemmas
 mod Prelude

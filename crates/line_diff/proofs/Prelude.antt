@@ -8,6 +8,7 @@ pub use Rattle.std.specs.Prelude.{codes, drop, false, flat_map, length, map, not
 pub use Rattle.line_diff.specs.Common.{are_equal, common_back, common_front, differ_at, differ_back_at, first_with}
 pub use Rattle.line_diff.specs.Hunks.{first_found, gap_at, gap_of, hunk_of, hunks_from, hunks_of, next_gap}
 pub use Rattle.line_diff.specs.Lines.{ends_line, lines_begun, lines_of}
-pub use Rattle.line_diff.specs.Makers.{greatest, numbers_in, rows_of, with_numbers}
+pub use Rattle.line_diff.specs.Makers.{greatest, rows_of, seconds, with_numbers}
+pub use Rattle.line_diff.specs.Repeats.{numbers_in, numbers_of, row_numbers, stacked}
 pub use Rattle.line_diff.specs.Report.{alike_words, difference_words, file_line_at, hunk_words, later_number, own_line_at, words_from}
 pub use Rattle.line_diff.specs.Shown.{shown_char, sign_of}

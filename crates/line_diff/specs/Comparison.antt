@@ -1,5 +1,5 @@
 -- A file, and the document of a session that is compared with it.
-use Rattle.std.specs.Prelude.{ℕ, ◌-◌, ◌+◌, Bool, false, not, ◌&&◌, min, nat_lt, if◌then◌else◌, length, drop, List, [], ◌++◌, Option, Some, None, codes, decimal}
+use Rattle.std.specs.Prelude.{ℕ, ◌-◌, ◌+◌, Bool, false, not, ◌&&◌, min, nat_lt, if◌then◌else◌, List, [], ◌++◌, Option, Some, None, option_map, codes, decimal}
 use Rattle.std.specs.Str.{bytes_eq}
 use Rattle.line_diff.specs.Report.{report_words}
 use Rattle.line_diff.specs.Shown.{shown}
@@ -9,7 +9,9 @@ use Rattle.line_diff.specs.declared.owners.Splice.{Splice}
 -- The document that is compared.
 pub record Followed : Type 0 where
   pub uri : List ℕ
-  pub text : Tracked
+  pub origins : Tracked
+  -- its text, once it was given
+  pub text : List ℕ
   -- since it was opened, the first messages about it that were refused, in words, and how many were
   pub refused : List ℕ
   pub refusals : ℕ
@@ -23,10 +25,6 @@ pub record ComparisonData : Type 0 where
   pub document : Option Followed
   pub second : Option (List ℕ)
 
--- Does a URI end so?
-abbrev pub ends_so : List ℕ → List ℕ → Bool
-ends_so uri ending = bytes_eq (drop (length uri - length ending) uri) ending
-
 -- Before the first message.
 abbrev pub new_comparison : List ℕ → List ℕ → ComparisonData
 new_comparison ending file = record {
@@ -36,23 +34,24 @@ new_comparison ending file = record {
   second = None;
 }
 
--- ---- after a message, which has given a text to a document: by splices, or as it opened it
+-- ---- after a message, which has given a text to a document: by splices, or as it opened it, with so
+-- many bytes
 
 -- The document that a message opens.
-abbrev pub opened_as : ℕ → List ℕ → List ℕ → Followed
-opened_as number uri text =
-    record { uri = uri; text = opened_by number text; refused = []; refusals = 0 }
+abbrev pub opened_as : ℕ → List ℕ → ℕ → Followed
+opened_as number uri len =
+    record { uri = uri; origins = opened_by number len; text = []; refused = []; refusals = 0 }
 
 -- The document that was open before.
-abbrev pub given : ℕ → List ℕ → Option (List Splice) → Followed → Followed
-given number text None d = opened_as number d.uri text
-given number text (Some splices) d = record d { text = changed_by number text splices d.text }
+abbrev pub given : ℕ → ℕ → Option (List Splice) → Followed → Followed
+given number len None d = opened_as number d.uri len
+given number len (Some splices) d = record d { origins = changed_by number splices d.origins }
 
 -- The document. The first one stays.
-abbrev pub followed_after : ℕ → List ℕ → List ℕ → Option (List Splice) → Option Followed → Followed
-followed_after number uri text splices None = opened_as number uri text
-followed_after number uri text splices (Some d) =
-    if bytes_eq d.uri uri then given number text splices d else d
+abbrev pub followed_after : ℕ → List ℕ → ℕ → Option (List Splice) → Option Followed → Followed
+followed_after number uri len splices None = opened_as number uri len
+followed_after number uri len splices (Some d) =
+    if bytes_eq d.uri uri then given number len splices d else d
 
 -- The URI of another document.
 abbrev pub second_after : List ℕ → Option Followed → Option (List ℕ) → Option (List ℕ)
@@ -60,9 +59,9 @@ second_after uri document (Some second) = Some second
 second_after uri None None = None
 second_after uri (Some d) None = if bytes_eq d.uri uri then None else Some uri
 
-abbrev pub taken : ℕ → List ℕ → List ℕ → Option (List Splice) → ComparisonData → ComparisonData
-taken number uri text splices c = record c {
-  document = Some (followed_after number uri text splices c.document);
+abbrev pub taken : ℕ → List ℕ → ℕ → Option (List Splice) → ComparisonData → ComparisonData
+taken number uri len splices c = record c {
+  document = Some (followed_after number uri len splices c.document);
   second = second_after uri c.document c.second;
 }
 
@@ -91,6 +90,18 @@ refused_by number uri code c = record c { document = refused_in number uri code 
 
 -- ---- at the end
 
+-- The document with its last text.
+abbrev pub given_text : List ℕ → Followed → Followed
+given_text text d = record d { text = text }
+
+abbrev pub ended_by : List ℕ → ComparisonData → ComparisonData
+ended_by text c = record c { document = option_map (given_text text) c.document }
+
+-- Is a URI the document's?
+abbrev pub is_followed : List ℕ → Option Followed → Bool
+is_followed uri None = false
+is_followed uri (Some d) = bytes_eq d.uri uri
+
 -- That two documents end so.
 abbrev pub choice_words : List ℕ → List ℕ → List ℕ
 choice_words first second =
@@ -107,8 +118,8 @@ refusals_words refused refusals =
 -- Whether the document's text is the file's, and else how they differ, and what was refused.
 abbrev pub followed_words : Followed → List ℕ → List ℕ
 followed_words d file =
-    shown d.uri ++ codes " " ++ report_words d.text file
-    ++ (if not (bytes_eq d.text.text file) && nat_lt 0 d.refusals
+    shown d.uri ++ codes " " ++ report_words d.origins d.text file
+    ++ (if not (bytes_eq d.text file) && nat_lt 0 d.refusals
     then refusals_words d.refused d.refusals else [])
 
 -- Nothing is written of a document that was never open.
@@ -124,4 +135,4 @@ comparison_words c = words_of c.document c.second c.file
 abbrev pub equality : Option Followed → Option (List ℕ) → List ℕ → Option Bool
 equality None second file = None
 equality (Some d) (Some second) file = Some false
-equality (Some d) None file = Some (bytes_eq d.text.text file)
+equality (Some d) None file = Some (bytes_eq d.text file)

@@ -4,7 +4,9 @@ pub mod Comparison
 pub mod Hunks
 pub mod Lines
 pub mod Makers
+pub mod Names
 pub mod Owners
+pub mod Repeats
 pub mod Report
 pub mod Shown
 pub mod Tracked

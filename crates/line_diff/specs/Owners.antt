@@ -1,5 +1,6 @@
--- Which of several numbered changes made each byte of a text so, after parts of it were replaced.
-use Rattle.std.specs.Prelude.{ℕ, ◌+◌, ◌-◌, length, drop, take, replicate, List, [], ◌∷◌, ◌++◌}
+-- Which of several numbered changes made each byte of a text so, and which was the last at each place
+-- between two bytes, after parts of it were replaced.
+use Rattle.std.specs.Prelude.{ℕ, ◌+◌, ◌-◌, ◌*◌, length, drop, take, replicate, List, [], ◌∷◌, ◌++◌}
 use Rattle.line_diff.specs.Common.{common_back, common_front}
 use Rattle.line_diff.specs.declared.owners.Splice.{Splice}
 
@@ -11,19 +12,19 @@ splice_between before text = record {
   len = length text - (common_front before text + common_back (common_front before text) before text);
 }
 
--- The numbers after a part was replaced by bytes of this number; those around it stay. A text has
--- one place more than bytes, so of places one more is replaced: `more` is 1, and 0 for bytes.
-abbrev pub spliced : ℕ → ℕ → Splice → List ℕ → List ℕ
-spliced more number splice numbers =
-    take splice.start numbers ++ replicate (splice.len + more) number
-    ++ drop (splice.end + more) numbers
+-- So many bytes, and the places before each and at the end.
+abbrev pub with_places : ℕ → ℕ
+with_places len = 2 * len + 1
+
+-- The numbers of a text's places and bytes, in their order, after a part was replaced by bytes of
+-- this number; those around it stay. The places at both ends of the part are replaced too.
+abbrev pub spliced : ℕ → Splice → List ℕ → List ℕ
+spliced number splice numbers =
+    take (2 * splice.start) numbers ++ replicate (with_places splice.len) number
+    ++ drop (with_places (splice.end - splice.start)) (drop (2 * splice.start) numbers)
 
 -- The same after several parts, each of the text that the one before it leaves.
-abbrev pub all_spliced : ℕ → ℕ → List Splice → List ℕ → List ℕ
-all_spliced more number [] numbers = numbers
-all_spliced more number (splice ∷ splices) numbers =
-    all_spliced more number splices (spliced more number splice numbers)
-
--- So many numbers: what is too much is cut, and what is missing has this one.
-abbrev pub fitted : ℕ → ℕ → List ℕ → List ℕ
-fitted count number numbers = take count numbers ++ replicate (count - length numbers) number
+abbrev pub all_spliced : ℕ → List Splice → List ℕ → List ℕ
+all_spliced number [] numbers = numbers
+all_spliced number (splice ∷ splices) numbers =
+    all_spliced number splices (spliced number splice numbers)

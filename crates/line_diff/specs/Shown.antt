@@ -1,5 +1,5 @@
 -- A line, with what can't be seen in it.
-use Rattle.std.specs.Prelude.{ℕ, ◌==◌, if◌then◌else◌, List, Option, Some, None, ◌++◌, codes, flat_map}
+use Rattle.std.specs.Prelude.{ℕ, ◌-◌, Bool, nat_lt, ◌==◌, if◌then◌else◌, length, drop, take, List, [], Option, Some, None, ◌++◌, codes, flat_map}
 use Rattle.std.specs.Option.{unwrap_or}
 use Rattle.std.specs.Char.{encode_utf8}
 use Rattle.std.specs.Str.{chars}
@@ -28,6 +28,25 @@ sign_of character =
 unfoldable pub shown_char : ℕ → List ℕ
 shown_char character = unwrap_or (sign_of character) (encode_utf8 character)
 
--- A line in quotes, with what can't be seen in it.
+-- Characters in quotes, with what can't be seen in them.
+abbrev pub quoted : List ℕ → List ℕ
+quoted characters = codes "\"" ++ flat_map shown_char characters ++ codes "\""
+
+-- A line in quotes.
 abbrev pub shown : List ℕ → List ℕ
-shown line = codes "\"" ++ flat_map shown_char (chars line) ++ codes "\""
+shown line = quoted (chars line)
+
+-- Dots where characters of a line are left out.
+abbrev pub dots : Bool → List ℕ
+dots are_left_out = if are_left_out then codes ".." else []
+
+-- Of a line's characters 160 from an index on, in quotes.
+abbrev pub shown_part : ℕ → List ℕ → List ℕ
+shown_part start characters =
+    dots (nat_lt 0 start) ++ quoted (take 160 (drop start characters))
+    ++ dots (nat_lt 160 (length (drop start characters)))
+
+-- A line's characters in quotes; of more than 200, those from 40 before an index on.
+unfoldable pub shown_around : ℕ → List ℕ → List ℕ
+shown_around index characters = if nat_lt 200 (length characters)
+    then shown_part (index - 40) characters else quoted characters

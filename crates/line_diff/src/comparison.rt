@@ -1,9 +1,11 @@
 //! A file, and the document of a session that is compared with it.
 
 ghost use Rattle.std.specs.Prelude.{◌≡◌, ◌++◌, IfOk, OnErr, OnOk, option_map, string_bytes};
-ghost use Rattle.line_diff.specs.Comparison.{choice_words, followed_words, ends_so, equality, new_comparison};
-ghost use Rattle.line_diff.specs.Comparison.{comparison_words, given, opened_as, refused_by, refused_message, refused_of, refusals_words, taken};
+ghost use Rattle.line_diff.specs.Comparison.{choice_words, followed_words, equality, new_comparison};
+ghost use Rattle.line_diff.specs.Comparison.{comparison_words, ended_by, given, is_followed, opened_as, refused_by, refused_message, refused_of, refusals_words, taken};
+ghost use Rattle.line_diff.specs.Names.{ends_so};
 
+use crate::names::ends_so;
 use crate::owners::Splice;
 use crate::report::{push_number, push_words};
 use crate::shown::push_shown;
@@ -39,11 +41,13 @@ impl Model for Comparison {
     } };
 }
 
-/// A document, and its text.
+/// A document, and what its text comes from.
 #[derive(Drop)]
 struct Followed {
     uri: String,
-    text: TrackedText,
+    origins: TrackedText,
+    // Its text, once it was given.
+    text: String,
     // The first messages about it that were refused, in words, and how many were.
     refused: Vec<u8>,
     refusals: u64,
@@ -57,43 +61,45 @@ impl Model for Followed {
 
     ghost view = { λ d. record {
       uri = string_bytes d.uri;
-      text = d.text;
+      origins = d.origins;
+      text = string_bytes d.text;
       refused = d.refused.items;
       refusals = d.refusals;
     } };
 }
 
 impl Followed {
-    /// Starts with the text that the message of this number has given to a document.
-    fn new(alloc: Global, number: u64, uri: &str, text: String) -> Result<Followed, AllocError>
-        ensures { IfOk result
-            (λ document. document ≡ opened_as number uri.now (string_bytes text)) }
+    /// Starts with a text of so many bytes that the message of this number has given to a document.
+    fn new(alloc: Global, number: u64, uri: &str, len: usize) -> Result<Followed, AllocError>
+        ensures { IfOk result (λ document. document ≡ opened_as number uri.now len) }
     {
         Ok(Followed {
             uri: String::from_str(alloc, uri)?,
-            text: TrackedText::new(alloc, number, text)?,
+            origins: TrackedText::new(alloc, number, len)?,
+            text: String::new(alloc),
             refused: Vec::new(alloc),
             refusals: 0,
         })
     }
 
-    /// Takes the text that the message of this number has given to the document, by splices or as
-    /// it opened it.
+    /// Takes that the message of this number has given a text to the document, by splices or as it
+    /// opened it, with so many bytes.
     fn take(
         &mut self,
         alloc: Global,
         number: u64,
-        text: String,
+        len: usize,
         splices: Option<&[Splice]>,
     ) -> Result<(), AllocError>
-        ensures taken { OnOk result (self.new ≡ given number (string_bytes text)
+        ensures taken { OnOk result (self.new ≡ given number len
             (option_map (λ splices. splices.now) splices.entry) self.old) }
         ensures unchanged { OnErr result (self.new ≡ self.old) }
     {
         if let Some(splices) = splices {
-            return self.text.change(alloc, number, text, splices);
+            return self.origins.change(alloc, number, splices);
         }
-        self.text = TrackedText::new(alloc, number, text)?;
+        self.origins = TrackedText::new(alloc, number, len)?;
+        self.text.clear();
         self.refused.clear();
         self.refusals = 0;
         Ok(())
@@ -111,13 +117,6 @@ impl Followed {
         self.refusals = self.refusals.saturating_add(1);
         Ok(())
     }
-}
-
-/// Returns whether a URI ends so.
-pub fn ends_so(uri: &str, ending: &str) -> bool
-    ensures { result ≡ ends_so uri.now ending.now }
-{
-    uri.as_bytes().ends_with(ending.as_bytes())
 }
 
 impl Comparison {
@@ -140,32 +139,62 @@ impl Comparison {
         ends_so(uri, &self.ending)
     }
 
-    /// Takes the text that the message of this number has given to a document, by splices or as it
-    /// opened it. Fails only where memory runs out; then nothing has changed. Linear in the texts
-    /// before and after for each splice.
+    /// Takes that the message of this number has given a text to a document: by splices, or as it
+    /// opened it, with so many bytes. Fails only where memory runs out; then nothing has changed.
+    /// Linear in the changes between two splices, not in the text.
     pub fn take(
         &mut self,
         alloc: Global,
         number: u64,
         uri: &str,
-        text: String,
+        len: usize,
         splices: Option<&[Splice]>,
     ) -> Result<(), AllocError>
-        ensures taken { OnOk result (self.new ≡ taken number uri.now (string_bytes text)
+        ensures taken { OnOk result (self.new ≡ taken number uri.now len
             (option_map (λ splices. splices.now) splices.entry) self.old) }
         ensures unchanged { OnErr result (self.new ≡ self.old) }
     {
         let Some(document) = &mut self.document else {
-            self.document = Some(Followed::new(alloc, number, uri, text)?);
+            self.document = Some(Followed::new(alloc, number, uri, len)?);
             return Ok(());
         };
         if document.uri.as_str() == uri {
-            return document.take(alloc, number, text, splices);
+            return document.take(alloc, number, len, splices);
         }
         if self.second.is_none() {
             self.second = Some(String::from_str(alloc, uri)?);
         }
         Ok(())
+    }
+
+    /// Returns the URI of the document, if one was taken.
+    pub fn uri(&self) -> Option<&str>
+        ensures { option_map (λ uri. uri.now) result
+            ≡ option_map (λ d. d.uri) self.now.document }
+    {
+        match &self.document {
+            Some(document) => Some(document.uri.as_str()),
+            None => None,
+        }
+    }
+
+    /// Returns whether this is the URI of the document.
+    pub fn is_followed(&self, uri: &str) -> bool
+        ensures { result ≡ is_followed uri.now self.now.document }
+    {
+        match &self.document {
+            Some(document) => document.uri.as_str() == uri,
+            None => false,
+        }
+    }
+
+    /// Takes the document's last text.
+    pub fn end(&mut self, text: String)
+        ensures { self.new ≡ ended_by (string_bytes text) self.old }
+    {
+        if let Some(document) = &mut self.document {
+            document.text = text;
+        }
     }
 
     /// Takes that the message of this number about a document was refused with this code. Fails only
@@ -210,7 +239,7 @@ impl Comparison {
         match (&self.document, &self.second) {
             (None, _) => None,
             (Some(_), Some(_)) => Some(false),
-            (Some(document), None) => Some(document.text.text() == self.file.as_str()),
+            (Some(document), None) => Some(document.text.as_str() == self.file.as_str()),
         }
     }
 }
@@ -238,8 +267,10 @@ fn document_report(alloc: Global, document: &Followed, file: &str) -> Result<Vec
     let mut report = Vec::new(alloc);
     push_shown(&mut report, &document.uri)?;
     push_words(&mut report, " ")?;
-    document.text.push_report(alloc, &mut report, file)?;
-    if document.text.text() != file && document.refusals > 0 {
+    document
+        .origins
+        .push_report(alloc, &mut report, &document.text, file)?;
+    if document.text.as_str() != file && document.refusals > 0 {
         push_refused(&mut report, &document.refused, document.refusals)?;
     }
     Ok(report)

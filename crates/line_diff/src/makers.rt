@@ -1,25 +1,20 @@
 //! By which changes a line differs from another one.
 
-ghost use Rattle.std.specs.Prelude.{◌≡◌, ◌≤◌, IfOk, OnOk, drop, map, take};
-ghost use Rattle.line_diff.specs.Makers.{between, gone_before, greatest, makers_of, number_at};
-ghost use Rattle.line_diff.specs.Makers.{numbers_in, row_at, rows_of, with_number, with_numbers};
+ghost use Rattle.std.specs.Prelude.{◌≡◌, ◌≤◌, ◌<◌, ◌+◌, ◌-◌, ◌^◌, [], IfOk, OnOk, map, take};
+ghost use Rattle.std.specs.Option.{option_to_list};
+ghost use Rattle.line_diff.specs.Makers.{gone_before, greater, greatest, last_beside, makers_between, makers_of, number_at};
+ghost use Rattle.line_diff.specs.Makers.{owners_from, places_from, row_at, rows_of, seconds, with_number, with_numbers};
+ghost use Rattle.line_diff.specs.Repeats.{row_numbers};
 
 use crate::owners::{common_back, common_front};
+use crate::repeats::Row;
 use std::alloc::{AllocError, Global};
 use std::marker::Model;
 
 /// So many changes of a line are named.
 pub(crate) const NAMED: usize = 8;
 
-/// The changes that made the bytes of a text or a line, and the last ones at its places: before
-/// each byte, and at its end.
-#[derive(Clone, Copy)]
-pub struct Numbers<'a> {
-    pub owners: &'a [u64],
-    pub places: &'a [u64],
-}
-
-/// The changes by which a line differs: the first 9, and the last.
+/// The changes by which a line differs: the first 9, and the last that isn't one of the first 8.
 #[derive(Drop)]
 pub struct Makers {
     pub named: Vec<u64>,
@@ -45,79 +40,71 @@ pub(crate) fn first_of(numbers: &[u64], count: usize) -> &[u64]
     }
 }
 
-/// Returns the numbers after so many, or none.
-pub(crate) fn after(numbers: &[u64], count: usize) -> &[u64]
-    ensures { result.now ≡ drop count numbers.now }
-{
-    if count < numbers.len() {
-        &numbers[count..]
-    } else {
-        &[]
-    }
-}
-
-/// Returns the numbers in a row for each line, and a last row of those that are after the lines.
-/// Fails only where memory runs out.
+/// Returns the numbers from each line's start on, and from the end of the last line on. Fails only
+/// where memory runs out.
 pub fn rows_of<'a>(
     alloc: Global,
-    numbers: Numbers<'a>,
+    numbers: Row<'a>,
     lines: &[&str],
-) -> Result<Vec<Numbers<'a>>, AllocError>
+) -> Result<Vec<Row<'a>>, AllocError>
     ensures { IfOk result (λ rows.
-        map numbers_in rows.items ≡ rows_of (numbers_in numbers.entry)
+        map row_numbers rows.items ≡ rows_of (row_numbers numbers.entry)
         (map (λ line. line.now) lines.entry.now)) }
 {
-    let Numbers {
-        mut owners,
-        mut places,
-    } = numbers;
+    let mut rest = numbers;
     let mut rows = Vec::new(alloc);
     for line in lines {
-        rows.push(Numbers {
-            owners: first_of(owners, line.len()),
-            places: first_of(places, line.len() + 1),
-        })?;
-        owners = after(owners, line.len());
-        places = after(places, line.len());
+        rows.push(rest)?;
+        rest = rest.from_place(line.len());
     }
-    rows.push(Numbers { owners, places })?;
+    rows.push(rest)?;
     Ok(rows)
 }
 
 /// Returns a row, or an empty one where there is no such row.
-pub fn row_at<'a>(rows: &[Numbers<'a>], index: usize) -> Numbers<'a>
-    ensures { numbers_in result ≡ row_at (map numbers_in rows.entry.now) index }
+pub fn row_at<'a>(rows: &[Row<'a>], index: usize) -> Row<'a>
+    ensures { row_numbers result ≡ row_at (map row_numbers rows.entry.now) index }
 {
-    rows.get(index).copied().unwrap_or(Numbers {
-        owners: &[],
-        places: &[],
+    rows.get(index).copied().unwrap_or(Row {
+        number: 0,
+        count: 0,
+        later: &[],
     })
 }
 
 /// Returns a number, or 0 where there is none.
-pub fn number_at(numbers: &[u64], index: usize) -> u64
-    ensures { result ≡ number_at numbers.now index }
+pub(crate) fn number_at(row: Row<'_>, index: usize) -> u64
+    ensures { result ≡ number_at (row_numbers row.entry) index }
 {
-    numbers.get(index).copied().unwrap_or(0)
+    row.after(index).first().unwrap_or(0)
 }
 
-/// Returns the greatest of a number and others.
-fn greatest(most: u64, numbers: &[u64]) -> u64
-    ensures { result ≡ greatest most numbers.now }
+/// Returns the greater of a number and another one, which doesn't count if it is named.
+fn greater(named: &[u64], most: u64, number: u64) -> u64
+    ensures { result ≡ greater named.now most number }
+{
+    if named.contains(&number) {
+        most
+    } else {
+        most.max(number)
+    }
+}
+
+/// Returns the greatest of a number and of others that aren't named: the first of a row, and each
+/// second one after it, so many.
+fn greatest(named: &[u64], most: u64, row: Row<'_>, count: usize) -> u64
+    ensures { result ≡ greatest named.now most (seconds count (row_numbers row.entry)) }
 {
     let mut most = most;
-    for number in numbers {
-        most = most.max(*number);
+    let mut rest = row;
+    'steps: for _step in 0..count {
+        let Some(number) = rest.first() else {
+            return most;
+        };
+        most = greater(named, most, number);
+        rest = rest.after(2);
     }
     most
-}
-
-/// Returns the numbers from one index to another.
-fn between(numbers: &[u64], start: usize, end: usize) -> &[u64]
-    requires { start ≤ end }
-    ensures { result.now ≡ between start end numbers.now }
-{
-    first_of(after(numbers, start), end - start)
 }
 
 /// Appends a number, unless it is there or 9 are.
@@ -131,51 +118,95 @@ fn note(found: &mut Vec<u64>, number: u64) -> Result<(), AllocError>
     Ok(())
 }
 
-/// Appends each number that isn't there yet, as long as 9 aren't.
-fn note_all(found: &mut Vec<u64>, numbers: &[u64]) -> Result<(), AllocError>
-    ensures { OnOk result (found.new.items ≡ with_numbers found.old.items numbers.now) }
+/// Appends of the first numbers of a row, and of each second one after it, so many, those that aren't
+/// there yet, as long as 9 aren't.
+fn note_all(found: &mut Vec<u64>, row: Row<'_>, count: usize) -> Result<(), AllocError>
+    ensures { OnOk result (found.new.items
+        ≡ with_numbers found.old.items (seconds count (row_numbers row.entry))) }
 {
-    for number in numbers {
-        note(found, *number)?;
+    let mut rest = row;
+    'steps: for _step in 0..count {
+        let Some(number) = rest.first() else {
+            return Ok(());
+        };
+        note(found, number)?;
+        rest = rest.after(2);
     }
     Ok(())
 }
 
 /// Returns the last change at a line's start, if it is later than the first byte: lines may have
 /// gone there.
-fn gone_before(row: Numbers<'_>) -> &[u64]
-    ensures { result.now ≡ gone_before (numbers_in row.entry) }
+fn gone_before(row: Row<'_>) -> Option<u64>
+    ensures { option_to_list result ≡ gone_before (row_numbers row.entry) }
 {
-    if number_at(row.places, 0) > number_at(row.owners, 0) {
-        first_of(row.places, 1)
+    if number_at(row, 0) > number_at(row, 1) {
+        row.first()
     } else {
-        &[]
+        None
     }
 }
 
-/// Returns the changes by which a line, whose bytes and places have these numbers, differs from
-/// another one. Fails only where memory runs out.
+/// Returns the last change that isn't named of those that made so many of a line's bytes, from `front`
+/// to `end`, and of its places, from `low` to `end`.
+fn last_between(named: &[u64], row: Row<'_>, low: usize, front: usize, end: usize) -> u64
+    requires low { low ≤ front }
+    requires front { front ≤ end }
+    requires end { end + 1 < 2 ^ 64 }
+    ensures { result
+        ≡ last_beside named.now (owners_from front (end - front) (row_numbers row.entry))
+        (places_from low (end - low + 1) (row_numbers row.entry)) [] }
+{
+    let most = greatest(named, 0, row.from_place(front).after(1), end - front);
+    greatest(named, most, row.from_place(low), end - low + 1)
+}
+
+/// Returns the changes that made so many of a line's bytes, from `front` to `end`, and of its places,
+/// from `low` to `end`, and a last one.
+fn makers_between(
+    alloc: Global,
+    row: Row<'_>,
+    low: usize,
+    front: usize,
+    end: usize,
+) -> Result<Makers, AllocError>
+    requires low { low ≤ front }
+    requires front { front ≤ end }
+    requires end { end + 1 < 2 ^ 64 }
+    ensures { IfOk result
+        (λ makers. makers ≡ makers_between low front end (row_numbers row.entry)) }
+{
+    let mut named = Vec::new(alloc);
+    note_all(&mut named, row.from_place(front).after(1), end - front)?;
+    note_all(&mut named, row.from_place(low), end - low + 1)?;
+    match gone_before(row) {
+        Some(number) => {
+            note(&mut named, number)?;
+            let first = first_of(&named, NAMED);
+            let last = greater(first, last_between(first, row, low, front, end), number);
+            Ok(Makers { named, last })
+        }
+        None => {
+            let last = last_between(first_of(&named, NAMED), row, low, front, end);
+            Ok(Makers { named, last })
+        }
+    }
+}
+
+/// Returns the changes by which a line differs from another one. `row` begins at its start. Fails
+/// only where memory runs out.
 pub fn makers_of(
     alloc: Global,
-    row: Numbers<'_>,
+    row: Row<'_>,
     line: &[u8],
     other: &[u8],
 ) -> Result<Makers, AllocError>
     ensures { IfOk result
-        (λ makers. makers ≡ makers_of (numbers_in row.entry) line.now other.now) }
+        (λ makers. makers ≡ makers_of (row_numbers row.entry) line.now other.now) }
 {
     let front = common_front(line, other);
     let end = line.len() - common_back(front, line, other);
     // What differs may begin earlier: of letters that are alike, any may be the one too many.
     let low = front.min(line.len() - common_back(0, line, other));
-    let differing = between(row.places, low, end + 1);
-    let start = gone_before(row);
-    let mut named = Vec::new(alloc);
-    note_all(&mut named, between(row.owners, front, end))?;
-    note_all(&mut named, differing)?;
-    note_all(&mut named, start)?;
-    Ok(Makers {
-        named,
-        last: greatest(greatest(0, differing), start),
-    })
+    makers_between(alloc, row, low, front, end)
 }

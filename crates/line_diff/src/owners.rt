@@ -1,11 +1,8 @@
-//! Which change made each byte of a text, and which was the last at each place between two bytes.
+//! What is common to two texts, and which part of the one replaced which of the other.
 
-ghost use Rattle.std.specs.Prelude.{◌≡◌, ◌≤◌, ◌+◌, ◌++◌, IfOk, OnOk, length, replicate};
+ghost use Rattle.std.specs.Prelude.{◌≡◌, ◌≤◌, ◌+◌, length};
 ghost use Rattle.line_diff.specs.Common.{common_back, common_front};
-ghost use Rattle.line_diff.specs.Owners.{all_spliced, fitted, splice_between, spliced};
-
-use crate::makers::{after, first_of};
-use std::alloc::{AllocError, Global};
+ghost use Rattle.line_diff.specs.Owners.{splice_between};
 
 /// A replaced part of a text: the bytes from `start` to `end`, in whose place `len` others are.
 #[derive(Clone, Copy, Debug, PartialEq, Eq)]
@@ -61,55 +58,4 @@ pub(crate) fn common_back(front: usize, text: &[u8], other: &[u8]) -> usize
         }
     }
     most
-}
-
-/// Appends a number so many times.
-fn push_repeated(numbers: &mut Vec<u64>, count: usize, number: u64) -> Result<(), AllocError>
-    ensures { OnOk result (numbers.new.items ≡ numbers.old.items ++ replicate count number) }
-{
-    let Some(len) = numbers.len().checked_add(count) else {
-        return Err(AllocError);
-    };
-    numbers.resize(len, number)
-}
-
-/// Returns the numbers after a part was replaced: those around it stay. With the part go `more`
-/// numbers that come after it. Fails only where memory runs out. Linear.
-fn spliced(
-    alloc: Global,
-    more: usize,
-    number: u64,
-    splice: Splice,
-    numbers: &[u64],
-) -> Result<Vec<u64>, AllocError>
-    ensures { IfOk result (λ kept. kept.items ≡ spliced more number splice numbers.now) }
-{
-    let mut kept = Vec::new(alloc);
-    kept.extend_from_slice(first_of(numbers, splice.start))?;
-    push_repeated(&mut kept, splice.len, number)?;
-    push_repeated(&mut kept, more, number)?;
-    kept.extend_from_slice(after(after(numbers, splice.end), more))?;
-    Ok(kept)
-}
-
-/// Returns `count` numbers after parts were replaced one after the other. Fails only where memory
-/// runs out. Linear for each part.
-pub fn numbers_after(
-    alloc: Global,
-    more: usize,
-    number: u64,
-    splices: &[Splice],
-    numbers: &[u64],
-    count: usize,
-) -> Result<Vec<u64>, AllocError>
-    ensures value { IfOk result (λ kept. kept.items
-        ≡ fitted count number (all_spliced more number splices.now numbers.now)) }
-    ensures length { IfOk result (λ kept. length kept.items ≡ count) }
-{
-    let mut kept = Vec::from_slice(alloc, numbers)?;
-    for splice in splices {
-        kept = spliced(alloc, more, number, *splice, &kept)?;
-    }
-    kept.resize(count, number)?;
-    Ok(kept)
 }

@@ -1,16 +1,17 @@
 //! How a document's text and a file differ, in words.
 
-ghost use Rattle.std.specs.Prelude.{◌≡◌, ◌++◌, ◌-◌, OnOk, decimal, flat_map, map};
-ghost use Rattle.line_diff.specs.Makers.{numbers_in};
-ghost use Rattle.line_diff.specs.Report.{alike_words, alone_words, ends_words, file_line_at, hunk_head};
+ghost use Rattle.std.specs.Prelude.{◌≡◌, ◌<◌, ◌+◌, ◌++◌, ◌-◌, ◌^◌, OnOk, decimal, flat_map, map};
+ghost use Rattle.line_diff.specs.Repeats.{row_numbers};
+ghost use Rattle.line_diff.specs.Report.{alike_words, alone_words, ends_words, file_line, file_line_at, file_words, hunk_head};
 ghost use Rattle.line_diff.specs.Report.{hunk_words, judgement, last_maker_words, maker_words};
-ghost use Rattle.line_diff.specs.Report.{number_words, other_for, own_line, own_line_at, text_at, words_from};
+ghost use Rattle.line_diff.specs.Report.{number_words, other_for, own_for, own_line, own_line_at, text_at, words_from};
 
 use crate::alike::{are_alike, first_end, has_last_end, has_mark, have_same_ends, have_same_marks};
 use crate::hunks::{Hunk, hunks_of};
 use crate::lines::{line_at, lines_of};
-use crate::makers::{Makers, NAMED, Numbers, first_of, makers_of, number_at, row_at, rows_of};
-use crate::shown::push_shown;
+use crate::makers::{Makers, NAMED, first_of, makers_of, number_at, row_at, rows_of};
+use crate::repeats::Row;
+use crate::shown::{chars_of, equal_front, push_around};
 use itoa::Buffer;
 use std::alloc::{AllocError, Global};
 use std::marker::Model;
@@ -91,21 +92,26 @@ fn push_makers(buffer: &mut Vec<u8>, makers: &Makers) -> Result<(), AllocError>
     push_words(buffer, ")")
 }
 
-/// Writes a line that the document has alone, with its number and the changes by which it differs.
+/// Writes a line that the document has alone, with its number and the changes by which it differs from
+/// the file's in its place.
 fn push_own_line(
     buffer: &mut Vec<u8>,
     number: usize,
     makers: &Makers,
     line: &str,
+    other: &str,
 ) -> Result<(), AllocError>
     ensures { OnOk result
-        (buffer.new.items ≡ buffer.old.items ++ own_line number makers.now line.now) }
+        (buffer.new.items ≡ buffer.old.items ++ own_line number makers.now line.now other.now) }
 {
+    let alloc = *buffer.allocator();
+    let characters = chars_of(alloc, line)?;
+    let others = chars_of(alloc, other)?;
     push_words(buffer, "line ")?;
     push_number(buffer, number as u64)?;
     push_makers(buffer, makers)?;
     push_words(buffer, ": ")?;
-    push_shown(buffer, line)?;
+    push_around(buffer, equal_front(&characters, &others), &characters)?;
     push_words(buffer, "\n")
 }
 
@@ -121,42 +127,62 @@ fn other_for<'a>(others: &[&'a str], hunk: &Hunk, index: usize) -> &'a str
     }
 }
 
-/// Writes lines that the file alone has.
-fn push_file_lines(
-    buffer: &mut Vec<u8>,
-    others: &[&str],
-    start: usize,
-    end: usize,
-) -> Result<(), AllocError>
-    ensures { OnOk result (buffer.new.items ≡ buffer.old.items
-        ++ words_from (file_line_at (map (λ line. line.now) others.entry.now))
-        (end - start) start) }
+/// Returns the document's line in the place of a line of the file, or nothing where it has fewer.
+fn own_for<'a>(lines: &[&'a str], hunk: &Hunk, index: usize) -> &'a str
+    ensures { result.now ≡ own_for (map (λ line. line.now) lines.entry.now) hunk.now index }
 {
-    for index in start..end {
-        push_words(buffer, "  the file has: ")?;
-        push_shown(buffer, text_at(others, index))?;
-        push_words(buffer, "\n")?;
+    let at = index.saturating_sub(hunk.other_start);
+    if at < hunk.end.saturating_sub(hunk.start) {
+        text_at(lines, hunk.start + at)
+    } else {
+        ""
     }
+}
+
+/// Writes that the file has a line, of which so many characters are the document's.
+fn push_file_words(buffer: &mut Vec<u8>, equal: usize) -> Result<(), AllocError>
+    requires { equal + 1 < 2 ^ 64 }
+    ensures { OnOk result (buffer.new.items ≡ buffer.old.items ++ file_words equal) }
+{
+    if equal == 0 {
+        return push_words(buffer, "  the file has: ");
+    }
+    push_words(buffer, "  the file, which differs from character ")?;
+    push_number(buffer, equal as u64 + 1)?;
+    push_words(buffer, " on, has: ")?;
     Ok(())
+}
+
+/// Writes a line that the file alone has, beside the document's in its place.
+fn push_file_line(buffer: &mut Vec<u8>, line: &str, own: &str) -> Result<(), AllocError>
+    ensures { OnOk result (buffer.new.items ≡ buffer.old.items ++ file_line line.now own.now) }
+{
+    let alloc = *buffer.allocator();
+    let characters = chars_of(alloc, line)?;
+    let others = chars_of(alloc, own)?;
+    let equal = equal_front(&characters, &others);
+    push_file_words(buffer, equal)?;
+    push_around(buffer, equal, &characters)?;
+    push_words(buffer, "\n")
 }
 
 /// The lines of a document's text, with the changes that made them, and those of a file.
 #[derive(Drop)]
 struct Sides<'a> {
-    rows: Vec<Numbers<'a>>,
+    rows: Vec<Row<'a>>,
     lines: Vec<&'a str>,
     others: Vec<&'a str>,
 }
 
 impl<'a> Model for Sides<'a> {
     ghost use Rattle.std.specs.Prelude.{map};
-    ghost use Rattle.line_diff.specs.Makers.{numbers_in};
+    ghost use Rattle.line_diff.specs.Repeats.{row_numbers};
     ghost use Rattle.line_diff.specs.Report.{SideLines};
 
     ghost Value = { SideLines };
 
     ghost view = { λ s. record {
-      rows = map numbers_in s.rows.items;
+      rows = map row_numbers s.rows.items;
       lines = map (λ line. line.now) s.lines.items;
       others = map (λ line. line.now) s.others.items;
     } };
@@ -175,7 +201,7 @@ impl<'a> Sides<'a> {
             let other = other_for(&self.others, hunk, index);
             let row = row_at(&self.rows, index);
             let makers = makers_of(alloc, row, line.as_bytes(), other.as_bytes())?;
-            push_own_line(buffer, index + 1, &makers, line)?;
+            push_own_line(buffer, index + 1, &makers, line, other)?;
         }
         Ok(())
     }
@@ -192,17 +218,31 @@ impl<'a> Sides<'a> {
         push_words(buffer, "after line ")?;
         push_number(buffer, hunk.start as u64)?;
         push_words(buffer, " (made by message ")?;
-        push_number(buffer, number_at(row_at(&self.rows, hunk.start).places, 0))?;
+        push_number(buffer, number_at(row_at(&self.rows, hunk.start), 0))?;
         push_words(buffer, "):\n")
     }
 
+    /// Writes the lines of a hunk that the file has alone.
+    fn push_file_lines(&self, buffer: &mut Vec<u8>, hunk: &Hunk) -> Result<(), AllocError>
+        ensures { OnOk result (buffer.new.items ≡ buffer.old.items
+            ++ words_from (file_line_at self.now hunk.now)
+            (hunk.now.other_end - hunk.now.other_start) hunk.now.other_start) }
+    {
+        for index in hunk.other_start..hunk.other_end {
+            let own = own_for(&self.lines, hunk, index);
+            push_file_line(buffer, text_at(&self.others, index), own)?;
+        }
+        Ok(())
+    }
+
     /// Writes a place at which the texts differ.
+    #[tactic(auto, unfolding(crate::specs::Report::hunk_words))]
     fn push_hunk(&self, buffer: &mut Vec<u8>, hunk: &Hunk) -> Result<(), AllocError>
         ensures { OnOk result
             (buffer.new.items ≡ buffer.old.items ++ hunk_words self.now hunk.now) }
     {
         self.push_head(buffer, hunk)?;
-        push_file_lines(buffer, &self.others, hunk.other_start, hunk.other_end)
+        self.push_file_lines(buffer, hunk)
     }
 
     /// Writes each place at which the texts differ.
@@ -261,18 +301,18 @@ fn push_ends(buffer: &mut Vec<u8>, same: bool, known: bool, last: u64) -> Result
 fn push_alike(
     buffer: &mut Vec<u8>,
     text: &[u8],
-    owners: &[u64],
+    numbers: Row<'_>,
     file: &[u8],
 ) -> Result<(), AllocError>
     ensures { OnOk result (buffer.new.items ≡ buffer.old.items
-        ++ alike_words text.now owners.now file.now) }
+        ++ alike_words text.now (row_numbers numbers.entry) file.now) }
 {
     push_words(buffer, "the file's, but for\n")?;
     push_ends(
         buffer,
         have_same_ends(text, file),
         have_same_marks(text, file),
-        number_at(owners, first_end(text, file)),
+        number_at(numbers.from_place(first_end(text, file)), 1),
     )?;
     push_alone(
         buffer,
@@ -295,17 +335,17 @@ pub(crate) fn push_judgement(
     alloc: Global,
     buffer: &mut Vec<u8>,
     text: &str,
-    numbers: Numbers<'_>,
+    numbers: Row<'_>,
     file: &str,
 ) -> Result<(), AllocError>
     ensures { OnOk result (buffer.new.items ≡ buffer.old.items
-        ++ judgement text.now (numbers_in numbers.entry) file.now) }
+        ++ judgement text.now (row_numbers numbers.entry) file.now) }
 {
     if text == file {
         return push_words(buffer, "the file's\n");
     }
     if are_alike(alloc, text.as_bytes(), file.as_bytes())? {
-        return push_alike(buffer, text.as_bytes(), numbers.owners, file.as_bytes());
+        return push_alike(buffer, text.as_bytes(), numbers, file.as_bytes());
     }
     let lines = lines_of(alloc, text)?;
     let others = lines_of(alloc, file)?;

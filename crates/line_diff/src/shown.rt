@@ -1,9 +1,19 @@
 //! A line, with what can't be seen in it.
 
-ghost use Rattle.std.specs.Prelude.{◌≡◌, ◌++◌, OnOk, option_map};
-ghost use Rattle.line_diff.specs.Shown.{shown, shown_char, sign_of};
+ghost use Rattle.std.specs.Prelude.{◌≡◌, ◌≤◌, ◌++◌, IfOk, OnOk, drop, flat_map, length, option_map, take};
+ghost use Rattle.std.specs.Str.{chars};
+ghost use Rattle.line_diff.specs.Common.{common_front};
+ghost use Rattle.line_diff.specs.Shown.{dots, quoted, shown, shown_around, shown_char, shown_part, sign_of};
 
-use std::alloc::AllocError;
+use std::alloc::{AllocError, Global};
+
+/// A line with more characters is cut.
+const LONGEST: usize = 200;
+
+/// Of a line that is cut, so many characters before an index are shown, and so many at most.
+const BEFORE: usize = 40;
+
+const SHOWN: usize = 160;
 
 /// Returns what stands for a character that can't be seen or that a string escapes.
 #[tactic(auto, unfolding(crate::specs::Shown::sign_of))]
@@ -53,4 +63,109 @@ pub fn push_shown(buffer: &mut Vec<u8>, line: &str) -> Result<(), AllocError>
     }
     buffer.push(b'"')?;
     Ok(())
+}
+
+/// Returns the characters of a line. Fails only where memory runs out.
+pub fn chars_of(alloc: Global, line: &str) -> Result<Vec<char>, AllocError>
+    ensures { IfOk result (λ characters. characters.items ≡ chars line.now) }
+{
+    let mut characters = Vec::new(alloc);
+    for character in line.chars() {
+        characters.push(character)?;
+    }
+    Ok(characters)
+}
+
+/// Returns how many characters are equal from the first on.
+pub fn equal_front(characters: &[char], others: &[char]) -> usize
+    ensures value { result ≡ common_front characters.now others.now }
+    ensures within { result ≤ length characters.now }
+{
+    let most = characters.len().min(others.len());
+    for count in 0..most {
+        if characters[count] != others[count] {
+            return count;
+        }
+    }
+    most
+}
+
+/// Writes characters, with what stands for some.
+fn push_characters(buffer: &mut Vec<u8>, characters: &[char]) -> Result<(), AllocError>
+    ensures { OnOk result
+        (buffer.new.items ≡ buffer.old.items ++ flat_map shown_char characters.now) }
+{
+    for character in characters {
+        push_character(buffer, *character)?;
+    }
+    Ok(())
+}
+
+/// Writes characters in quotes.
+fn push_quoted(buffer: &mut Vec<u8>, characters: &[char]) -> Result<(), AllocError>
+    ensures { OnOk result (buffer.new.items ≡ buffer.old.items ++ quoted characters.now) }
+{
+    buffer.extend_from_slice(b"\"")?;
+    push_characters(buffer, characters)?;
+    buffer.extend_from_slice(b"\"")
+}
+
+/// Writes dots where characters are left out.
+fn push_dots(buffer: &mut Vec<u8>, are_left_out: bool) -> Result<(), AllocError>
+    ensures { OnOk result (buffer.new.items ≡ buffer.old.items ++ dots are_left_out) }
+{
+    if are_left_out {
+        return buffer.extend_from_slice(b"..");
+    }
+    Ok(())
+}
+
+/// Returns the characters from an index on.
+fn from_index(characters: &[char], start: usize) -> &[char]
+    ensures { result.now ≡ drop start characters.now }
+{
+    if start < characters.len() {
+        &characters[start..]
+    } else {
+        &[]
+    }
+}
+
+/// Returns the first characters, so many or all.
+fn first_of(characters: &[char], count: usize) -> &[char]
+    ensures { result.now ≡ take count characters.now }
+{
+    if count < characters.len() {
+        &characters[..count]
+    } else {
+        characters
+    }
+}
+
+/// Writes some characters of a line in quotes, from an index on.
+fn push_part(buffer: &mut Vec<u8>, start: usize, characters: &[char]) -> Result<(), AllocError>
+    ensures { OnOk result
+        (buffer.new.items ≡ buffer.old.items ++ shown_part start characters.now) }
+{
+    let rest = from_index(characters, start);
+    push_dots(buffer, start > 0)?;
+    push_quoted(buffer, first_of(rest, SHOWN))?;
+    push_dots(buffer, rest.len() > SHOWN)
+}
+
+/// Writes the characters of a line in quotes; of a long one those around an index.
+#[tactic(auto, unfolding(crate::specs::Shown::shown_around))]
+pub fn push_around(
+    buffer: &mut Vec<u8>,
+    index: usize,
+    characters: &[char],
+) -> Result<(), AllocError>
+    ensures { OnOk result
+        (buffer.new.items ≡ buffer.old.items ++ shown_around index characters.now) }
+{
+    if characters.len() > LONGEST {
+        push_part(buffer, index.saturating_sub(BEFORE), characters)
+    } else {
+        push_quoted(buffer, characters)
+    }
 }

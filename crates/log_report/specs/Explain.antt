@@ -1,20 +1,21 @@
 -- `check --explain`: a line of `check` for each record, with the reason where it was refused and
 -- the notes where it is suspicious; at the end what came how often, and what to do next.
-use Rattle.std.specs.Prelude.{◌==◌, ◌&&◌, ◌||◌, ◌∷◌, ◌++◌, if◌then◌else◌}
-use Rattle.log_report.specs.Prelude.{ℕ, Bool, false, not, List, [], Option, Some, None, codes, decimal, LimitsData, is_save, notification_params, reading, IncomingData, incoming_of, other_notification, Sender, Record, Settings, Listing, Note, Data}
+use Rattle.std.specs.Prelude.{◌==◌, ◌&&◌, ◌||◌, ◌-◌, ◌∷◌, ◌++◌, if◌then◌else◌}
+use Rattle.log_report.specs.Prelude.{ℕ, Bool, false, not, nat_lt, length, List, [], Option, Some, None, codes, decimal, LimitsData, is_save, notification_params, reading, IncomingData, incoming_of, other_notification, Sender, Record, Settings, Listing, Note, Data}
 use Rattle.lsp_log.specs.declared.record.Sender.TheVariants.{Client}
 use Rattle.log_session.specs.RunOutput.{RunOutput}
 use Rattle.log_session.specs.Settings.{log_config}
 use Rattle.log_session.specs.View.{output_in}
 use Rattle.log_report.specs.Check.{verdict_word}
 use Rattle.log_report.specs.Counts.{Counts, counts_words, rare_notes}
-use Rattle.log_report.specs.Tallies.{has_tallies}
+use Rattle.log_report.specs.Tallies.{Tally, count_of, has_tallies, tallied}
 use Rattle.log_report.specs.Lines.{FactsData, Known, LineView, facts_of, has_notes, lines, nothing_known, uri_of}
-use Rattle.log_report.specs.Notes.{notes_of, notes_words, saved_uri}
+use Rattle.log_report.specs.Notes.{note_kind, notes_of, notes_words, saved_uri}
 use Rattle.log_report.specs.Reasons.{reason_words, renamed_words}
 use Rattle.log_session.specs.Run.{Engine, log_engine}
-use Rattle.log_session.specs.Session.{Session, Judged, Verdict, answered, is_refused, opened, refuses}
+use Rattle.log_session.specs.Session.{Session, Judged, Verdict, answered, is_new, is_refused, opened, refuses}
 use Rattle.log_report.specs.Trace.{json_string}
+use Rattle.lsp_server.specs.declared.phase.Phase.{Phase}
 
 -- Which lines there are where a user sets nothing: each, with the notes that aren't hidden.
 abbrev pub default_listing : Listing
@@ -47,11 +48,34 @@ abbrev pub noted_uri : Option (List ℕ) → Option (List ℕ) → Option (List 
 noted_uri None saved = saved
 noted_uri (Some uri) saved = Some uri
 
+-- A line has at most three notes of a kind.
+abbrev pub most_notes : ℕ
+most_notes = 3
+
+-- A note, unless so many of its kind were counted.
+abbrev pub few_note : List Tally → Note → List Note
+few_note kinds note =
+    if nat_lt (count_of (note_kind note) kinds) most_notes then note ∷ [] else []
+
+-- These, after notes whose kinds were counted. (No tally's number matters.)
+abbrev pub few_from : List Tally → List Note → List Note
+few_from kinds [] = []
+few_from kinds (note ∷ notes) =
+    few_note kinds note ++ few_from (tallied (note_kind note) 0 kinds) notes
+
+abbrev pub few_notes : List Note → List Note
+few_notes notes = few_from [] notes
+
+-- How many notes a line leaves out, if it does.
+abbrev pub left_words : ℕ → List ℕ
+left_words left = if left == 0 then [] else codes "; and " ++ decimal left ++ codes " more"
+
 -- What comes after the word of a record that has notes.
 abbrev pub remark : Option (List ℕ) → List Note → List ℕ
-remark uri [] = []
-remark uri (note ∷ notes) =
-    document_words uri ++ codes ": " ++ notes_words (codes "; ") (note ∷ notes)
+remark uri notes = if has_notes notes then
+    document_words uri ++ codes ": " ++ notes_words (codes "; ") (few_notes notes)
+    ++ left_words (length notes - length (few_notes notes))
+    else []
 
 -- The notes on a record's line: those that aren't hidden, and with `--all` each.
 abbrev pub listed_notes : Listing → Counts → List Note → List Note
@@ -83,11 +107,13 @@ explained_line listing known s r j m =
 
 -- ---- what to do next, after so many refusals
 
--- The line at the end that says what to do next, by the number of refusals and, where there is
--- none, by whether a record has notes.
-abbrev pub first_advice : ℕ → Bool → List ℕ
-first_advice refusals suspicious =
-    if refusals == 0 then (if suspicious then
+-- The line at the end that says what to do next, by the server's phase, by the number of refusals
+-- and, where there is none, by whether a record has notes. A log whose server was never started
+-- lacks its beginning.
+abbrev pub first_advice : Phase → ℕ → Bool → List ℕ
+first_advice phase refusals suspicious = if is_new phase then
+    codes "The log lacks its beginning: no `initialize` started the server, so no message changes a text (LOGS.md).\n"
+    else if refusals == 0 then (if suspicious then
     codes "Nothing was refused; see the notes. `lspsync replay --at N`: the texts after message N.\n"
     else codes "Nothing was refused. `lspsync compare SAVED LOG` says where a saved file differs, and by which messages.\n")
     else
@@ -105,16 +131,17 @@ hidden_advice hides = if hides then
     codes "Some notes are on no line: `--all` has each on its line.\n"
     else []
 
--- The lines, by what is known of all records.
-abbrev pub advice : Listing → ℕ → Known → List ℕ
-advice listing refusals known =
-    first_advice refusals (has_tallies known.counts.noted) ++ lenient_advice known.strict_refusal
+-- The lines, by the session after all records and what is known of them.
+abbrev pub advice : Listing → Session → Known → List ℕ
+advice listing s known =
+    first_advice s.server.phase s.refusals (has_tallies known.counts.noted)
+    ++ lenient_advice known.strict_refusal
     ++ hidden_advice (not listing.all && known.counts.hides)
 
 -- The lines at the end: what came how often, and what to do next.
 abbrev pub closing_lines : Listing → Known → Session → List ℕ
 closing_lines listing known s = if s.records == 0 then codes "The log has no messages.\n"
-    else counts_words s.messages known.counts ++ advice listing s.refusals known
+    else counts_words s.messages known.counts ++ advice listing s known
 
 -- ---- the engine
 

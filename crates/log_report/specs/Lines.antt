@@ -1,7 +1,7 @@
 -- The commands that write a line for each record by what is known of the records before it: `trace`
 -- and `check --explain`.
 use Rattle.std.specs.Prelude.{◌&&◌, ◌||◌, if◌then◌else◌, ◌∷◌}
-use Rattle.log_report.specs.Prelude.{ℕ, Bool, true, false, not, List, [], Option, Some, None, is_none, is_some, reading, ChangeData, AlreadyOpen, NotOpen, StaleVersion, refused, IncomingData, did_open, did_change, did_close, incoming_of, Store, Head, Sender, Record, Note}
+use Rattle.log_report.specs.Prelude.{ℕ, Bool, true, false, not, List, [], Option, Some, None, is_none, is_some, reading, ErrorCode, ParseError, ChangeData, AlreadyOpen, NotOpen, StaleVersion, refused, reply, IncomingData, did_open, did_change, did_close, incoming_of, Store, Head, Sender, Record, Note}
 use Rattle.lsp_log.specs.declared.record.Sender.TheVariants.{Client}
 use Rattle.log_session.specs.View.{View, unless_bad, writes}
 use Rattle.log_session.specs.Canonical.{change_in}
@@ -10,6 +10,8 @@ use Rattle.log_report.specs.Mentions.{Mention, is_mention, last_for, last_record
 use Rattle.log_report.specs.Notes.{notes_of}
 use Rattle.log_session.specs.Session.{ranged_after, Session, Judged, Verdict, answered, has_changed, session_outcome}
 use Rattle.log_report.specs.Reasons.{is_empty, is_idle}
+use Rattle.lsp_server.specs.declared.answer.Refusal.{Refusal}
+use Rattle.lsp_server.specs.declared.answer.Refusal.TheVariants.{InvalidParams as BadParams}
 
 -- The document that a record of one side is about: the URI in valid parameters of an editor's
 -- message.
@@ -29,6 +31,8 @@ pub record Known : Type 0 where
   pub made : List Mention
   -- did the server ask for ranges?
   pub ranged : Bool
+  -- the last one that couldn't be read, and may have opened a document
+  pub unread : Option ℕ
   -- is one of them refused with S1 or S5, which lenient limits never do, and meant to change a text?
   pub strict_refusal : Bool
   -- how often what came
@@ -40,6 +44,7 @@ nothing_known = record {
   mentions = [];
   made = [];
   ranged = false;
+  unread = None;
   strict_refusal = false;
   counts = nothing_counted;
 }
@@ -66,36 +71,71 @@ is_stale_refusal verdict = false
 abbrev pub is_strict_refusal : Option ChangeData → Verdict → Bool
 is_strict_refusal change verdict = is_open_already verdict || is_stale_refusal verdict && not (is_idle change)
 
--- What is known after a record with this head and body, by the session before it.
-abbrev pub known_after : Known → Session → Head → List ℕ → Judged → Known
-known_after known s head body j = record {
-  mentions = mentioned (is_mention (is_some (change_in (incoming_of (reading body)))) j.verdict)
-      (uri_of head.side (incoming_of (reading body))) j.session.records known.mentions;
-  made = mentioned (has_changed j.verdict) (uri_of head.side (incoming_of (reading body)))
-      j.session.records known.made;
-  ranged = ranged_after known.ranged s head.side body;
-  strict_refusal = known.strict_refusal
-      || is_strict_refusal (change_in (incoming_of (reading body))) j.verdict;
-  counts = counts_after known.counts j.session.records j.verdict
-      (notes_of s known.ranged body j.verdict);
-}
+-- Couldn't a record be read that may have opened a document? Its body is no JSON, or its params are
+-- none of its method.
+abbrev pub is_parse_error : Option ErrorCode → Bool
+is_parse_error (Some ParseError) = true
+is_parse_error code = false
+
+abbrev pub is_bad_params : Refusal → Bool
+is_bad_params BadParams = true
+is_bad_params refusal = false
+
+abbrev pub is_unread : Verdict → Bool
+is_unread (answered (reply r)) = is_parse_error r.code
+is_unread (answered (refused refusal)) = is_bad_params refusal
+is_unread verdict = false
+
+-- The last of them, after a record of this number.
+abbrev pub unread_after : Option ℕ → ℕ → Verdict → Option ℕ
+unread_after unread number verdict = if is_unread verdict then Some number else unread
 
 -- ---- what is known of a document that a record is refused for
+
+-- That record, or for a document that isn't open the last one that couldn't be read.
+abbrev pub or_unread : Option ℕ → Option ℕ → Verdict → Option ℕ
+or_unread None unread verdict = if is_not_open verdict then unread else None
+or_unread (Some last) unread verdict = Some last
 
 -- The record to look at: of an old version the one that made the current version, of another
 -- refusal the last one that opened, closed or refused the document.
 abbrev pub last_in : Known → Option (List ℕ) → Verdict → Option ℕ
-last_in known uri verdict =
-    if is_stale_refusal verdict then last_for known.made uri verdict else last_for known.mentions uri verdict
+last_in known uri verdict = if is_stale_refusal verdict then last_for known.made uri verdict
+    else or_unread (last_for known.mentions uri verdict) known.unread verdict
 
 -- None of this name was opened, and another was.
 abbrev pub is_new_name : List Mention → Option (List ℕ) → Bool
 is_new_name made None = false
 is_new_name made (Some uri) = is_none (last_record uri made) && not (is_empty made)
 
--- Its editor may have renamed a document: it isn't open, and none of its name was.
+-- Its editor may have renamed a document: it isn't open, none of its name was, and each record could
+-- be read.
 abbrev pub is_renamed : Known → Option (List ℕ) → Verdict → Bool
-is_renamed known uri verdict = is_not_open verdict && is_new_name known.made uri
+is_renamed known uri verdict =
+    is_not_open verdict && (is_new_name known.made uri && is_none known.unread)
+
+-- The number that a record is known by, which has to look at another one: where its document isn't
+-- open, the number of that one, so that many such records lead to one.
+abbrev pub lead_of : Option ℕ → ℕ → Verdict → ℕ
+lead_of None number verdict = number
+lead_of (Some last) number verdict = if is_not_open verdict then last else number
+
+-- What is known after a record with this head and body, by the session before it.
+abbrev pub known_after : Known → Session → Head → List ℕ → Judged → Known
+known_after known s head body j = record {
+  mentions = mentioned (is_mention (is_some (change_in (incoming_of (reading body)))) j.verdict)
+      (uri_of head.side (incoming_of (reading body)))
+      (lead_of (last_in known (uri_of head.side (incoming_of (reading body))) j.verdict)
+      j.session.records j.verdict) known.mentions;
+  made = mentioned (has_changed j.verdict) (uri_of head.side (incoming_of (reading body)))
+      j.session.records known.made;
+  ranged = ranged_after known.ranged s head.side body;
+  unread = unread_after known.unread j.session.records j.verdict;
+  strict_refusal = known.strict_refusal
+      || is_strict_refusal (change_in (incoming_of (reading body))) j.verdict;
+  counts = counts_after known.counts j.session.records j.verdict
+      (notes_of s known.ranged body j.verdict);
+}
 
 -- What a line says of a record.
 pub record FactsData : Type 0 where

@@ -165,12 +165,14 @@ abbrev pub saved_text : Option Data → Option (List ℕ)
 saved_text params = text_in (member_at (codes "text") params)
 
 -- The line of a text in which another differs first, if the text begins with this line:
--- `differing_line 1` of "a\nb\n" and "a\nc" is 2, of "a\n" and "a" 1, and of "a" and "a\n" too.
+-- `differing_line 1` of "a\nb\n" and "a\nc" is 2, of "a\n" and "a" 1, and of "a" and "a\n" too. Where
+-- one ends a line and the other doesn't yet, that line differs.
 abbrev pub differing_line : ℕ → List ℕ → List ℕ → ℕ
 differing_line line [] others = line
 differing_line line (byte ∷ bytes) [] = line
 differing_line line (byte ∷ bytes) (other ∷ others) = if byte == other
-    then differing_line (if ends_line byte bytes then suc line else line) bytes others
+    then differing_line (if ends_line byte bytes && ends_line other others then suc line else line)
+    bytes others
     else line
 
 -- Is a text a part of another? "b" is one of "abc"; no text at all is none.

@@ -8,6 +8,8 @@ use Rattle.log_session.specs.Run.{Engine, log_engine}
 use Rattle.log_session.specs.Session.{opened, session_outcome, opened_in}
 use Rattle.log_report.specs.Tallies.{Tally, has_tallies, tallied}
 use Rattle.log_report.specs.Trace.{json_string}
+use Rattle.lsp_server.specs.declared.phase.Phase.{Phase}
+use Rattle.lsp_server.specs.declared.phase.Phase.TheVariants.{New}
 
 -- ---- all that were opened
 
@@ -49,11 +51,16 @@ abbrev pub listed_words : List Tally → List ℕ
 listed_words ts = flat_map opening_words (take most_openings ts)
     ++ more_words (length ts - most_openings)
 
--- Those that end so, else all.
-abbrev pub openings_words : OpeningsData → List ℕ
-openings_words o = if has_tallies o.fitting then listed_words o.fitting
+-- Why there is none to list: the log lacks its beginning, if the server was never started.
+abbrev pub none_words : Phase → List ℕ
+none_words New = codes "  the log lacks its beginning: no `initialize` started the server (LOGS.md)\n"
+none_words phase = codes "  no message opened a document\n"
+
+-- Those that end so, else all, by the server's phase at the end.
+abbrev pub openings_words : Phase → OpeningsData → List ℕ
+openings_words phase o = if has_tallies o.fitting then listed_words o.fitting
     else if has_tallies o.others then listed_words o.others
-    else codes "  no message opened a document\n"
+    else none_words phase
 
 -- ---- the engine
 
@@ -62,7 +69,7 @@ abbrev pub listing_openings : View OpeningsData
 listing_openings = record {
   record_output = λ o s r j. unless_bad r j.verdict (writes []);
   next = λ o s r j. openings_after (opened_in r j) j.session.records o;
-  end_output = λ o s line_due. openings_words o;
+  end_output = λ o s line_due. openings_words s.server.phase o;
   outcome = λ o s. session_outcome s;
 }
 

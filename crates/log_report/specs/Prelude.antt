@@ -3,7 +3,8 @@ pub use Rattle.std.specs.Fmt.{signed_decimal}
 pub use Rattle.std.specs.Prelude.{All, Bool, Err, IsUtf8, List, None, Ok, Option, Result, Some, [], codes, decimal, encode_utf8_all, false, flat_map, int_le, is_none, is_some, length, map, nat_le, nat_lt, not, option_and_then, option_map, slice_get, slice_range, suc, sum_by, take, true, ℕ, ℤ}
 pub use Rattle.std.specs.Str.{bytes_eq, chars}
 pub use Rattle.std.specs.String.{string_bytes}
-pub use Rattle.line_diff.specs.Comparison.{ComparisonData, comparison_words, ends_so, equality, refused_by, taken}
+pub use Rattle.line_diff.specs.Comparison.{ComparisonData, Followed, comparison_words, ended_by, equality, is_followed, refused_by, taken}
+pub use Rattle.line_diff.specs.Names.{ends_so}
 pub use Rattle.line_diff.specs.declared.owners.Splice.{Splice}
 pub use Rattle.log_report.specs.declared.commands.explain.Listing.{Listing}
 pub use Rattle.log_report.specs.declared.commands.trace.Details.{Details}

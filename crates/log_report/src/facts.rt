@@ -7,8 +7,9 @@ ghost use Rattle.std.specs.Prelude.{◌≡◌, ◌≢◌, ◌⊎◌, IfErr, IfOk
 ghost use Rattle.lsp_log.specs.Splitting.{record_of};
 ghost use Rattle.lsp_message.specs.Seen.{change_view};
 ghost use Rattle.log_report.specs.Lines.{is_new_name, is_not_open, is_open_already};
+ghost use Rattle.log_report.specs.Lines.{is_bad_params, is_parse_error, is_unread, unread_after};
 ghost use Rattle.log_report.specs.Lines.{is_renamed, is_stale_refusal, is_strict_refusal, known_after};
-ghost use Rattle.log_report.specs.Lines.{last_in, nothing_known};
+ghost use Rattle.log_report.specs.Lines.{last_in, lead_of, nothing_known, or_unread};
 ghost use Rattle.log_report.specs.Mentions.{is_mention, last_for};
 ghost use Rattle.log_session.specs.Session.{bad};
 ghost use Rattle.log_session.specs.inside.Bodies.{judge_at};
@@ -27,7 +28,7 @@ use crate::notes::Note;
 use crate::printer::reasons::is_idle;
 use log_session::{RecordBody, Session, Taken, Verdict, Witness, has_changed, in_log};
 use lsp_log::Record;
-use lsp_message::ChangeParams;
+use lsp_message::{ChangeParams, ErrorCode};
 use lsp_server::{Answer, Refusal};
 use lsp_store::StoreFault;
 use lsp_stream::EngineFault;
@@ -90,6 +91,8 @@ pub struct Known {
     made: Mentions,
     // Whether the server asked for ranges.
     ranged: bool,
+    // The last record that couldn't be read, and may have opened a document.
+    unread: Option<u64>,
     /// Whether a record is refused with S1 or S5, which lenient limits never do, and was meant to
     /// change a text.
     pub strict_refusal: bool,
@@ -105,6 +108,7 @@ impl Model for Known {
       mentions = known.mentions.newest.items;
       made = known.made.newest.items;
       ranged = known.ranged;
+      unread = known.unread;
       strict_refusal = known.strict_refusal;
       counts = known.counts;
     } };
@@ -120,6 +124,7 @@ impl Known {
             mentions: Mentions::new(alloc),
             made: Mentions::new(alloc),
             ranged: false,
+            unread: None,
             strict_refusal: false,
             counts: Counts::nothing(alloc),
         }
@@ -174,10 +179,12 @@ impl Known {
         let notes = notes_if(notes, &verdict);
         let rare = self.counts.rare(&notes)?;
         let mentioned = is_mention(change.is_some(), &verdict);
-        self.mentions.keep(mentioned, uri.as_deref(), number)?;
+        let lead = lead_of(last, number, &verdict);
+        self.mentions.keep(mentioned, uri.as_deref(), lead)?;
         self.made
             .keep(has_changed(&verdict), uri.as_deref(), number)?;
         self.ranged = ranged_with(self.ranged, ranged);
+        self.unread = unread_after(self.unread, number, &verdict);
         let is_strict = is_strict_refusal(change.as_ref(), &verdict);
         self.strict_refusal = self.strict_refusal || is_strict;
         self.counts.count(number, &verdict, &notes)?;
@@ -196,7 +203,8 @@ impl Known {
 
     /// Returns the record to look at, if the documents refused one about a document: which made the
     /// current version, if it was an old version that they refused; else which opened, closed or
-    /// refused the document last.
+    /// refused the document last. If there is none, and the document isn't open, it is the last one
+    /// that couldn't be read.
     fn last_in(&self, uri: Option<&str>, verdict: &Verdict) -> Option<u64>
         ensures { result ≡ last_in self.now (option_map (λ uri. uri.now) uri.entry)
             (verdict_view verdict.now) }
@@ -204,7 +212,7 @@ impl Known {
         if is_stale_refusal(verdict) {
             last_for(&self.made, uri, verdict)
         } else {
-            last_for(&self.mentions, uri, verdict)
+            or_unread(last_for(&self.mentions, uri, verdict), self.unread, verdict)
         }
     }
 
@@ -214,7 +222,7 @@ impl Known {
         ensures { result ≡ is_renamed self.now (option_map (λ uri. uri.now) uri.entry)
             (verdict_view verdict.now) }
     {
-        is_not_open(verdict) && is_new_name(&self.made, uri)
+        is_not_open(verdict) && (is_new_name(&self.made, uri) && self.unread.is_none())
     }
 }
 
@@ -237,6 +245,64 @@ fn is_new_name(made: &Mentions, uri: Option<&str>) -> bool
     match uri {
         Some(uri) => made.last(uri).is_none() && !made.is_empty(),
         None => false,
+    }
+}
+
+/// Returns the record to look at; where there is none, and the document isn't open, the last one that
+/// couldn't be read.
+fn or_unread(last: Option<u64>, unread: Option<u64>, verdict: &Verdict) -> Option<u64>
+    ensures { result ≡ or_unread last unread (verdict_view verdict.now) }
+{
+    if let Some(last) = last {
+        return Some(last);
+    }
+    if is_not_open(verdict) { unread } else { None }
+}
+
+/// Returns the number that a record is known by, which has to look at another one: the number of
+/// that one, if the document isn't open.
+fn lead_of(last: Option<u64>, number: u64, verdict: &Verdict) -> u64
+    ensures { result ≡ lead_of last number (verdict_view verdict.now) }
+{
+    let Some(last) = last else {
+        return number;
+    };
+    if is_not_open(verdict) { last } else { number }
+}
+
+/// Returns whether a record couldn't be read that may have opened a document.
+fn is_unread(verdict: &Verdict) -> bool
+    ensures { result ≡ is_unread (verdict_view verdict.now) }
+{
+    match verdict {
+        Verdict::Answered(Answer::Reply { code, .. }) => is_parse_error(*code),
+        Verdict::Answered(Answer::Refused(refusal)) => is_bad_params(refusal),
+        _ => false,
+    }
+}
+
+/// Returns whether a body is no JSON.
+fn is_parse_error(code: Option<ErrorCode>) -> bool
+    ensures { result ≡ is_parse_error code }
+{
+    matches!(code, Some(ErrorCode::ParseError))
+}
+
+/// Returns whether params are none of their method.
+fn is_bad_params(refusal: &Refusal) -> bool
+    ensures { result ≡ is_bad_params refusal.now }
+{
+    matches!(refusal, Refusal::InvalidParams)
+}
+
+/// Returns the last record that couldn't be read, after one of this number.
+fn unread_after(unread: Option<u64>, number: u64, verdict: &Verdict) -> Option<u64>
+    ensures { result ≡ unread_after unread number (verdict_view verdict.now) }
+{
+    if is_unread(verdict) {
+        Some(number)
+    } else {
+        unread
     }
 }
 

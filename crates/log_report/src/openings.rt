@@ -1,11 +1,12 @@
 //! Which message opened each document of a log first.
 
 ghost use Rattle.std.specs.Prelude.{◌≡◌, ◌++◌, OnOk, flat_map, option_map, string_bytes, take};
-ghost use Rattle.log_report.specs.Openings.{listed_words, more_words, most_openings, no_openings, opening_words, openings_after, openings_words};
+ghost use Rattle.log_report.specs.Openings.{listed_words, more_words, most_openings, no_openings, none_words, opening_words, openings_after, openings_words};
 
 use crate::counts::tallies::{Tally, add, has_tallies};
 use crate::members::{push_json_string, push_number, push_words};
 use line_diff::ends_so;
+use lsp_server::Phase;
 use std::alloc::{AllocError, Global};
 use std::marker::Model;
 
@@ -64,9 +65,11 @@ impl Openings {
         }
     }
 
-    /// Writes the list: of the documents whose URIs end as they should, else of all.
-    pub fn push(&self, buffer: &mut Vec<u8>) -> Result<(), AllocError>
-        ensures { OnOk result (buffer.new.items ≡ buffer.old.items ++ openings_words self.now) }
+    /// Writes the list at the end, with the server in this phase: of the documents whose URIs end
+    /// as they should, else of all.
+    pub fn push(&self, buffer: &mut Vec<u8>, phase: Phase) -> Result<(), AllocError>
+        ensures { OnOk result
+            (buffer.new.items ≡ buffer.old.items ++ openings_words phase self.now) }
     {
         if has_tallies(self.fitting.as_slice()) {
             return push_list(self.alloc, buffer, self.fitting.as_slice());
@@ -74,7 +77,19 @@ impl Openings {
         if has_tallies(self.others.as_slice()) {
             return push_list(self.alloc, buffer, self.others.as_slice());
         }
-        push_words(buffer, "  no message opened a document\n")
+        push_words(buffer, none_words(phase))
+    }
+}
+
+/// Returns why no document can be listed, with the server in this phase at the end.
+fn none_words(phase: Phase) -> &'static str
+    ensures { result.now ≡ none_words phase }
+{
+    match phase {
+        Phase::New => {
+            "  the log lacks its beginning: no `initialize` started the server (LOGS.md)\n"
+        }
+        Phase::Running | Phase::Down | Phase::Ended => "  no message opened a document\n",
     }
 }
 

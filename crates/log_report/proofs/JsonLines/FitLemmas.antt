@@ -1,5 +1,5 @@
 -- The numbers of a session fit their types: counts 64 bits, versions 32 bits. A canonical message is JSON.
-use Rattle.log_report.proofs.Prelude.{if◌then◌else◌, ◌≡◌, ℕ, ℤ, suc, ◌^◌, ◌<◌, ◌≤◌, Bool, true, false, List, [], ◌∷◌, ◌++◌, length, map, Option, Some, None, refl, sym, ap, ◌∙◌, subst, arith, take, bytes_eq, FitsSigned, IsUtf8, ⊤, option_and_then, option_map_or, is_utf8, cases_Bool, ltb-false, IsUtf8-from_is_utf8, Json, IsUtf8-are_ascii, Data, read, LimitsData, AreInRange, units_in, ContentChange, json_of, message_of, reading, DocumentItem, value_of, IsProperId, AllWithin, after_change, after_close, after_open, entry_at, refused, Phase, IncomingData, not_json, not_a_message, response, initialize, shutdown, other_request, did_open, did_change, did_close, other_notification, incoming_of, ServerData, content_change_from_data, session_encoding, step_in, Sender, Client, Server, Version, Record, canonical_of_record, Known, known_after, last_in, uri_of, Mention, is_mention, last_for, last_record, mentioned, most_mentions, without, Session, Verdict, answered, encoding_for, has_changed, judge, judge_from, id_of, is_json, method_of, within, common_steps, change_in, is_some}
+use Rattle.log_report.proofs.Prelude.{if◌then◌else◌, ◌≡◌, ℕ, ℤ, suc, ◌^◌, ◌<◌, ◌≤◌, Bool, true, false, List, [], ◌∷◌, ◌++◌, length, map, Option, Some, None, refl, sym, ap, ◌∙◌, subst, arith, take, bytes_eq, FitsSigned, IsUtf8, ⊤, option_and_then, option_map_or, is_utf8, cases_Bool, ltb-false, IsUtf8-from_is_utf8, Json, IsUtf8-are_ascii, Data, read, LimitsData, AreInRange, units_in, ContentChange, json_of, message_of, reading, DocumentItem, value_of, IsProperId, AllWithin, after_change, after_close, after_open, entry_at, refused, Phase, IncomingData, not_json, not_a_message, response, initialize, shutdown, other_request, did_open, did_change, did_close, other_notification, incoming_of, ServerData, content_change_from_data, session_encoding, step_in, Sender, Client, Server, Version, Record, canonical_of_record, Known, is_not_open, is_stale_refusal, is_unread, known_after, last_in, lead_of, or_unread, uri_of, Mention, is_mention, last_for, last_record, mentioned, most_mentions, without, Session, Verdict, answered, encoding_for, has_changed, judge, judge_from, id_of, is_json, method_of, within, common_steps, change_in, is_some}
 use Rattle.std.specs.Int.{w32}
 use Rattle.log_session.specs.Canonical.{canonical_change_body}
 use Rattle.lsp_message.proofs.BodyLemmas.{body_is}
@@ -132,9 +132,27 @@ either_fits : (b : Bool) (x y : Option ℕ) → OnSome IsCount x → OnSome IsCo
 either_fits true x y h k = h
 either_fits false x y h k = k
 
+unread_fits : (last unread : Option ℕ) (verdict : Verdict) → OnSome IsCount last → OnSome IsCount unread
+    → OnSome IsCount (or_unread last unread verdict)
+unread_fits None unread verdict h k = either_fits (is_not_open verdict) unread None k tt
+unread_fits (Some last) unread verdict h k = h
+
 pub last_fits : (known : Known) (uri : Option (List ℕ)) (verdict : Verdict) → AreNumbered known.made
-    → AreNumbered known.mentions → OnSome IsCount (last_in known uri verdict)
-last_fits known uri verdict made mentions = grind (arith, common_steps, either_fits, mention_fits)
+    → AreNumbered known.mentions → OnSome IsCount known.unread → OnSome IsCount (last_in known uri verdict)
+last_fits known uri verdict made mentions unread =
+    either_fits (is_stale_refusal verdict) (last_for known.made uri verdict)
+    (or_unread (last_for known.mentions uri verdict) known.unread verdict) (mention_fits known.made uri verdict made)
+    (unread_fits (last_for known.mentions uri verdict) known.unread verdict
+    (mention_fits known.mentions uri verdict mentions) unread)
+
+lead_fits : (last : Option ℕ) (number : ℕ) (verdict : Verdict) → OnSome IsCount last → IsCount number
+    → IsCount (lead_of last number verdict)
+lead_fits None number verdict h k = k
+lead_fits (Some last) number verdict h k = one (is_not_open verdict)
+  where
+    one : (b : Bool) → IsCount (if b then last else number)
+    one true = h
+    one false = k
 
 -- ---- a session
 
@@ -144,6 +162,7 @@ pub record IsFit (limits : LimitsData) (known : Known) (s : Session) : Type 0 wh
   pub records : IsCount s.records
   pub made : AreNumbered known.made
   pub mentions : AreNumbered known.mentions
+  pub unread : OnSome IsCount known.unread
 
 from_versions : (s : Session) (version : Version) (side : Sender) (body : List ℕ) → AreVersions s.server.table
     → AreVersions (judge_from s version side body).session.server.table
@@ -167,8 +186,15 @@ judged_fits limits known s r fit =
           (uri_of r.head.side (incoming_of (reading r.body))) (judge s r).session.records known.made records
           fit.made;
       mentions = numbered_more (is_mention (is_some (change_in (incoming_of (reading r.body)))) (judge s r).verdict)
-          (uri_of r.head.side (incoming_of (reading r.body))) (judge s r).session.records known.mentions records
-          fit.mentions;
+          (uri_of r.head.side (incoming_of (reading r.body)))
+          (lead_of (last_in known (uri_of r.head.side (incoming_of (reading r.body))) (judge s r).verdict)
+          (judge s r).session.records (judge s r).verdict) known.mentions
+          (lead_fits (last_in known (uri_of r.head.side (incoming_of (reading r.body))) (judge s r).verdict)
+          (judge s r).session.records (judge s r).verdict
+          (last_fits known (uri_of r.head.side (incoming_of (reading r.body))) (judge s r).verdict fit.made
+          fit.mentions fit.unread) records) fit.mentions;
+      unread = either_fits (is_unread (judge s r).verdict) (Some (judge s r).session.records) known.unread records
+          fit.unread;
     }
 
 pub document_fits : (table : List DocumentItem) (uri : Option (List ℕ)) → AreVersions table

@@ -178,7 +178,7 @@ module _ (limits : LimitsData) (ranges : AreInRange limits) (details : Details) 
       let last = a_member_if (codes "last") _ (option_map decimal (last_in known uri j.verdict))
       (option_map natural (last_in known uri j.verdict)) _ refl
       (values_if (λ n. n < 2 ^ 64) decimal natural a_natural (last_in known uri j.verdict)
-      (last_fits known uri j.verdict fits.made fits.mentions)) notes in
+      (last_fits known uri j.verdict fits.made fits.mentions fits.unread)) notes in
       let reason = a_member_if (codes "reason") _
       (reason_json j.session.server.config.limits (change_in m) (is_renamed known uri j.verdict) j.verdict)
       (reason_value j.session.server.config.limits m (is_renamed known uri j.verdict) j.verdict) _ refl

@@ -7,7 +7,7 @@ use Rattle.log_report.specs.declared.facts.Facts.{Facts}
 use Rattle.log_session.specs.declared.session.canonical.Appended.TheVariants.{Body}
 use Rattle.log_report.specs.Counts.{counts_after, rare_notes}
 use Rattle.log_report.specs.Explain.{noted_uri, saved_in}
-use Rattle.log_report.specs.Lines.{FactsData, Known, facts_of, is_renamed, is_strict_refusal, last_in, uri_of}
+use Rattle.log_report.specs.Lines.{FactsData, Known, facts_of, is_renamed, is_strict_refusal, last_in, lead_of, unread_after, uri_of}
 use Rattle.log_report.specs.Mentions.{is_mention, mentioned}
 use Rattle.log_report.specs.Notes.{notes_if, notes_of, notes_on}
 use Rattle.log_session.specs.Session.{Session, has_changed, judge}
@@ -60,10 +60,13 @@ pub record IsLearned (known : Known) (n : ℕ) (about : About) (taken : Taken) (
 abbrev pub known_by : Known → ℕ → About → Taken → Known
 known_by known number about taken = record {
   mentions = mentioned (is_mention (is_some taken.change) (verdict_view taken.verdict))
-      (option_map string_bytes about.uri) number known.mentions;
+      (option_map string_bytes about.uri)
+      (lead_of (last_in known (option_map string_bytes about.uri) (verdict_view taken.verdict))
+      number (verdict_view taken.verdict)) known.mentions;
   made = mentioned (has_changed (verdict_view taken.verdict))
       (option_map string_bytes about.uri) number known.made;
   ranged = ranged_with known.ranged taken.ranged;
+  unread = unread_after known.unread number (verdict_view taken.verdict);
   strict_refusal = known.strict_refusal
       || is_strict_refusal (option_map change_view taken.change) (verdict_view taken.verdict);
   counts = counts_after known.counts number (verdict_view taken.verdict)

@@ -19,8 +19,9 @@ use std::alloc::Global;
 /// document's URI ends as the comparison wants, nothing is written, and the outcome says that it is
 /// missing. If another one ends so too, both are named.
 ///
-/// Errors are those of [`check`](crate::check). Each range of a change costs what the text has.
-/// The memory is for the open documents, the document's text and the file.
+/// Errors are those of [`check`](crate::check). A change costs what it costs `check`, and what lies
+/// between it and the one before it. The memory is for the open documents, at most 32 bytes for each
+/// change of the document, its text and the file.
 pub fn compare<R: Source, W: Sink>(
     alloc: Global,
     reader: &mut R,

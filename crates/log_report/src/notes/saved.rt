@@ -1,7 +1,7 @@
 //! A `didSave` with a text (LSP 3.17, DidSaveTextDocumentParams). A copy is right exactly if that is
 //! the document's.
 
-ghost use Rattle.std.specs.Prelude.{◌≡◌, ◌++◌, ◌<◌, IfOk, OnOk, drop, length, option_and_then, option_map, slice_index, suc};
+ghost use Rattle.std.specs.Prelude.{◌≡◌, ◌++◌, ◌&&◌, ◌<◌, IfOk, OnOk, drop, length, option_and_then, option_map, slice_index, suc};
 ghost use Rattle.serde_json.specs.View.{view};
 ghost use Rattle.line_diff.specs.Lines.{ends_line};
 ghost use Rattle.lsp_store.specs.Table.{entry_at};
@@ -86,12 +86,22 @@ fn differing_line(text: &[u8], other: &[u8]) -> usize
         if text[next] != other[next] {
             return line;
         }
-        if ends_line(text, next) {
+        if ends_both(text, other, next) {
             line += 1;
         }
         next += 1;
     }
     line
+}
+
+/// Returns whether the bytes at an index end a line of both texts.
+fn ends_both(text: &[u8], other: &[u8], index: usize) -> bool
+    requires text { index < length text.now }
+    requires other { index < length other.now }
+    ensures { result ≡ (ends_line (slice_index text.now index) (drop (suc index) text.now)
+        && ends_line (slice_index other.now index) (drop (suc index) other.now)) }
+{
+    ends_line(text, index) && ends_line(other, index)
 }
 
 /// Returns whether the byte at an index ends a line.

@@ -1,9 +1,8 @@
 //! `compare`: whether a document's last text is that of a file, and else which message made it so.
 
-ghost use Rattle.std.specs.Prelude.{◌≡◌, IfOk, None, OnOk, option_map, string_bytes};
-ghost use Rattle.line_diff.specs.Comparison.{equality};
+ghost use Rattle.std.specs.Prelude.{◌≡◌, IfOk, None, OnOk, Some, option_map, string_bytes};
 ghost use Rattle.lsp_store.specs.Table.{entry_at};
-ghost use Rattle.log_report.specs.Compare.{compared_outcome, comparing, if_ends_so, learned, splices_in, taken_if};
+ghost use Rattle.log_report.specs.Compare.{closed_text, compared_outcome, comparing, comparison_equality, ended_if, if_ends_so, learned, splices_in, taken_if, open_text_of};
 ghost use Rattle.log_report.specs.Lines.{uri_of};
 ghost use Rattle.log_session.specs.Session.{session_outcome};
 ghost use Rattle.log_session.specs.inside.Bodies.{body_view, on_client};
@@ -64,21 +63,47 @@ impl Compare {
         }
     }
 
-    /// Takes what a record with this verdict has made of a document.
+    /// Copies the text of a document, if it is open.
+    fn open_text_of(&self, uri: &str) -> Result<Option<String>, AllocError>
+        ensures { IfOk result (λ text. option_map string_bytes text
+            ≡ open_text_of self.now.session.server (Some uri.now)) }
+    {
+        match self.session.server().store().get(uri) {
+            Some(document) => Ok(Some(document.text().to_string(self.alloc)?)),
+            None => Ok(None),
+        }
+    }
+
+    /// Copies the text of the document, if it is open and a record closes it.
+    fn closed_text(&self, read: &RecordBody<'_>) -> Result<Option<String>, AllocError>
+        ensures { IfOk result (λ text. option_map string_bytes text
+            ≡ on_client None (closed_text self.now.comparison.document self.now.session.server)
+            (body_view read.now)) }
+    {
+        match read {
+            RecordBody::Client(_, Incoming::DidClose(Some(params)), _)
+                if self.comparison.is_followed(&params.uri) => self.open_text_of(&params.uri),
+            _ => Ok(None),
+        }
+    }
+
+    /// Takes what a record with this verdict has made of a document. `text` is what it closes.
     fn learn(
         &mut self,
         uri: Option<&str>,
         splices: Option<&[Splice]>,
+        text: Option<String>,
         verdict: &Verdict,
     ) -> Result<(), AllocError>
         ensures session { OnOk result (self.new.session ≡ self.old.session) }
         ensures comparison { OnOk result (self.new.comparison
-            ≡ learned (option_map (λ splices. splices.now) splices.entry)
+            ≡ learned (option_map string_bytes text)
+            (option_map (λ splices. splices.now) splices.entry)
             (option_map (λ uri. uri.now) uri.entry) (verdict_view verdict.now)
             self.old.session self.old.comparison) }
     {
         match (uri, verdict) {
-            (Some(uri), Verdict::Answered(Answer::Changed)) => self.take(uri, splices),
+            (Some(uri), Verdict::Answered(Answer::Changed)) => self.take(uri, splices, text),
             (Some(uri), Verdict::Answered(Answer::Refused(refusal))) => {
                 let number = self.session.records();
                 self.comparison
@@ -88,26 +113,57 @@ impl Compare {
         }
     }
 
-    /// Takes the text of a document that the last record has opened, or changed by splices.
-    fn take(&mut self, uri: &str, splices: Option<&[Splice]>) -> Result<(), AllocError>
+    /// Takes the text of a document that the last record has opened, or changed by splices; or of
+    /// one that it has closed, its last text, if that is given.
+    fn take(
+        &mut self,
+        uri: &str,
+        splices: Option<&[Splice]>,
+        text: Option<String>,
+    ) -> Result<(), AllocError>
         ensures session { OnOk result (self.new.session ≡ self.old.session) }
         ensures comparison { OnOk result (self.new.comparison
-            ≡ taken_if (option_map (λ splices. splices.now) splices.entry) self.old.session.records
-            uri.now (entry_at self.old.session.server.table uri.now) self.old.comparison) }
+            ≡ taken_if (option_map string_bytes text)
+            (option_map (λ splices. splices.now) splices.entry) self.old.session.records uri.now
+            (entry_at self.old.session.server.table uri.now) self.old.comparison) }
     {
         let number = self.session.records();
         let Some(document) = self.session.server().store().get(uri) else {
+            self.end_with(text);
             return Ok(());
         };
-        let text = document.text().to_string(self.alloc)?;
-        self.comparison.take(self.alloc, number, uri, text, splices)
+        let len = document.text().len();
+        self.comparison.take(self.alloc, number, uri, len, splices)
+    }
+
+    /// Takes the document's last text, if it is given.
+    fn end_with(&mut self, text: Option<String>)
+        ensures session { self.new.session ≡ self.old.session }
+        ensures comparison { self.new.comparison
+            ≡ ended_if (option_map string_bytes text) self.old.comparison }
+    {
+        let Some(text) = text else {
+            return;
+        };
+        self.comparison.end(text);
+    }
+
+    /// Copies the text of the document, if it is still open.
+    fn open_text(&self) -> Result<Option<String>, AllocError>
+        ensures { IfOk result (λ text. option_map string_bytes text
+            ≡ open_text_of self.now.session.server
+            (option_map (λ d. d.uri) self.now.comparison.document)) }
+    {
+        match self.comparison.uri() {
+            Some(uri) => self.open_text_of(uri),
+            None => Ok(None),
+        }
     }
 
     /// Returns the outcome at the end.
     fn outcome(&self) -> Outcome
-        ensures { result ≡ compared_outcome
-            (equality self.now.comparison.document self.now.comparison.second
-            self.now.comparison.file) (session_outcome self.now.session) }
+        ensures { result ≡ compared_outcome (comparison_equality self.now.comparison)
+            (session_outcome self.now.session) }
     {
         let outcome = self.session.outcome();
         match self.comparison.is_equal() {
@@ -136,12 +192,15 @@ impl Printer for Compare {
     fn print(&mut self, item: &Record<'_>, read: RecordBody<'_>, _buffer: &mut Vec<u8>) -> Printed {
         let uri = self.uri_in(&read)?;
         let splices = self.splices_in(&read)?;
+        let text = self.closed_text(&read)?;
         let verdict = self.session.accept(item.head, read)?;
-        self.learn(uri.as_deref(), splices.as_deref(), &verdict)?;
+        self.learn(uri.as_deref(), splices.as_deref(), text, &verdict)?;
         Ok(Given::more(Output::Bytes))
     }
 
     fn finish(&mut self, _line_due: bool, buffer: &mut Vec<u8>) -> Finished {
+        let text = self.open_text()?;
+        self.end_with(text);
         self.comparison.push_report(self.alloc, buffer)?;
         Ok(Some(self.outcome()))
     }

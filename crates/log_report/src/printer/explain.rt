@@ -1,24 +1,25 @@
 //! `check` with reasons: what a server answers to each record of a log, why it was refused, and
 //! what is suspicious of it.
 
-ghost use Rattle.std.specs.Prelude.{◌≡◌, ◌++◌, ◌&&◌, not, OnOk, codes, decimal, flat_map, option_map, true};
+ghost use Rattle.std.specs.Prelude.{◌≡◌, ◌++◌, ◌&&◌, not, IfOk, OnOk, codes, decimal, flat_map, option_map, true};
 ghost use Rattle.log_report.specs.Counts.{counts_words};
 ghost use Rattle.log_session.specs.Settings.{log_config};
 ghost use Rattle.log_report.specs.Lines.{lines, nothing_known};
-ghost use Rattle.log_session.specs.Session.{opened};
+ghost use Rattle.log_session.specs.Session.{is_new, opened};
 ghost use Rattle.log_report.specs.Tallies.{tally_words};
-ghost use Rattle.log_report.specs.Explain.{advice, closing_lines, document_words, explaining, explanation, first_advice};
-ghost use Rattle.log_report.specs.Explain.{is_listed, line_with, listed_line, remark, see_words};
+ghost use Rattle.log_report.specs.Explain.{advice, closing_lines, document_words, explaining, explanation, few_note, few_notes, first_advice};
+ghost use Rattle.log_report.specs.Explain.{is_listed, left_words, line_with, listed_line, remark, see_words};
 ghost use Rattle.log_session.specs.inside.Printer.{state_in};
 ghost use Rattle.log_report.specs.inside.Facts.{facts_view, listed_by, noted_by};
 ghost use Rattle.log_session.specs.inside.Verdicts.{verdict_view};
 
 use crate::commands::explain::Listing;
 use crate::counts::Counts;
-use crate::counts::tallies::{Tally, has_tallies};
+use crate::counts::tallies::{Tally, add, count_of, has_tallies};
 use crate::facts::{Facts, Known};
 use crate::members::{push_if, push_json_string, push_number, push_words};
 use crate::notes::Note;
+use crate::notes::kinds::note_kind;
 use crate::printer::check::push_verdict;
 use crate::printer::noted::push_notes;
 use crate::printer::reasons::{push_reason, push_renamed};
@@ -28,7 +29,11 @@ use log_session::{
 };
 use lsp_frame::Limits;
 use lsp_log::Record;
+use lsp_server::Phase;
 use std::alloc::{AllocError, Global};
+
+/// A line has at most so many notes of a kind.
+const MOST_NOTES: u64 = 3;
 
 /// Writes a line for each record, or for some, and at the end what came how often and what to do
 /// next.
@@ -84,11 +89,12 @@ impl Explain {
     /// Writes what to do next.
     fn push_advice(&self, buffer: &mut Vec<u8>) -> Result<(), AllocError>
         ensures { OnOk result (buffer.new.items ≡ buffer.old.items
-            ++ advice self.now.listing self.now.session.refusals self.now.known) }
+            ++ advice self.now.listing self.now.session self.now.known) }
     {
         let noted = self.known.counts.noted.as_slice();
         let refusals = self.session.outcome().refused;
-        push_words(buffer, first_advice(refusals, has_tallies(noted)))?;
+        let phase = self.session.server().phase();
+        push_words(buffer, first_advice(phase, refusals, has_tallies(noted)))?;
         push_if(
             buffer,
             self.known.strict_refusal,
@@ -209,9 +215,46 @@ fn push_remark(
     if notes.is_empty() {
         return Ok(());
     }
+    let few = few_notes(alloc, notes)?;
     push_document(alloc, buffer, uri)?;
     buffer.extend_from_slice(b": ")?;
-    push_notes(buffer, "; ", notes)
+    push_notes(buffer, "; ", few.as_slice())?;
+    push_left(buffer, notes.len().saturating_sub(few.len()))
+}
+
+/// Returns the notes that a line has of some: at most three of a kind.
+fn few_notes(alloc: Global, notes: &[Note]) -> Result<Vec<Note>, AllocError>
+    ensures { IfOk result (λ few. few.items ≡ few_notes notes.now) }
+{
+    let mut few = Vec::new(alloc);
+    let mut kinds = Vec::new(alloc);
+    for note in notes {
+        push_few(&mut few, kinds.as_slice(), *note)?;
+        add(alloc, &mut kinds, note_kind(*note), 0)?;
+    }
+    Ok(few)
+}
+
+/// Adds a note, unless so many of its kind were counted.
+fn push_few(few: &mut Vec<Note>, kinds: &[Tally], note: Note) -> Result<(), AllocError>
+    ensures { OnOk result (few.new.items ≡ few.old.items ++ few_note kinds.now note) }
+{
+    if count_of(kinds, note_kind(note)) < MOST_NOTES {
+        few.push(note)?;
+    }
+    Ok(())
+}
+
+/// Writes how many notes a line leaves out, if it does.
+fn push_left(buffer: &mut Vec<u8>, left: usize) -> Result<(), AllocError>
+    ensures { OnOk result (buffer.new.items ≡ buffer.old.items ++ left_words left) }
+{
+    if left == 0 {
+        return Ok(());
+    }
+    push_words(buffer, "; and ")?;
+    push_number(buffer, left as u64)?;
+    push_words(buffer, " more")
 }
 
 /// Writes the document that a record or its notes are about.
@@ -277,10 +320,13 @@ fn push_tally(buffer: &mut Vec<u8>, front: &str, tally: &Tally) -> Result<(), Al
     push_words(buffer, "\n")
 }
 
-/// Returns what to do first, after so many refusals.
-fn first_advice(refusals: u64, suspicious: bool) -> &'static str
-    ensures { result.now ≡ first_advice refusals suspicious }
+/// Returns what to do first, after so many refusals, with the server in this phase.
+fn first_advice(phase: Phase, refusals: u64, suspicious: bool) -> &'static str
+    ensures { result.now ≡ first_advice phase refusals suspicious }
 {
+    if is_new(phase) {
+        return "The log lacks its beginning: no `initialize` started the server, so no message changes a text (LOGS.md).\n";
+    }
     if refusals != 0 {
         return "Refused messages change nothing. `lspsync replay --at N`: the texts after message N.\n";
     }
@@ -289,4 +335,11 @@ fn first_advice(refusals: u64, suspicious: bool) -> &'static str
     } else {
         "Nothing was refused. `lspsync compare SAVED LOG` says where a saved file differs, and by which messages.\n"
     }
+}
+
+/// Returns whether the server was never started.
+fn is_new(phase: Phase) -> bool
+    ensures { result ≡ is_new phase }
+{
+    matches!(phase, Phase::New)
 }

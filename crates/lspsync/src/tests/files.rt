@@ -50,7 +50,7 @@ const NO_RECORD: &str = "lspsync: good.log: the log has no record of this number
 const SAME: &str = "\"file:///a\" after message 3: the text is the file's\n";
 
 const OTHER: &str =
-    "\"file:///a\" after message 3: the text is not the file's:\nline 1 (made by messages 3, 2): \"aXc\"\n  the file has: \"abc\\n\"\nFor each line, a message named is wrong, a later one is missing or wrong, or an earlier mistake led it to the wrong line. Look at the lowest numbers after the opening first.\n";
+    "\"file:///a\" after message 3: the text is not the file's:\nline 1 (made by messages 3, 2): \"aXc\"\n  the file, which differs from character 2 on, has: \"abc\\n\"\nFor each line, a message named is wrong, a later one is missing or wrong, or an earlier mistake led it to the wrong line. Look at the lowest numbers after the opening first.\n";
 
 const BY_UTF_32: &str = "lspsync: emoji.log: with `--encoding utf-32` the texts are equal\n";
 

@@ -1,5 +1,7 @@
-use Rattle.line_diff.proofs.Prelude.{◌≡◌, drop, greatest}
+use Rattle.line_diff.proofs.Prelude.{◌≡◌, ◌-◌, greatest, row_numbers, seconds}
 use Rattle.line_diff.proofs.makers.greatest.Given as goal
 
-abbrev pub invariant-loop-number : goal.invariant-loop-number
-invariant-loop-number l = greatest l.most (drop l.number-index l.numbers) ≡ greatest l.fn.most l.numbers
+abbrev pub invariant-steps : goal.invariant-steps
+invariant-steps l =
+    greatest l.named l.most (seconds (l.count - l._step) (row_numbers l.rest))
+    ≡ greatest l.fn.named l.fn.most (seconds l.count (row_numbers l.row))

@@ -1,8 +1,7 @@
-use Rattle.line_diff.proofs.Prelude.{◌≡◌, ◌++◌, drop, map, numbers_in, rows_of}
+use Rattle.line_diff.proofs.Prelude.{◌≡◌, ◌++◌, drop, map, row_numbers, rows_of}
 use Rattle.line_diff.proofs.makers.rows_of.Given as goal
 
 abbrev pub invariant-loop-line : goal.invariant-loop-line
 invariant-loop-line l =
-    map numbers_in l.rows.items ++ rows_of (record { owners = l.owners; places = l.places })
-    (drop l.line-index (map (λ line. line.now) l.lines))
-    ≡ rows_of (numbers_in l.numbers) (map (λ line. line.now) l.lines)
+    map row_numbers l.rows.items ++ rows_of (row_numbers l.rest) (drop l.line-index (map (λ line. line.now) l.lines))
+    ≡ rows_of (row_numbers l.numbers) (map (λ line. line.now) l.lines)

@@ -1,4 +1,4 @@
-use Rattle.line_diff.proofs.Prelude.{◌-◌, arith, common_steps}
+use Rattle.line_diff.proofs.Prelude.{arith, common_steps}
 use Rattle.line_diff.proofs.FirstLemmas.{first_passed, same_number}
 use Rattle.line_diff.proofs.owners.common_back.Goals as goal
 

@@ -1,4 +1,4 @@
-use Rattle.line_diff.proofs.Prelude.{◌≡◌, ◌∙◌, sym, false, append_assoc, arith, common_steps}
+use Rattle.line_diff.proofs.Prelude.{◌≡◌, false, append_assoc, arith, common_steps}
 use Rattle.std.specs.Str.{bytes_eq}
 use Rattle.line_diff.specs.Alike.{are_alike}
 use Rattle.line_diff.specs.Report.{difference_words, judgement}

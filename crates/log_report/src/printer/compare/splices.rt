@@ -47,6 +47,10 @@ fn splices_of(
         (map content_change_view changes.now)) }
 {
     let mut splices = Vec::new(alloc);
+    if let [change] = changes {
+        push_splice(alloc, &mut splices, text, encoding, change)?;
+        return Ok(splices);
+    }
     let mut left = text.clone_in(alloc)?;
     for change in changes {
         push_splice(alloc, &mut splices, &left, encoding, change)?;

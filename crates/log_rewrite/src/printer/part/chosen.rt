@@ -1,7 +1,7 @@
 //! The document whose text is printed.
 
 ghost use Rattle.std.specs.Prelude.{◌≡◌, ◌&&◌, IfOk, not, option_map, string_bytes};
-ghost use Rattle.line_diff.specs.Comparison.{ends_so};
+ghost use Rattle.line_diff.specs.Names.{ends_so};
 ghost use Rattle.log_rewrite.specs.Part.{found_if, is_named, none_found, only, refreshed, text_found, with_ending};
 ghost use Rattle.log_session.specs.inside.Kept.{kept_after};
 

@@ -34,7 +34,7 @@ const ANOTHER: &str =
     r#"{"jsonrpc":"2.0","method":"textDocument/didOpen","params":{"textDocument":{"languageId":"c","text":"","uri":"file:///b","version":1}}}"#;
 
 /// The session, the file, the end, and what is written.
-static ROWS: [(&[&str], &str, End, &str); 15] = [
+static ROWS: [(&[&str], &str, End, &str); 16] = [
     (
         &[INITIALIZE, OPEN, WHOLE],
         "aXc",
@@ -99,7 +99,7 @@ static ROWS: [(&[&str], &str, End, &str); 15] = [
         &[INITIALIZE, THREE_LINES, ALIKE],
         "one\ntwo\nthree\n",
         Ended(1, 3, 0),
-        "\"file:///a\" after message 3: the text is not the file's:\nline 3 (made by messages 2, 3): \"threee\\n\"\n  the file has: \"three\\n\"\nFor each line, a message named is wrong, a later one is missing or wrong, or an earlier mistake led it to the wrong line. Look at the lowest numbers after the opening first.\n",
+        "\"file:///a\" after message 3: the text is not the file's:\nline 3 (made by messages 2, 3): \"threee\\n\"\n  the file, which differs from character 6 on, has: \"three\\n\"\nFor each line, a message named is wrong, a later one is missing or wrong, or an earlier mistake led it to the wrong line. Look at the lowest numbers after the opening first.\n",
     ),
     // What a message leaves between two changes isn't its own.
     (
@@ -113,14 +113,21 @@ static ROWS: [(&[&str], &str, End, &str); 15] = [
         &[INITIALIZE, THREE_LINES, SECOND_LINE, ALIKE],
         "one\n2\t\nthreee\n",
         Ended(1, 4, 1),
-        "\"file:///a\" after message 3: the text is not the file's:\nline 3 (made by message 2): \"three\\n\"\n  the file has: \"threee\\n\"\nFor each line, a message named is wrong, a later one is missing or wrong, or an earlier mistake led it to the wrong line. Look at the lowest numbers after the opening first.\nRefused, so without effect: 4 (S5)\n",
+        "\"file:///a\" after message 3: the text is not the file's:\nline 3 (made by message 2): \"three\\n\"\n  the file, which differs from character 6 on, has: \"threee\\n\"\nFor each line, a message named is wrong, a later one is missing or wrong, or an earlier mistake led it to the wrong line. Look at the lowest numbers after the opening first.\nRefused, so without effect: 4 (S5)\n",
     ),
     // What is missing at the end of a text without a line end.
     (
         &[INITIALIZE, OPEN],
         "abcd",
         Ended(1, 2, 0),
-        "\"file:///a\" after message 2: the text is not the file's:\nline 1 (made by message 2): \"abc\"\n  the file has: \"abcd\"\nFor each line, a message named is wrong, a later one is missing or wrong, or an earlier mistake led it to the wrong line. Look at the lowest numbers after the opening first.\n",
+        "\"file:///a\" after message 2: the text is not the file's:\nline 1 (made by message 2): \"abc\"\n  the file, which differs from character 4 on, has: \"abcd\"\nFor each line, a message named is wrong, a later one is missing or wrong, or an earlier mistake led it to the wrong line. Look at the lowest numbers after the opening first.\n",
+    ),
+    // A long line is cut.
+    (
+        &[INITIALIZE, OPEN],
+        "abcxxxxxxxxxxxxxxxxxxxxxxxxxxxxxxxxxxxxxxxxxxxxxxxxxxxxxxxxxxxxxxxxxxxxxxxxxxxxxxxxxxxxxxxxxxxxxxxxxxxxxxxxxxxxxxxxxxxxxxxxxxxxxxxxxxxxxxxxxxxxxxxxxxxxxxxxxxxxxxxxxxxxxxxxxxxxxxxxxxxxxxxxxxxxxxxxxxxxxxxxxxxxxxxxxx",
+        Ended(1, 2, 0),
+        "\"file:///a\" after message 2: the text is not the file's:\nline 1 (made by message 2): \"abc\"\n  the file, which differs from character 4 on, has: \"abcxxxxxxxxxxxxxxxxxxxxxxxxxxxxxxxxxxxxxxxxxxxxxxxxxxxxxxxxxxxxxxxxxxxxxxxxxxxxxxxxxxxxxxxxxxxxxxxxxxxxxxxxxxxxxxxxxxxxxxxxxxxxxxxxxxxxxxxxxxxxxxxxxxxxxxxxxxxxx\"..\nFor each line, a message named is wrong, a later one is missing or wrong, or an earlier mistake led it to the wrong line. Look at the lowest numbers after the opening first.\n",
     ),
     (
         &[INITIALIZE, OPEN, OTHER],

@@ -314,24 +314,25 @@ fn a_saved_text_that_is_not_the_documents_is_noted(rt: HostRuntime) -> Result<()
 }
 
 /// A document is opened and changed, and a version comes again without changes; then another name is
-/// changed and closed.
-static LOST: [&str; 6] = [
+/// changed and closed, and changed once more.
+static LOST: [&str; 7] = [
     INITIALIZE,
     OPEN,
     WHOLE,
     r#"{"jsonrpc":"2.0","method":"textDocument/didChange","params":{"contentChanges":[],"textDocument":{"uri":"file:///a","version":2}}}"#,
     r#"{"jsonrpc":"2.0","method":"textDocument/didChange","params":{"contentChanges":[{"text":"b"}],"textDocument":{"uri":"file:///b","version":3}}}"#,
     r#"{"jsonrpc":"2.0","method":"textDocument/didClose","params":{"textDocument":{"uri":"file:///b"}}}"#,
+    r#"{"jsonrpc":"2.0","method":"textDocument/didChange","params":{"contentChanges":[{"text":"b"}],"textDocument":{"uri":"file:///b","version":4}}}"#,
 ];
 
 const LOST_BRIEF: &str =
-    "4 refused S5 of \"file:///a\": version 2 was sent, and the current one is 2, and it has no changes; see message 3\n5 refused S4 of \"file:///b\": the document is not open; its editor may have renamed a document that was open\n6 refused S4 of \"file:///b\": the document is not open; its editor may have renamed a document that was open; see message 5\nmessages of the editor: 6, changed documents: 2\nrefused by S5: 1, first message 4\nrefused by S4: 2, first message 5\nRefused messages change nothing. `lspsync replay --at N`: the texts after message N.\n";
+    "4 refused S5 of \"file:///a\": version 2 was sent, and the current one is 2, and it has no changes; see message 3\n5 refused S4 of \"file:///b\": the document is not open; its editor may have renamed a document that was open\n6 refused S4 of \"file:///b\": the document is not open; its editor may have renamed a document that was open; see message 5\n7 refused S4 of \"file:///b\": the document is not open; its editor may have renamed a document that was open; see message 5\nmessages of the editor: 7, changed documents: 2\nrefused by S5: 1, first message 4\nrefused by S4: 3, first message 5\nRefused messages change nothing. `lspsync replay --at N`: the texts after message N.\n";
 
 /// Returns whether hooks that are lost, and a document that was renamed, are named.
 fn is_named(alloc: Global) -> Result<bool, Fail> {
     let input = log(alloc, &LOST)?;
     let run = run_with(alloc, Command::Brief, &input, settings()?, SMOOTH)?;
-    Ok(run.answer == Ended(1, 6, 3).answer() && run.output.as_slice() == LOST_BRIEF.as_bytes())
+    Ok(run.answer == Ended(1, 7, 4).answer() && run.output.as_slice() == LOST_BRIEF.as_bytes())
 }
 
 /// Returns whether an empty log is called that.
@@ -340,9 +341,53 @@ fn has_no_messages(alloc: Global) -> Result<bool, Fail> {
     Ok(run.output.as_slice() == "The log has no messages.\n".as_bytes())
 }
 
+/// Returns whether a log that lacks its beginning is called that, also where its documents are asked
+/// for.
+fn lacks_beginning(alloc: Global) -> Result<bool, Fail> {
+    let input = log(alloc, &[OPEN, WHOLE])?;
+    let check = run_with(alloc, Command::Brief, &input, settings()?, SMOOTH)?;
+    let list = run_with(alloc, Command::Openings, &input, settings()?, SMOOTH)?;
+    Ok(check.output.as_slice() == LATE.as_bytes() && list.output.as_slice() == LATE_LIST.as_bytes())
+}
+
+const LATE: &str =
+    "messages of the editor: 2, changed documents: 0\ndropped: 2, first message 1\nThe log lacks its beginning: no `initialize` started the server, so no message changes a text (LOGS.md).\n";
+
+const LATE_LIST: &str =
+    "  the log lacks its beginning: no `initialize` started the server (LOGS.md)\n";
+
 #[test]
-fn lost_hooks_new_names_and_empty_logs_are_named(rt: HostRuntime) -> Result<(), Fail> {
+fn lost_hooks_new_names_and_logs_without_a_beginning_are_named(
+    rt: HostRuntime,
+) -> Result<(), Fail> {
     assert!(rt; is_named(rt.alloc())?);
     assert!(rt; has_no_messages(rt.alloc())?);
+    assert!(rt; lacks_beginning(rt.alloc())?);
+    Ok(())
+}
+
+/// Five changes that end past the line's end: a line has three such notes.
+const PAST: &str =
+    r#"{"range":{"start":{"line":0,"character":3},"end":{"line":0,"character":9}},"text":""}"#;
+
+/// Returns whether a line has three notes of a kind, and says how many more there are.
+fn has_few_notes(alloc: Global) -> Result<bool, Fail> {
+    let changes = format!(in alloc; "{PAST},{PAST},{PAST},{PAST},{PAST}")?;
+    let changed = change(alloc, 2, changes.as_str())?;
+    let input = log(alloc, &[INITIALIZE, TWO_LINES, changed.as_str()])?;
+    let run = run_with(alloc, Command::Explain, &input, settings()?, SMOOTH)?;
+    let past = "ends at line 0, character 9, past the line's end (taken as line 0, character 3)";
+    let line = format!(in alloc;
+        "3 changed of \"file:///a\": change 1 {past}; change 2 {past}; change 3 {past}; and 2 more\n"
+    )?;
+    let output = format!(in alloc;
+        "1 reply\n2 changed\n{line}{THREE}noted past the line's end: 5"
+    )?;
+    Ok(run.output.starts_with(output.as_bytes()))
+}
+
+#[test]
+fn a_line_has_few_notes_of_a_kind(rt: HostRuntime) -> Result<(), Fail> {
+    assert!(rt; has_few_notes(rt.alloc())?);
     Ok(())
 }

@@ -14,8 +14,15 @@ const SHORT: &str =
 const SHORT_CLOSED: &str =
     r#"{"jsonrpc":"2.0","method":"textDocument/didClose","params":{"textDocument":{"uri":"a"}}}"#;
 
+/// Opens one with a blank in its name, and one with a letter beyond ASCII and signs that begin no escape.
+const BLANK: &str =
+    r#"{"jsonrpc":"2.0","method":"textDocument/didOpen","params":{"textDocument":{"languageId":"c","text":"z","uri":"file:///my%20file.c","version":1}}}"#;
+
+const ODD: &str =
+    r#"{"jsonrpc":"2.0","method":"textDocument/didOpen","params":{"textDocument":{"languageId":"c","text":"w","uri":"file:///%C3%bc%2541%.c","version":1}}}"#;
+
 /// The session, how the URI ends, and the text, if there is one document alone.
-static ROWS: [(&[&str], &str, Option<&str>); 8] = [
+static ROWS: [(&[&str], &str, Option<&str>); 13] = [
     (&[INITIALIZE, OPEN, WHOLE], "///a", Some("aXc")),
     (&[INITIALIZE, OPEN, WHOLE, CLOSE], "a", Some("aXc")),
     (&[INITIALIZE, OPEN, OTHER], "a", None),
@@ -31,6 +38,13 @@ static ROWS: [(&[&str], &str, Option<&str>); 8] = [
     ),
     // One that was refused isn't open.
     (&[OPEN, INITIALIZE], "a", None),
+    // A name is found as a person types it, and as the URI has it.
+    (&[INITIALIZE, OPEN, BLANK, ODD], "my file.c", Some("z")),
+    (&[INITIALIZE, BLANK, ODD], "././my%20file.c", Some("z")),
+    (&[INITIALIZE, BLANK, ODD], "ü%41%.c", Some("w")),
+    // What an escape stands for isn't read once more.
+    (&[INITIALIZE, BLANK, ODD], "üA%.c", None),
+    (&[INITIALIZE, BLANK, ODD], "./.c", None),
 ];
 
 /// Returns whether the document with this ending has this last text.

@@ -260,9 +260,9 @@ static RUNS: [Wanted; 17] = [
         command: Command::Compare("aYc\n"),
         input: Bytes::Frames(&[SHORT, OPEN]),
         parts: &[
-            "\"file:///a\" after message 2: the text is not the file's:\nline 1 (made by message 2): \"abc\"\n  the file has: \"aYc\\n\"\nFor each line, a message named is wrong, a later one is missing or wrong, or an earlier mistake led it to the wrong line. Look at the lowest numbers after the opening first.\n",
+            "\"file:///a\" after message 2: the text is not the file's:\nline 1 (made by message 2): \"abc\"\n  the file, which differs from character 2 on, has: \"aYc\\n\"\nFor each line, a message named is wrong, a later one is missing or wrong, or an earlier mistake led it to the wrong line. Look at the lowest numbers after the opening first.\n",
         ],
-        lengths: &[289],
+        lengths: &[325],
         end: Ended(1, 2, 0),
     },
     // Two frames, and two records of version 2.

@@ -55,7 +55,7 @@ static WORDS: [Answered; 27] = [
     (
         r#"{"jsonrpc":"2.0","method":"textDocument/didClose","params":{"textDocument":{"uri":"file:///c"}}}"#,
         "refused S4",
-        " of \"file:///c\": the document is not open; its editor may have renamed a document that was open",
+        " of \"file:///c\": the document is not open; see message 12",
     ),
     // A second document, and a third.
     (
@@ -66,7 +66,7 @@ static WORDS: [Answered; 27] = [
     (
         r#"{"jsonrpc":"2.0","method":"textDocument/didOpen","params":{"textDocument":{"languageId":"plaintext","text":"","uri":"file:///c","version":1}}}"#,
         "refused S2",
-        " of \"file:///c\": as many documents are open as --max-docs allows, 2; see message 15",
+        " of \"file:///c\": as many documents are open as --max-docs allows, 2; see message 12",
     ),
     // A text of 9 bytes.
     (

@@ -10,7 +10,8 @@ advised one two is same = subst (λ (b : Bool). two ≡ one ++ lenient_advice b)
 pub returns : goal.returns
 returns c =
     let known = c.args.self.now.known in
-    let advice = first_advice c.args.self.now.session.refusals (has_tallies known.counts.noted) in
+    let s = c.args.self.now.session in
+    let advice = first_advice s.server.phase s.refusals (has_tallies known.counts.noted) in
     let first : c.push_words.new.buffer.items ≡ c.args.buffer.now.items ++ advice = search rules in
     three_words c.push_if-2.result _ c.args.buffer.now.items _ _ advice (lenient_advice known.strict_refusal)
     (hidden_advice (not c.args.self.now.listing.all && known.counts.hides)) first

@@ -1,0 +1,7 @@
+use Rattle.line_diff.proofs.Prelude.{arith, common_steps}
+use Rattle.line_diff.proofs.FirstLemmas.{first_passed, same_number}
+use Rattle.line_diff.proofs.shown.equal_front.Goals as goal
+
+pub loop-count-preserved : goal.loop-count-preserved
+loop-count-preserved c =
+    grind (arith, common_steps, first_passed, same_number, c.loop-count.invariant, c.if-characters-count.false)
