@@ -184,7 +184,8 @@ def run_log(run, words, data, saved=None, name=None):
         return Output(out, run("status_of", end), bytes_of(line))
     line = b"".join(bytes_of(run("error_line", name, run("missing_text", it))) for it in end.x_missing.args)
     if name.args and end.x_missing.args and end.x_missing.args[0].tag == "Document":
-        line += run_engine(run, run("openings_engine", asked.args[0], utf8(options["uri"])), data)[1]
+        listed, words = run_engine(run, run("openings_engine", asked.args[0], utf8(options["uri"])), data)
+        line += words if listed.tag == "Ok" else bytes_of(run("error_line", name, run("unlisted_text")))
     return Output(out, end.x_status, line)
 
 

@@ -17,6 +17,11 @@ pub hint_pieces : (start name sep text place cause page end whole more : List �
     ≡ (start ++ (name ++ (sep ++ ((whole ++ (sep ++ (cause ++ page))) ++ end)))) ++ more
 hint_pieces start name sep text place cause page end whole more is = rw is (simp append_assoc)
 
+-- The line of a missing document, and one more.
+pub more_pieces : (start name sep what end more : List ℕ)
+    → start ++ (name ++ (sep ++ (what ++ (end ++ more)))) ≡ (start ++ (name ++ (sep ++ (what ++ end)))) ++ more
+more_pieces start name sep what end more = simp append_assoc
+
 -- The line of a missing document, and a list.
 pub list_pieces : (start name sep what end words : List ℕ)
     → start ++ (name ++ (sep ++ (what ++ (end ++ (words ++ [])))))

@@ -1,5 +1,5 @@
 -- What the program writes, and the status that it ends with.
-use Rattle.std.specs.Prelude.{◌≡◌, ◌⊎◌, ◌++◌, ◌∷◌}
+use Rattle.std.specs.Prelude.{◌≡◌, ◌⊎◌, ◌++◌, ◌∷◌, if◌then◌else◌}
 use Rattle.lspsync.specs.Prelude.{ℕ, [], Bool, true, false, List, length, max, nat_lt, codes, Option, Some, None, option_map, unwrap_or, IfSome, Result, Ok, Err, String, Vec, Global, Keeps, string_bytes, kind_of, Error, EngineFault, Ports, ReaderState, WriterState, ports, IsFlushed, IsPrinted, IsTextPrinted, Streams, allowed_turns, Missing, Outcome, new_comparison, compare_engine, part_engine, Engine, IsEngineRun, check_engine, convert_engine, live, replay_engine, serve_engine, Call, Task, Wanted, Encoding}
 use Rattle.std.specs.Result.{result_and}
 use Rattle.clap.specs.declared.error.kind.ErrorKind.{ErrorKind}
@@ -45,6 +45,11 @@ engine_of (call.Compare settings against) = compare_engine settings
 engine_of (call.Normalise settings rewriting) = rewriting_engine settings rewriting
 engine_of (call.Convert settings) = convert_engine settings
 
+-- A fault of writing.
+abbrev pub is_write_fault : EngineFault → Bool
+is_write_fault Write = true
+is_write_fault fault = false
+
 -- A fault of the engine comes before one of the flush.
 abbrev pub answer_after_flush : Result Outcome EngineFault → Result (Unit {0}) EngineFault →
     Result Outcome EngineFault
@@ -52,10 +57,18 @@ answer_after_flush (Ok outcome) (Ok _) = Ok outcome
 answer_after_flush (Ok outcome) (Err fault) = Err fault
 answer_after_flush (Err fault) flushed = Err fault
 
+-- The fault of a flush that comes after a fault of the engine. Where that was one of writing already,
+-- the flush shows no other.
+abbrev pub fault_after : Result Outcome EngineFault → Result (Unit {0}) EngineFault →
+    Option EngineFault
+fault_after (Err fault) (Err failure) = if is_write_fault fault then None else Some failure
+fault_after (Err fault) (Ok _) = None
+fault_after (Ok outcome) flushed = None
+
 -- The engine of a call ran, and then its output was flushed, whatever the engine answered. The
 -- answer is the outcome, or the first fault. With an outcome all output was flushed.
-pub record IsPerformed (asked : Call) (before after : Ports)
-    (answer : Result Outcome EngineFault) : Type 0 where
+pub record IsPerformed (asked : Call) (before after : Ports) (answer : Result Outcome EngineFault)
+    (second : Option EngineFault) : Type 0 where
   pub result : Result Outcome EngineFault
   pub flushed : Result (Unit {0}) EngineFault
   -- the writer between the engine and the flush
@@ -64,6 +77,8 @@ pub record IsPerformed (asked : Call) (before after : Ports)
   pub kept : Keeps writer.written after.writer.written
   pub flush : IsFlushed writer after.writer flushed
   pub answered : answer ≡ answer_after_flush result flushed
+  -- the output that is lost after a fault of the log
+  pub lost : second ≡ fault_after result flushed
 
 -- ---- the end of a run
 
@@ -80,10 +95,13 @@ pub record Ends (status : ℕ) (lines : List ℕ) (output_failed : Bool) (before
   pub lines_are : IsPrinted lines before after ending.printed
   pub output : ending.output_failed ≡ output_failed
 
--- A fault of writing.
-abbrev pub is_write_fault : EngineFault → Bool
-is_write_fault Write = true
-is_write_fault fault = false
+-- The ends of two parts are both_ends: the greater status, and the first failure to print.
+abbrev pub both_ends : Ending → Ending → Ending
+both_ends one two = record {
+  status = max one.status two.status;
+  printed = result_and one.printed two.printed;
+  output_failed = two.output_failed;
+}
 
 -- A fault ends a run with its status and its line.
 abbrev pub IsFaultEnd : EngineFault → WriterState → WriterState → Ending → Type 0
@@ -92,7 +110,7 @@ IsFaultEnd fault = Ends (status_of fault) (error_line None (fault_text fault)) (
 -- What a part of a log lacks.
 abbrev pub missing_text : Missing → List ℕ
 missing_text missing.Record = codes "the log has no record of this number"
-missing_text missing.Document = codes "the document was never open"
+missing_text missing.Document = codes "no single document was open whose URI ends so"
 
 -- A status ends a run, with a line on standard error or with none.
 abbrev pub IsStatus : Option (List ℕ) → ℕ → WriterState → WriterState → Ending → Type 0
@@ -116,12 +134,23 @@ abbrev pub IsHelpEnd : Result (Unit {0}) EngineFault → WriterState → WriterS
 IsHelpEnd (Ok _) before after ending = IsStatus None 0 before after ending
 IsHelpEnd (Err fault) before after ending = IsFaultEnd fault before after ending
 
+-- An end, and after it the report of a second fault, if there is one.
+abbrev pub IsEndAfter : Option EngineFault → Ending → WriterState → WriterState → Ending → Type 0
+IsEndAfter None first between after ending = (ending ≡ first) × (after ≡ between)
+IsEndAfter (Some fault) first between after ending = (next : Ending)
+    × IsFaultEnd fault between after next × (ending ≡ both_ends first next)
+
 -- The engine of a call ran over standard input, and so it ended.
 pub record IsCallDone (asked : Call) (before after : Streams) (ending : Ending) : Type 0 where
   pub answer : Result Outcome EngineFault
+  pub second : Option EngineFault
   pub performed : IsPerformed asked (ports before.reader before.writer)
-      (ports after.reader after.writer) answer
-  pub ends : IsEnding answer before.errors after.errors ending
+      (ports after.reader after.writer) answer second
+  -- the end by the answer, and standard error after it
+  pub first : Ending
+  pub errors : WriterState
+  pub ends : IsEnding answer before.errors errors first
+  pub lost : IsEndAfter second first errors after.errors ending
 
 -- ---- files
 
@@ -155,6 +184,16 @@ IsListedEnd name wanted known outcome before after ending = (words : List ℕ)
     × Ends outcome.status (error_line (Some name) (missing_text missing.Document) ++ words) false
     before after ending
 
+-- What is said of a file whose documents should be listed, and can't be.
+abbrev pub unlisted_text : List ℕ
+unlisted_text = codes "its documents can't be listed: out of memory, or it can't be read to its end"
+
+-- The line that a document is missing, and one that the others can't be listed.
+abbrev pub IsUnlistedEnd : List ℕ → Outcome → WriterState → WriterState → Ending → Type 0
+IsUnlistedEnd name outcome before after ending = (outcome.missing ≡ Some missing.Document)
+    × Ends outcome.status (error_line (Some name) (missing_text missing.Document)
+    ++ error_line (Some name) unlisted_text) false before after ending
+
 -- A line names an encoding in which the texts are equal that were compared.
 abbrev pub IsEqualEnd : List ℕ → Option Wanted → Option (List ℕ) → Outcome → WriterState →
     WriterState → Ending → Type 0
@@ -163,12 +202,13 @@ IsEqualEnd name wanted known outcome before after ending = (encoding : Encoding)
     × Ends outcome.status (error_line (Some name) (equal_text encoding)) false before after ending
 
 -- The end of a run over a file, of whose bytes this may be known. A document that is missing may be
--- reported with the list of those that the file has.
+-- reported with the list of those that the file has, or with a line that they can't be listed.
 abbrev pub IsFileEnding : List ℕ → Option Wanted → Option (List ℕ) → Result Outcome EngineFault →
     WriterState → WriterState → Ending → Type 0
 IsFileEnding name wanted known (Ok outcome) before after ending =
     IsOutcomeEnd (Some name) outcome before after ending
     ⊎ IsListedEnd name wanted known outcome before after ending
+    ⊎ IsUnlistedEnd name outcome before after ending
     ⊎ IsEqualEnd name wanted known outcome before after ending
 IsFileEnding name wanted known (Err Read) before after ending =
     IsUnreadable name before after ending ⊎ IsFaultEnd Read before after ending
@@ -177,17 +217,23 @@ IsFileEnding name wanted known (Err fault) before after ending =
 
 -- The engine of a call ran over a file from its beginning on. Of its bytes this may be known.
 pub record IsFileRun (asked : Call) (name : List ℕ) (known : Option (List ℕ))
-    (before after errors_before errors : WriterState) (ending : Ending) : Type 0 where
+    (before after errors_before errors_after : WriterState) (ending : Ending) : Type 0 where
   pub left : Option (List ℕ)
   pub begins : Keeps known left
   -- the file after the run
   pub file : ReaderState
   pub answer : Result Outcome EngineFault
+  pub second : Option EngineFault
   pub performed : IsPerformed asked (ports (file_opened left) before) (ports file after) answer
+      second
   -- the document that the call names
   pub wanted : Option Wanted
   pub names : IfSome wanted (IsWanted asked)
-  pub ends : IsFileEnding name wanted known answer errors_before errors ending
+  -- the end by the answer, and standard error after it
+  pub first : Ending
+  pub errors : WriterState
+  pub ends : IsFileEnding name wanted known answer errors_before errors first
+  pub lost : IsEndAfter second first errors errors_after ending
 
 -- The engine ran over a file; or the file couldn't be opened, and then nothing is written.
 abbrev pub IsFileDone : Call → List ℕ → Option (List ℕ) → WriterState → WriterState →
@@ -251,14 +297,6 @@ pub record IsTaskDone (known : KnownFiles) (is_headed : Bool) (task : Task) (bef
   pub done : IsDoneWith known task.call (saved_of task) (file_of task)
       (record before { errors = errors }) after one
   pub ends : ending ≡ record one { printed = result_and heading one.printed }
-
--- The ends of two parts are both_ends: the greater status, and the first failure to print.
-abbrev pub both_ends : Ending → Ending → Ending
-both_ends one two = record {
-  status = max one.status two.status;
-  printed = result_and one.printed two.printed;
-  output_failed = two.output_failed;
-}
 
 -- The end of no task.
 abbrev pub nothing_yet : Ending

@@ -3,8 +3,9 @@
 ghost use Rattle.std.specs.Prelude.{◌≡◌, ◌≢◌, ◌++◌, None, Some, codes, false, option_map};
 ghost use Rattle.std.specs.Result.{result_and};
 ghost use Rattle.lsp_program.specs.Output.{IsPrinted};
-ghost use Rattle.lspsync.specs.Run.{Ends, IsFaultEnd, IsOutcomeEnd, both_ends, error_line};
-ghost use Rattle.lspsync.specs.Run.{is_write_fault, missing_text, status_of};
+ghost use Rattle.lspsync.specs.Run.{Ends, IsEndAfter, IsFaultEnd, IsOutcomeEnd, both_ends};
+ghost use Rattle.lspsync.specs.Run.{error_line};
+ghost use Rattle.lspsync.specs.Run.{is_write_fault, missing_text, status_of, unlisted_text};
 
 use crate::fault_text::text_of;
 use itoa::Buffer;
@@ -14,6 +15,10 @@ use std::io::ErrorKind;
 
 /// What is said of options that exclude each other.
 pub const CONTRARY: &str = "`--squash` goes neither with `--whole` nor with `--live`";
+
+/// What is said of a file whose documents should be listed, and can't be.
+const UNLISTED: &str =
+    "its documents can't be listed: out of memory, or it can't be read to its end";
 
 /// The end of the program, or of a part of it.
 #[derive(Drop)]
@@ -60,6 +65,16 @@ pub fn both(first: Ending, second: Ending) -> Ending
     }
 }
 
+/// Reports a second fault after an end, if there is one.
+pub fn end_after<E: Sink>(first: Ending, second: Option<EngineFault>, errors: &mut E) -> Ending
+    ensures { IsEndAfter second first (E.seen errors.old) (E.seen errors.new) result }
+{
+    match second {
+        None => first,
+        Some(fault) => both(first, report(fault, errors)),
+    }
+}
+
 /// Ends with an outcome's status. If something is missing that was asked for, a line says what, with
 /// the name of the file.
 pub fn end_well<E: Sink>(name: Option<&str>, outcome: Outcome, errors: &mut E) -> Ending
@@ -82,6 +97,40 @@ pub fn end_missing<E: Sink>(name: &str, status: u8, words: &str, errors: &mut E)
     say_list(status, name, missing_text(Missing::Document), words, errors)
 }
 
+/// Ends with a status. A line says that the document is missing that was asked for in a file, and
+/// another one that those that the file has can't be listed.
+pub fn end_unlisted<E: Sink>(name: &str, status: u8, errors: &mut E) -> Ending
+    ensures { Ends status (error_line (Some name.now) (missing_text Missing.Document)
+        ++ error_line (Some name.now) unlisted_text) false
+        (E.seen errors.old) (E.seen errors.new) result }
+{
+    say_both(
+        status,
+        name,
+        missing_text(Missing::Document),
+        UNLISTED,
+        errors,
+    )
+}
+
+/// Ends with a status, and prints two lines about a file.
+fn say_both<E: Sink>(status: u8, name: &str, first: &str, second: &str, errors: &mut E) -> Ending
+    ensures { Ends status (error_line (Some name.now) first.now
+        ++ error_line (Some name.now) second.now) false
+        (E.seen errors.old) (E.seen errors.new) result }
+{
+    let (start, end) = ("lspsync: ", "\n");
+    Ending::new(
+        status,
+        print(
+            errors,
+            &[
+                start, name, ": ", first, end, start, name, ": ", second, end,
+            ],
+        ),
+    )
+}
+
 /// Ends with a status, and prints a line about a file, and more words.
 fn say_list<E: Sink>(status: u8, name: &str, what: &str, words: &str, errors: &mut E) -> Ending
     ensures { Ends status (error_line (Some name.now) what.now ++ words.now) false
@@ -99,7 +148,7 @@ fn missing_text(missing: Missing) -> &'static str
 {
     match missing {
         Missing::Record => "the log has no record of this number",
-        Missing::Document => "the document was never open",
+        Missing::Document => "no single document was open whose URI ends so",
     }
 }
 
@@ -147,7 +196,8 @@ pub fn report<E: Sink>(fault: EngineFault, errors: &mut E) -> Ending
     }
 }
 
-fn is_write_fault(fault: EngineFault) -> bool
+/// Returns whether a fault is one of writing.
+pub fn is_write_fault(fault: EngineFault) -> bool
     ensures { result ≡ is_write_fault fault }
 {
     matches!(fault, EngineFault::Write)

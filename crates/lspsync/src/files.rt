@@ -10,7 +10,7 @@ ghost use Rattle.lspsync.specs.Run.{status_of};
 use crate::beginning::hint;
 use crate::command_line::Call;
 use crate::encodings::{encoding_for, equal_text};
-use crate::ends::{Ending, end_missing, end_well, report, say, status_of};
+use crate::ends::{Ending, end_missing, end_unlisted, end_well, report, say, status_of};
 use crate::fault_text::{cause_of, text_of};
 use crate::openings::openings;
 use crate::reached::{last_before, settings_of};
@@ -19,7 +19,7 @@ use itoa::Buffer;
 use lsp_program::{STREAM_FAULT, digits, print};
 use lsp_replay::{EngineFault, Outcome, Settings, Sink};
 use std::alloc::Global;
-use std::io::{self, Read};
+use std::io::{self, ErrorKind, Read};
 
 /// Opens files by name.
 pub trait Folder {
@@ -106,7 +106,8 @@ pub fn end_file<T, F: Folder, E: Sink>(
 }
 
 /// Ends with an outcome. If the document is missing that the call names, it lists those that the
-/// file has. If texts differ that are equal in another encoding, it names that one.
+/// file has, or says that it can't. If texts differ that are equal in another encoding, it names
+/// that one.
 fn end_outcome<F: Folder, E: Sink>(
     alloc: Global,
     name: &str,
@@ -122,8 +123,9 @@ fn end_outcome<F: Folder, E: Sink>(
         return say(outcome.status, Some(name), equal_text(encoding), errors);
     }
     match openings(alloc, name, wanted, outcome, folder) {
-        Some(list) => end_missing(name, outcome.status, &list, errors),
-        None => end_well(Some(name), outcome, errors),
+        Ok(Some(list)) => end_missing(name, outcome.status, &list, errors),
+        Ok(None) => end_well(Some(name), outcome, errors),
+        Err(_) => end_unlisted(name, outcome.status, errors),
     }
 }
 
@@ -160,10 +162,13 @@ pub fn read_text<F: Folder>(alloc: Global, name: &str, folder: &F) -> io::Result
     io::read_to_string(alloc, folder.open(name)?)
 }
 
-/// Prints why a file can't be opened or read.
+/// Prints why a file can't be opened or read. Out of memory has its own status.
 pub fn unreadable<E: Sink>(alloc: Global, name: &str, error: io::Error, errors: &mut E) -> Ending
     ensures { IsUnreadable name.now (E.seen errors.old) (E.seen errors.new) result }
 {
+    if error.kind() == ErrorKind::OutOfMemory {
+        return report(EngineFault::NoMemory, errors);
+    }
     match format!(in alloc; "{error}") {
         Ok(reason) => say(STREAM_FAULT, Some(name), reason.as_str(), errors),
         Err(_) => report(EngineFault::NoMemory, errors),

@@ -1,6 +1,6 @@
 //! Which messages opened the documents of a log, where the one that is asked for isn't there.
 
-ghost use Rattle.std.specs.Prelude.{◌≡◌, IfOk, IfSome, string_bytes};
+ghost use Rattle.std.specs.Prelude.{◌≡◌, IfOk, IfSome, MatchResult, Some, string_bytes};
 ghost use Rattle.lspsync.specs.Openings.{AreListed, IsList, IsListOf};
 
 use crate::files::Folder;
@@ -10,31 +10,45 @@ use lsp_replay::{EngineFault, Missing, Outcome, Told, list_openings};
 use std::alloc::Global;
 use std::io::Read;
 
-/// Returns which messages opened the documents of a log, if one is missing: the log is read once
-/// more. Returns none if it can't be, as a pipe, and without memory.
+/// A list that can't be made: out of memory, or the file can't be read to its end.
+#[derive(Clone, Copy, Debug)]
+pub struct Unlisted;
+
+/// Returns which messages opened the documents of a log, if one is missing and the log is a file,
+/// unlike a pipe: it is read once more.
+///
+/// # Errors
+/// Out of memory, or the file can't be read to its end: it can't be opened again, or it has a fault
+/// after the part that was asked for.
 pub fn openings<F: Folder>(
     alloc: Global,
     name: &str,
     wanted: Option<Wanted>,
     outcome: Outcome,
     folder: &F,
-) -> Option<String>
-    ensures { IfSome result (λ words.
-        AreListed wanted (F.bytes folder.now name.now) outcome.missing (string_bytes words)) }
+) -> Result<Option<String>, Unlisted>
+    ensures { MatchResult result
+        (λ list. IfSome list (λ words.
+        AreListed wanted (F.bytes folder.now name.now) outcome.missing (string_bytes words)))
+        (λ _. outcome.missing ≡ Some Missing.Document) }
 {
-    let (Some(Missing::Document), Some(wanted)) = (outcome.missing, wanted) else {
-        return None;
+    let Some(Missing::Document) = outcome.missing else {
+        return Ok(None);
     };
     if !folder.is_lasting(name) {
-        return None;
+        return Ok(None);
     }
-    let Ok(file) = folder.open(name) else {
-        return None;
+    // without memory a call's document isn't known
+    let (Some(wanted), Ok(file)) = (wanted, folder.open(name)) else {
+        return Err(Unlisted);
     };
     let Ok(words) = list_of(alloc, file, wanted) else {
-        return None;
+        return Err(Unlisted);
     };
-    String::from_utf8(words).ok()
+    match String::from_utf8(words) {
+        Ok(list) => Ok(Some(list)),
+        Err(_) => Err(Unlisted),
+    }
 }
 
 /// Returns which messages opened the documents of a log.

@@ -22,7 +22,8 @@ impl Folder for Disk<'_> {
     fn is_lasting(&self, name: &str) -> bool {
         match fs::metadata(self.0, name) {
             Ok(metadata) => metadata.is_file(),
-            Err(_) => false,
+            // what keeps it from being opened again is found then
+            Err(_) => true,
         }
     }
 }

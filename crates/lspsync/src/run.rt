@@ -10,10 +10,11 @@ ghost use Rattle.lsp_program.specs.Output.{IsPrinted, IsTextPrinted, allowed_tur
 ghost use Rattle.log_session.specs.Run.{IsEngineRun};
 ghost use Rattle.lspsync.specs.Run.{IsEnding, IsFaultEnd, IsFileDone, IsHeaded, IsHelpEnd, IsLoaded};
 ghost use Rattle.lspsync.specs.Run.{IsNotLoaded, IsPerformed, IsProgramRun, IsTaskDone};
-ghost use Rattle.lspsync.specs.Run.{answer_after_flush, engine_of, shown_name};
+ghost use Rattle.lspsync.specs.Run.{IsCallDone, answer_after_flush, engine_of, fault_after};
+ghost use Rattle.lspsync.specs.Run.{shown_name};
 
 use crate::command_line::{Call, Task, parse};
-use crate::ends::{CONTRARY, Ending, both, end_well, report, say};
+use crate::ends::{CONTRARY, Ending, both, end_after, end_well, is_write_fault, report, say};
 use crate::files::{Folder, LogFile, end_file, read_text, unreadable};
 use crate::wanted::wanted_by;
 use clap::error as clap_error;
@@ -79,10 +80,7 @@ fn do_task<F: Folder, R: Source, W: Sink, E: Sink>(
         (Ok(call), Some(name)) => {
             run_file(alloc, call, name.as_str(), folder, output, errors).after(headed)
         }
-        (Ok(call), None) => {
-            let answer = perform(alloc, call, input, output);
-            end_with(answer, errors).after(headed)
-        }
+        (Ok(call), None) => { run_input(alloc, call, input, output, errors).after(headed) }
         (Err(ending), _) => ending.after(headed),
     }
 }
@@ -130,6 +128,23 @@ fn loaded<F: Folder, E: Sink>(
     }
 }
 
+/// Runs the engine that a call names over standard input, and flushes the output.
+fn run_input<R: Source, W: Sink, E: Sink>(
+    alloc: Global,
+    call: Call,
+    input: &mut R,
+    output: &mut W,
+    errors: &mut E,
+) -> Ending
+    ensures { IsCallDone call
+        (streams (R.seen input.old) (W.seen output.old) (E.seen errors.old))
+        (streams (R.seen input.new) (W.seen output.new) (E.seen errors.new)) result }
+{
+    let Performed { answer, second } = perform(alloc, call, input, output);
+    let first = end_with(answer, errors);
+    end_after(first, second, errors)
+}
+
 /// Runs the engine that a call names over a file, and flushes the output.
 fn run_file<F: Folder, W: Sink, E: Sink>(
     alloc: Global,
@@ -147,16 +162,10 @@ fn run_file<F: Folder, W: Sink, E: Sink>(
         Ok(file) => {
             let mut log = Told::new(LogFile::new(alloc, file, &call));
             let wanted = wanted_by(alloc, &call);
-            let answer = perform(alloc, call, &mut log, output);
-            end_file(
-                alloc,
-                name,
-                &log.into_inner(),
-                wanted,
-                answer,
-                folder,
-                errors,
-            )
+            let Performed { answer, second } = perform(alloc, call, &mut log, output);
+            let log = log.into_inner();
+            let first = end_file(alloc, name, &log, wanted, answer, folder, errors);
+            end_after(first, second, errors)
         }
         Err(error) => unreadable(alloc, name, error, errors),
     }
@@ -172,24 +181,31 @@ fn end_with<E: Sink>(answer: Result<Outcome, EngineFault>, errors: &mut E) -> En
     }
 }
 
-/// Runs the engine that a call names, and then flushes the output, also after a fault. Returns the
-/// engine's outcome.
-///
-/// # Errors
-/// The fault of the engine, else that of the flush.
+/// What came of a call.
+struct Performed {
+    /// The engine's outcome; or its fault, else that of the flush.
+    answer: Result<Outcome, EngineFault>,
+    /// The fault of the flush after another one of the engine: then output is lost.
+    second: Option<EngineFault>,
+}
+
+/// Runs the engine that a call names, and then flushes the output, also after a fault.
 fn perform<R: Source, W: Sink>(
     alloc: Global,
     call: Call,
     input: &mut R,
     output: &mut W,
-) -> Result<Outcome, EngineFault>
+) -> Performed
     ensures performed { IsPerformed call
         (ports (R.seen input.old) (W.seen output.old))
-        (ports (R.seen input.new) (W.seen output.new)) result }
+        (ports (R.seen input.new) (W.seen output.new)) result.answer result.second }
 {
     let ran = obey(alloc, call, input, output);
     let flushed = flush(output);
-    answer_with(ran, flushed)
+    Performed {
+        answer: answer_with(ran, flushed),
+        second: fault_after(ran, flushed),
+    }
 }
 
 /// Returns the result of a run. A fault of the engine comes before one of the flush.
@@ -203,6 +219,20 @@ fn answer_with(
         (Ok(outcome), Ok(())) => Ok(outcome),
         (Ok(_), Err(fault)) => Err(fault),
         (Err(fault), _) => Err(fault),
+    }
+}
+
+/// Returns the fault of a flush after a fault of the engine, unless that was one of writing already.
+fn fault_after(
+    ran: Result<Outcome, EngineFault>,
+    flushed: Result<(), EngineFault>,
+) -> Option<EngineFault>
+    ensures { result ≡ fault_after ran flushed }
+{
+    match (ran, flushed) {
+        (Err(fault), Err(_)) if is_write_fault(fault) => None,
+        (Err(_), Err(failure)) => Some(failure),
+        _ => None,
     }
 }
 

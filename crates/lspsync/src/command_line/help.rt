@@ -122,7 +122,7 @@ Server Protocol 3.17), and reads recorded sessions";
 pub static NOTES: &str = "A log is what an editor sent to its language server, byte for byte; one of
 version 2 has both directions. Where the editor starts `some-server`, let it
 start a script with this line, and it is recorded:
-  umask 077; tee \"/tmp/session-$$.log\" | some-server \"$@\"
+  umask 077; tee \"$HOME/session-$$.log\" | some-server \"$@\"
 
 The commands on logs read a file, or standard input, and write standard output.
 `serve` reads standard input.

@@ -38,14 +38,22 @@ const TWO_CUT: &str =
 const BROKEN: &str = "lspsync: broken.log: a call that was to fail\n";
 
 const NO_URI: &str =
-    "lspsync: good.log: the document was never open\n  message 2 opened \"file:///a\"\n";
+    "lspsync: good.log: no single document was open whose URI ends so\n  message 2 opened \"file:///a\"\n";
 
 const NO_DOCUMENT: &str =
-    "lspsync: begun.log: the document was never open\n  no message opened a document\n";
+    "lspsync: begun.log: no single document was open whose URI ends so\n  no message opened a document\n";
 
-const PIPE: &str = "lspsync: pipe: the document was never open\n";
+const UNLISTED: &str =
+    "lspsync: short.log: no single document was open whose URI ends so\nlspsync: short.log: its documents can't be listed: out of memory, or it can't be read to its end\n";
+
+const UNLISTED_CUT: &str =
+    "lspsync: cut.log: no single document was open whose URI ends so\nlspsync: cut.log: its documents can't be listed: out of memory, or it can't be read to its end\n";
+
+const PIPE: &str = "lspsync: pipe: no single document was open whose URI ends so\n";
 
 const NO_RECORD: &str = "lspsync: good.log: the log has no record of this number\n";
+
+const NO_MEMORY: &str = "lspsync: out of memory\n";
 
 const SAME: &str = "\"file:///a\" after message 3: the text is the file's\n";
 
@@ -59,12 +67,14 @@ const BYTES: &str = "lspsync: nvim.bin: stream did not contain valid UTF-8\n";
 const NO_SAVED: &str = "lspsync: gone.txt: entity not found\n";
 
 /// Words, the status, the output, and what is printed on standard error.
-static ROWS: [(&str, u8, &str, &str); 24] = [
+static ROWS: [(&str, u8, &str, &str); 28] = [
     ("lspsync compare a good.log", 0, SAME, ""),
     ("lspsync compare good.log nvim.log", 5, "", SWAPPED),
     ("lspsync compare --uri=a saved.txt -", 1, OTHER, ""),
     ("lspsync compare nvim.bin good.log", 3, "", BYTES),
     ("lspsync compare gone.txt", 3, "", NO_SAVED),
+    ("lspsync compare heavy good.log", 4, "", NO_MEMORY),
+    ("lspsync check heavy", 4, "", NO_MEMORY),
     ("lspsync compare saved.txt good.log", 1, "", NO_URI),
     ("lspsync compare a cut.log", 5, "", CUT),
     ("lspsync check good.log", 0, GOOD, ""),
@@ -83,6 +93,10 @@ static ROWS: [(&str, u8, &str, &str); 24] = [
     ("lspsync replay --uri=a --at=9 good.log", 1, "", NO_RECORD),
     ("lspsync replay --uri=a begun.log", 1, "", NO_DOCUMENT),
     ("lspsync replay --uri=b pipe", 1, "", PIPE),
+    // the first record was read once, and then the file fails
+    ("lspsync replay --uri=b --at=1 short.log", 1, "", UNLISTED),
+    // what is asked for comes before the cut
+    ("lspsync replay --uri=b --at=1 cut.log", 1, "", UNLISTED_CUT),
     ("lspsync replay --at=9 good.log", 1, "", NO_RECORD),
     (
         "lspsync check good.log --lenient gone.log -",
@@ -111,7 +125,7 @@ fn answered(alloc: Global, words: &str) -> Result<Answer, AllocError> {
     let cut = Vec::from_slice(alloc, good.get(..400).unwrap_or(&[]))?;
     let begun = log(alloc, &[INITIALIZE])?;
     let emoji = log(alloc, &[INITIALIZE, OPEN_EMOJI, AFTER_ONE_UNIT])?;
-    let files: [Held<'_>; 14] = [
+    let files: [Held<'_>; 15] = [
         ("a", b"aXc", &[Take(1)]),
         ("saved.txt", b"abc\n", &[]),
         ("nvim.bin", b"a\xff", &[]),
@@ -124,6 +138,7 @@ fn answered(alloc: Global, words: &str) -> Result<Answer, AllocError> {
         ("cut.log", &cut, &[]),
         ("begun.log", &begun, &[]),
         ("pipe", &good, &[]),
+        ("short.log", &good, &[Take(172), Fails]),
         ("broken.log", &good, &[Take(350), Fails]),
         ("nvim.log", b"[START][ LSP logging", &[Take(1), Take(2)]),
     ];
@@ -162,6 +177,18 @@ fn a_failed_output_ends_the_run(rt: HostRuntime) -> Result<(), Fail> {
     let words = "lspsync check a.log a.log";
     let answer = shelved(rt.alloc(), words, &files, b"", &[], &[Take(5), Fails])?;
     assert!(rt; answer.is(3, b"1 rep", "==> a.log <==\nlspsync: write fault\n"));
+    Ok(())
+}
+
+#[test]
+fn a_cut_log_hides_no_failed_output(rt: HostRuntime) -> Result<(), Fail> {
+    let good = log(rt.alloc(), &[INITIALIZE, OPEN, WHOLE])?;
+    let cut = good.get(..400).unwrap_or(&[]);
+    let files: [Held<'_>; 2] = [("cut.log", cut, &[]), ("good.log", &good, &[])];
+    let words = "lspsync check cut.log good.log";
+    let answer = shelved(rt.alloc(), words, &files, b"", &[], &[ALL, ALL, Fails])?;
+    let lines = format!(in rt.alloc(); "==> cut.log <==\n{CUT}lspsync: write fault\n")?;
+    assert!(rt; answer.is(5, TWO.as_bytes(), &lines));
     Ok(())
 }
 

@@ -9,7 +9,7 @@ static SESSION: [&str; 7] = [INITIALIZE, INITIALIZED, OPEN, CHANGE, CLOSE, SHUTD
 
 const NO_RECORD: &str = "lspsync: the log has no record of this number\n";
 
-const NEVER_OPEN: &str = "lspsync: the document was never open\n";
+const NOT_ONE: &str = "lspsync: no single document was open whose URI ends so\n";
 
 const OPENED: &str =
     "{\"languageId\":\"plaintext\",\"text\":\"abc\",\"uri\":\"file:///a\",\"version\":1}\n";
@@ -17,7 +17,7 @@ const OPENED: &str =
 /// The words of a call, and the status, the output and the line on standard error.
 static ROWS: [(&str, u8, &str, &str); 5] = [
     ("lspsync replay --uri file:///a", 0, "aXc", ""),
-    ("lspsync replay --uri file:///b", 1, "", NEVER_OPEN),
+    ("lspsync replay --uri file:///b", 1, "", NOT_ONE),
     ("lspsync replay --at 3", 0, OPENED, ""),
     ("lspsync replay --at 8", 1, "", NO_RECORD),
     ("lspsync replay --at=5 --uri=file:///a", 0, "aXc", ""),

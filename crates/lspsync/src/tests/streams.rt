@@ -10,6 +10,8 @@ const READ_FAULT: &str = "lspsync: read fault\n";
 
 const WRITE_FAULT: &str = "lspsync: write fault\n";
 
+const BOTH_FAULTS: &str = "lspsync: read fault\nlspsync: write fault\n";
+
 /// A command, its reads and writes, the length of what was written, and the line.
 type Failing = (
     &'static str,
@@ -31,13 +33,13 @@ static FAILING: [Failing; 9] = [
         WRITE_FAULT,
     ),
     ("check", &[Take(340), Fails], &[], 18, READ_FAULT),
-    // the flush after a fault fails too, and the first fault is the one that is reported
+    // the flush after a fault fails too
     (
         "check",
         &[Take(340), Fails],
         &[ALL, ALL, Fails],
         18,
-        READ_FAULT,
+        BOTH_FAULTS,
     ),
     ("check", &[], &[ALL, ALL, Fails], 18, WRITE_FAULT),
     ("check", &[], &[ALL, ALL, ALL, Fails], 28, WRITE_FAULT),

@@ -10,5 +10,6 @@ returns g c = record {
     kept = c.flush-flushed.ensures.kept;
     flush = c.flush-flushed.ensures.flushed;
     answered = c.answer_with.ensures;
+    lost = c.fault_after.ensures;
   };
 }
