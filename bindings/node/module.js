@@ -47,17 +47,7 @@ function lacking(error) {
   return new Error(`laspidru's module needs WebAssembly with vectors of 128 bits (SIMD), which this engine lacks; it is in ${has}`, { cause: error });
 }
 
-/** Whether a size has 64 bits: malloc then takes no number. */
-function isOf64({ malloc, free }) {
-  try {
-    free(malloc(1));
-    return false;
-  } catch {
-    return true;
-  }
-}
-
-/** The library in a WebAssembly module, which imports nothing. Sizes are i64 (BigInt); malloc and free take a size as long as a pointer. */
+/** The library in a WebAssembly module, which imports nothing. Sizes are i64 (BigInt), but malloc's. */
 function inModule(module_) {
   const exported = new WebAssembly.Instance(module_, {}).exports;
   const { memory } = exported;
@@ -81,12 +71,9 @@ function inModule(module_) {
   };
   look();
   for (const [name, it] of Object.entries(exported)) if (typeof it === 'function') lib[name.replace('laspidru_', '')] = guarded(it);
-  // A place in the module's memory is a number here, and as the module has it in its calls.
-  const is64 = isOf64(exported);
-  const place = is64 ? BigInt : (at) => at;
-  const number = is64 ? Number : (at) => at >>> 0;
-  const allocated = (size) => (is64 || size < 2 ** 31 ? number(lib.malloc(place(size))) : 0) || lib.runOut();
-  const free = (at) => { if (trap === undefined) lib.free(place(at)); };
+  const place = (at) => at;
+  const allocated = (size) => (size < 2 ** 31 ? lib.malloc(size) >>> 0 : 0) || lib.runOut();
+  const free = (at) => { if (trap === undefined) lib.free(at); };
   const drop = (handle) => { if (trap === undefined) lib.close(handle); };
   const finished = new FinalizationRegistry((at) => {
     drop(place(at));

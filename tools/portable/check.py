@@ -50,7 +50,7 @@ class Target:
         self.name, self.cc, self.folder, self.env, self.prefix = name, cc, folder, dict(os.environ), []
         self.is_wasm, self.is_windows, tool = name.startswith("wasm"), "windows" in name, None
         if self.is_wasm:
-            tool, self.prefix = "node", ["node", *["--experimental-wasm-memory64"] * (name == "wasm64")]
+            tool, self.prefix = "node", ["node"]
             self.env["LASPIDRU_ADDON"] = os.path.abspath(f"build/{name}/laspidru.wasm")
         elif self.is_windows:
             tool, self.prefix = WINE, [WINE]

@@ -6,20 +6,15 @@ of a line. It states the form that it takes, and a line of the same kind in anot
 leave the meaning of each instruction as it is.
 
 `narrowed` is for wasm32, whose pointers have 32 bits. The layout of memory stays that of 64 bits: sizes are i64, and each pointer in memory
-keeps its 8 bytes, of which the high 4 are 0.
-
-But for wasm32 the kit could make this needless: by calls by which a library for wasm64 takes memory, and a flag that keeps the module."""
+keeps its 8 bytes, of which the high 4 are 0."""
 import itertools
 import re
 
 SOURCE = "aarch64-unknown-linux-gnu"
-# The data layouts of clang 22 for WebAssembly. For the others clang takes the target's own.
-LAYOUTS = {
-    "wasm32": "e-m:e-p:32:32-p10:8:8-p20:8:8-i64:64-i128:128-n32:64-S128-ni:1:10:20",
-    "wasm64": "e-m:e-p:64:64-p10:8:8-p20:8:8-i64:64-i128:128-n32:64-S128-ni:1:10:20",
-}
+# The data layout of clang 22 for WebAssembly. For the others clang takes the target's own.
+LAYOUTS = {"wasm32": "e-m:e-p:32:32-p10:8:8-p20:8:8-i64:64-i128:128-n32:64-S128-ni:1:10:20"}
 # The processors: as the kit has them for its own targets.
-PROCESSORS = {"aarch64": "generic", "x86_64": "x86-64-v2", "wasm32": "lime1", "wasm64": "lime1"}
+PROCESSORS = {"aarch64": "generic", "x86_64": "x86-64-v2", "wasm32": "lime1"}
 # What a program asks of a C library, by the names that system.c and program.js have.
 FOREIGN = {"main": "rattle_main", "__sysv_signal": "rattle_signal", "__xpg_strerror_r": "rattle_strerror",
            **{name: f"rattle_{name}" for name in ("open", "close", "read", "write", "isatty", "statx")}}
@@ -93,7 +88,6 @@ LOOKUP = {
         "  %out = icmp ugt <16 x i8> %i, splat (i8 15)", "  %n = select <16 x i1> %out, <16 x i8> splat (i8 -1), <16 x i8> %i"]),
     "wasm32": lookup("llvm.wasm.swizzle", ["  %n = or <16 x i8> %i, zeroinitializer"]),
 }
-LOOKUP["wasm64"] = LOOKUP["wasm32"]
 
 
 def intrinsic(line, target):
@@ -150,7 +144,7 @@ def extract(space, to, kind, whole, at):
 
 
 def copy(space, call, first, length, rest):
-    """(no object has 2 ^ 31 bytes or more: malloc.c has none, and the stack is smaller)"""
+    """(no object has 2 ^ 31 bytes or more: heap.c and module.js ask for none, and the stack is smaller)"""
     if length.isdigit():
         return [f"{space}{call}.i32({first}, i32 {length}, i1 false){rest}"]
     return [f"{space}%W = trunc i64 {length} to i32", f"{space}{call}.i32({first}, i32 %W, i1 false){rest}"]
