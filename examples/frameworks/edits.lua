@@ -40,14 +40,21 @@ local function started()
     return client
 end
 
--- Neovim loses the last line end once all lines were deleted (docs/CLIENTS.md). Such a document is opened again, and no
--- undo leads back. It is changed while no client is there, since what hears changes goes only then: else there are two.
-local function open_again(client, lines)
+local function change_all(lines)
     local levels = vim.o.undolevels
-    vim.lsp.buf_detach_client(0, client.id)
     vim.o.undolevels = -1
     api.nvim_buf_set_lines(0, 0, -1, true, lines)
     vim.o.undolevels = levels
+end
+
+-- Neovim loses the last line end once all lines were deleted (docs/CLIENTS.md). Such a document is opened again, and no
+-- undo leads back. Before 0.10 it is changed while no client is there, since what hears changes goes only then: else there
+-- are two. From 0.10 on nothing would hear them afterwards.
+local function open_again(client, lines)
+    local hears_once = vim.fn.has("nvim-0.10") == 1
+    if hears_once then change_all(lines) end
+    vim.lsp.buf_detach_client(0, client.id)
+    if not hears_once then change_all(lines) end
     vim.lsp.buf_attach_client(0, client.id)
 end
 
