@@ -4,8 +4,8 @@ import functools
 import os
 import re
 
-from reading.antt import Module, is_called
-from reading.repository import Repository, files_below, read
+from reading.antt import is_called
+from reading.repository import Repository
 
 from .language import Translation, equations_of, tokens_of
 from .library import CONSTRUCTORS, FUNCTIONS, SUMS
@@ -65,11 +65,8 @@ class Specifications(Repository):
 
     def __init__(self, top):
         self.top, self.kit, self.modules, self.kit_modules = top, None, {}, {}
-        for path in files_below(f"{top}/crates", ".antt"):
-            crate, folder, *rest = os.path.relpath(path, f"{top}/crates")[:-5].split("/")
-            if folder == "specs":
-                name = ".".join(["Rattle", crate, folder, *rest])
-                self.modules[name] = Module(name, path, read(path))
+        for crate in sorted(os.listdir(f"{top}/crates")):
+            self.read_specs(crate, f"{top}/crates/{crate}")
 
 
 class Definitions:

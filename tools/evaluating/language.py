@@ -131,12 +131,11 @@ class Translation:
     def function(self, _):
         names = []
         while self.seen != ".":
-            if self.seen == "(":
-                self.next()
-                names.append(self.next())
+            has_type = self.seen == "("
+            self.index += has_type
+            names.append(self.next())
+            if has_type:
                 self.pass_to(")")
-            else:
-                names.append(self.next())
         self.next()
         locals_ = [self.source.fresh() for _ in names]
         return f"Function({len(names)}, lambda {', '.join(locals_)}: {self.within(dict(zip(names, locals_)), self.term)})"

@@ -1,5 +1,6 @@
 """What the definitions use of the kit's library, written anew, each from what it means. `LIBRARY` is all of it, by subject."""
 import functools
+import itertools
 import json
 import math
 import re
@@ -62,6 +63,11 @@ def chars(data):
     return codes_of(text)
 
 
+def percent_decode(data):
+    """Bytes with the byte for each `%` and two hex digits."""
+    return list_of(re.sub(rb"%([0-9A-Fa-f]{2})", lambda found: bytes.fromhex(found[1].decode()), bytes_of(data)))
+
+
 def quoted(data):
     """A JSON string of bytes of UTF-8, with the fewest escapes."""
     text = json.dumps(bytes_of(data).decode("utf-8", "surrogateescape"), ensure_ascii=False)
@@ -107,13 +113,9 @@ def items_of(values):
     return found
 
 
-def is_too_deep(text):
-    depth = 0
-    for bracket in re.findall(r"[\[{\]}]", re.sub(r'(?s)"(?:[^"\\]|\\.)*"', "", text)):
-        depth += 1 if bracket in "[{" else -1
-        if depth > 127:
-            return True
-    return False
+def depth(text):
+    brackets = re.findall(r"[\[{\]}]", re.sub(r'(?s)"(?:[^"\\]|\\.)*"', "", text))
+    return max(itertools.accumulate(1 if it in "[{" else -1 for it in brackets), default=0)
 
 
 def json_read(data):
@@ -121,7 +123,7 @@ def json_read(data):
     text = bytes_of(data).decode()
     try:
         hooks = {"parse_int": number_read, "parse_float": number_read, "parse_constant": number_read}
-        return NONE if is_too_deep(text) else some(value_of(json.loads(text, object_pairs_hook=Members, **hooks)))
+        return NONE if depth(text) > 127 else some(value_of(json.loads(text, object_pairs_hook=Members, **hooks)))
     except ValueError:
         return NONE
 
@@ -201,7 +203,7 @@ LIBRARY = {
         "encode_utf8": (1, lambda c: list_of(chr(c).encode())), "len_utf8": (1, lambda c: 1 + (c > 0x7f) + (c > 0x7ff) + (c > 0xffff)),
         "is_utf8": (1, lambda data: decoded(data) is not None), "bytes_eq": (2, equal),
         "str_eq_ignore_ascii_case": (2, lambda a, b: bytes_of(a).lower() == bytes_of(b).lower()),
-        "string_bytes": (1, lambda text: text), "quoted": (1, quoted),
+        "string_bytes": (1, lambda text: text), "quoted": (1, quoted), "percent_decode": (1, percent_decode),
     },
     "JSON": {
         "read": (1, json_read), "get_member": (2, member),

@@ -2,7 +2,7 @@
 import collections
 import json
 
-from .library import Members, number_read, value_of
+from .library import json_read
 from .logs import Frames, encoding_of, run_log
 from .values import CannotRun, bytes_of, codes_of, list_of, record, some, text_of
 
@@ -16,7 +16,7 @@ ENDS = {"InsideStart": "start", "InsideStop": "end"}
 
 def json_value(value):
     """A value of Python as the definitions see it in a body."""
-    return value_of(json.loads(json.dumps(value), object_pairs_hook=Members, parse_int=number_read, parse_float=number_read))
+    return json_read(json.dumps(value).encode()).args[0]
 
 
 def refusal(name, number, why):

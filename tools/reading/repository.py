@@ -59,10 +59,13 @@ class Repository:
             self.read_crate(crate, f"{top}/crates/{crate}")
         self.read_ranks()
 
-    def read_crate(self, crate, folder):
+    def read_specs(self, crate, folder):
         for path in files_below(f"{folder}/specs", ".antt"):
             name = f"Rattle.{crate}.specs." + os.path.relpath(path, f"{folder}/specs")[:-5].replace("/", ".")
             self.modules[name] = Module(name, path, read(path))
+
+    def read_crate(self, crate, folder):
+        self.read_specs(crate, folder)
         exported, open_modules = self.public_of(f"{folder}/src/lib.rt")
         for path in files_below(f"{folder}/src", ".rt"):
             inner = os.path.relpath(path, f"{folder}/src")

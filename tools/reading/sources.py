@@ -177,9 +177,11 @@ def free_files(crate):
 def page_of_crate(page):
     """Returns the page of a crate with its line on them, which is the last one."""
     free, bound = free_files(os.path.dirname(page))
-    what = (", ".join(free) or "no file") if len(free) <= 2 * len(bound) else f"all of `src/` but {', '.join(bound)}"
-    line = f"Without a [proof](../../docs/DEVELOPING.md#what-needs-no-proof) you can change {what}."
-    kept = re.sub(r"\n*Without a \[proof\][^*]*\Z", "", text_of(page)).rstrip("\n")
+    what = ", ".join(free) if len(free) <= 2 * len(bound) else f"All of `src/` but {', '.join(bound)}"
+    link = "(../../docs/DEVELOPING.md#what-needs-no-proof)"
+    needs = "need" if what.startswith("`") and len(free) > 1 else "needs"
+    line = f"{what} {needs} [no proof]{link}." if what else f"Each change needs a [proof]{link}."
+    kept = re.split(r"\n\n(?=.*(?:\n.+)*#what-needs-no-proof)", text_of(page))[0].rstrip("\n")
     return f"{kept}\n\n" + textwrap.fill(line, 140, break_long_words=False, break_on_hyphens=False) + "\n"
 
 
