@@ -1,6 +1,8 @@
 # The one door to all that can be made, installed, tested and tried here: `make` alone lists it. A release, where there is no `crates.txt`, has
 # only what its users need.
 VERSION := $(shell cat VERSION)
+# (make knows no way of its own to make a script of a file in C beside it)
+.SUFFIXES:
 SONAME = liblaspidru.so.$(firstword $(subst ., ,$(VERSION)))
 
 DESTDIR ?=
@@ -57,7 +59,7 @@ endif
 SUMS = $(wildcard $(RELEASES)/laspidru-$(VERSION).sha256 $(PACKAGES)/laspidru-$(VERSION)-packages.sha256)
 
 define IN_A_RELEASE_TOO
-Each line: what the target does, what it needs, and about how long that takes.
+Each line: what the target does, what it needs, and about how long that takes where nothing else runs.
 
 To use Laspidru
   make library         both libraries for C, with their heap, in build/                    cc, the archive for C       seconds
