@@ -102,7 +102,7 @@ static json_t *text_left(const json_t *vector) {
     laspidru_fault fault = {0};
     laspidru_edits_fault edits_fault = {0};
     int fits = edits ? read_batch(edits, "newText", &batch) : read_batch(json_object_get(vector, "changes"), "text", &batch);
-    laspidru_u32 code = laspidru_document_open(&document, (bytes)json_string_value(text), json_string_length(text));
+    laspidru_u32 code = laspidru_document_new(&document, (bytes)json_string_value(text), json_string_length(text));
     if (!fits) code = NOT_ASKED;
     if (code == LASPIDRU_OK)
         code = edits ? laspidru_document_apply_edits(&document, encoding_of(vector), batch.edits, batch.count, batch.texts, batch.texts_len, &edits_fault)
@@ -110,7 +110,7 @@ static json_t *text_left(const json_t *vector) {
     json_t *found = code == LASPIDRU_OK ? json_pack("{s:o}", "text", text_of(&document))
         : edits ? refused(code, "edit", edits_fault.edit, edits_fault.other, edits_fault.at_end)
                 : refused(code, "change", fault.change, 0, fault.at_end);
-    laspidru_close(&document);
+    laspidru_handle_free(&document);
     free(batch.edits);
     free(batch.texts);
     return found;
@@ -122,7 +122,7 @@ static json_t *handled(laspidru_handle *server, const char *method, const json_t
     if (!strcmp(method, "initialize")) json_object_set_new(message, "id", json_integer(1));
     char *body = json_dumps(message, JSON_COMPACT);
     laspidru_answer answer;
-    laspidru_u32 code = laspidru_deliver(server, (bytes)body, strlen(body), &answer);
+    laspidru_u32 code = laspidru_session_deliver(server, (bytes)body, strlen(body), &answer);
     free(body);
     json_decref(message);
     if (code != LASPIDRU_OK) return json_sprintf("code %u", code);
@@ -134,10 +134,10 @@ static json_t *handled(laspidru_handle *server, const char *method, const json_t
 static json_t *document_of(laspidru_handle *server, const char *uri) {
     laspidru_opened opened;
     laspidru_size copied;
-    if (laspidru_open_state(server, (bytes)uri, strlen(uri), &opened) != LASPIDRU_OK) return NULL;
+    if (laspidru_session_document_state(server, (bytes)uri, strlen(uri), &opened) != LASPIDRU_OK) return NULL;
     unsigned char *out = malloc(opened.bytes + 1);
     json_t *found = NULL;
-    if (out && laspidru_open_text(server, (bytes)uri, strlen(uri), 0, out, opened.bytes, &copied) == LASPIDRU_OK)
+    if (out && laspidru_session_document_text(server, (bytes)uri, strlen(uri), 0, out, opened.bytes, &copied) == LASPIDRU_OK)
         found = json_pack("{s:s, s:i, s:o}", "uri", uri, "version", opened.version, "text", json_stringn((char *)out, copied));
     free(out);
     return found;
@@ -164,7 +164,7 @@ static json_t *session(const json_t *vector) {
     json_t *none;
     json_object_foreach(uris, uri, none) json_array_append_new(documents, document_of(&server, uri));
     json_decref(uris);
-    laspidru_close(&server);
+    laspidru_handle_free(&server);
     return json_pack("{s:o, s:o}", "answers", answers, "documents", documents);
 }
 
@@ -199,7 +199,7 @@ static laspidru_u32 take(laspidru_handle *framer, bytes piece, size_t len, json_
         if (!taken->is_whole) continue;
         unsigned char *body = malloc(taken->body_len + 1);
         if (body == NULL) return LASPIDRU_OUT_OF_MEMORY;
-        code = laspidru_body(framer, 0, body, taken->body_len, &copied);
+        code = laspidru_framer_body(framer, 0, body, taken->body_len, &copied);
         json_array_append_new(bodies, text_of_bytes(body, copied));
         free(body);
         if (code != LASPIDRU_OK || (code = laspidru_framer_next(framer)) != LASPIDRU_OK) return code;
@@ -226,7 +226,7 @@ static json_t *stream(const json_t *pieces) {
         code = take(&framer, piece, to_bytes(piece, len), bodies, &taken);
         free(piece);
     }
-    laspidru_close(&framer);
+    laspidru_handle_free(&framer);
     if (code == LASPIDRU_BAD_FRAME) fault = json_pack("{s:s, s:I}", "why", FAULTS[taken.frame], "offset", (json_int_t)taken.offset);
     json_t *found = json_pack("{s:o, s:o}", "bodies", bodies, "fault", fault);
     if (code == LASPIDRU_OK || code == LASPIDRU_BAD_FRAME) return found;

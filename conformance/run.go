@@ -127,9 +127,9 @@ func textLeft(it vector) (object, error) {
 		return nil, err
 	}
 	var document C.laspidru_handle
-	defer C.laspidru_close(&document)
+	defer C.laspidru_handle_free(&document)
 	text, textLen := passed([]byte(it.Text))
-	if err := demand(C.laspidru_document_open(&document, text, textLen)); err != nil {
+	if err := demand(C.laspidru_document_new(&document, text, textLen)); err != nil {
 		return nil, err
 	}
 	count := C.laspidru_size(len(edits) - 1)
@@ -166,7 +166,7 @@ func handled(server *C.laspidru_handle, it object) (string, error) {
 	}
 	body, bodyLen := passed(written)
 	var answer C.laspidru_answer
-	if err := demand(C.laspidru_deliver(server, body, bodyLen, &answer)); err != nil {
+	if err := demand(C.laspidru_session_deliver(server, body, bodyLen, &answer)); err != nil {
 		return "", err
 	}
 	switch answer.kind {
@@ -182,7 +182,7 @@ func handled(server *C.laspidru_handle, it object) (string, error) {
 func documentOf(server *C.laspidru_handle, uri string) (object, error) {
 	var opened C.laspidru_opened
 	name, nameLen := passed([]byte(uri))
-	switch code := C.laspidru_open_state(server, name, nameLen, &opened); code {
+	switch code := C.laspidru_session_document_state(server, name, nameLen, &opened); code {
 	case C.LASPIDRU_OK:
 	case C.LASPIDRU_NOT_OPEN:
 		return nil, nil
@@ -190,14 +190,14 @@ func documentOf(server *C.laspidru_handle, uri string) (object, error) {
 		return nil, demand(code)
 	}
 	text, err := copied(opened.bytes, func(out *C.uchar, room C.laspidru_size, found *C.laspidru_size) C.laspidru_u32 {
-		return C.laspidru_open_text(server, name, nameLen, 0, out, room, found)
+		return C.laspidru_session_document_text(server, name, nameLen, 0, out, room, found)
 	})
 	return object{"uri": uri, "version": opened.version, "text": string(text)}, err
 }
 
 func session(it vector) (object, error) {
 	var server C.laspidru_handle
-	defer C.laspidru_close(&server)
+	defer C.laspidru_handle_free(&server)
 	settings := C.defaults()
 	settings.encoding, settings.is_fixed = units[it.Encoding], true
 	if err := demand(C.laspidru_server_new(&server, &settings)); err != nil {
@@ -258,7 +258,7 @@ func take(framer *C.laspidru_handle, piece []byte, taken *C.laspidru_taken) (bod
 			continue
 		}
 		body, err := copied(taken.body_len, func(out *C.uchar, room C.laspidru_size, found *C.laspidru_size) C.laspidru_u32 {
-			return C.laspidru_body(framer, 0, out, room, found)
+			return C.laspidru_framer_body(framer, 0, out, room, found)
 		})
 		if err != nil {
 			return bodies, C.LASPIDRU_FAILED
@@ -271,7 +271,7 @@ func take(framer *C.laspidru_handle, piece []byte, taken *C.laspidru_taken) (bod
 
 func stream(pieces []string) (object, error) {
 	var framer C.laspidru_handle
-	defer C.laspidru_close(&framer)
+	defer C.laspidru_handle_free(&framer)
 	if err := demand(C.laspidru_framer_new(&framer, 16777216)); err != nil {
 		return nil, err
 	}

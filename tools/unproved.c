@@ -20,14 +20,14 @@ __attribute__((constructor)) static void say(void) {
 }
 
 laspidru_u32 laspidru_document_offset_at(laspidru_handle *, laspidru_u32, laspidru_u32, laspidru_u32, laspidru_size *);
-laspidru_u32 laspidru_open_offset_at(laspidru_handle *, const unsigned char *, laspidru_size, laspidru_u32, laspidru_u32, laspidru_u32,
-                                     laspidru_size *);
+laspidru_u32 laspidru_session_document_offset_at(laspidru_handle *, const unsigned char *, laspidru_size, laspidru_u32, laspidru_u32,
+                                                 laspidru_u32, laspidru_size *);
 
 laspidru_u32 laspidru_document_offset(laspidru_handle *handle, laspidru_u32 encoding, laspidru_position at, laspidru_size *out) {
     return laspidru_document_offset_at(handle, encoding, at.line, at.character, out);
 }
 
-laspidru_u32 laspidru_open_offset(laspidru_handle *handle, const unsigned char *uri, laspidru_size uri_len, laspidru_u32 encoding,
-                                  laspidru_position at, laspidru_size *out) {
-    return laspidru_open_offset_at(handle, uri, uri_len, encoding, at.line, at.character, out);
+laspidru_u32 laspidru_session_document_offset(laspidru_handle *handle, const unsigned char *uri, laspidru_size uri_len,
+                                              laspidru_u32 encoding, laspidru_position at, laspidru_size *out) {
+    return laspidru_session_document_offset_at(handle, uri, uri_len, encoding, at.line, at.character, out);
 }

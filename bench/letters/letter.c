@@ -22,7 +22,7 @@ int main(int argc, char **argv) {
     for (int round = 0; round < 60; round++) {
         laspidru_handle document = {0};
         laspidru_fault fault;
-        if (laspidru_document_open(&document, (unsigned char *)text, len) != LASPIDRU_OK)
+        if (laspidru_document_new(&document, (unsigned char *)text, len) != LASPIDRU_OK)
             return 1;
         double start = now();
         for (i = 0; i < count; i++) {
@@ -33,7 +33,7 @@ int main(int argc, char **argv) {
         }
         double each = (now() - start) / count;
         least = each < least ? each : least;
-        laspidru_close(&document);
+        laspidru_handle_free(&document);
     }
     printf("%.0f\n", least);
     free(text);

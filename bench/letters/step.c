@@ -1,6 +1,6 @@
 /* step LINES: what a keystroke's didChange costs a server through C, in nanoseconds of the processor, the least of many short rounds: by
-   laspidru_take from the frame's bytes, then by laspidru_deliver from the body. The text and the keystrokes are those of the row
-   `write, and Server::handle` of `lsp_bench pairs`, which also writes each message. */
+   laspidru_session_feed from the frame's bytes, then by laspidru_session_deliver from the body. The text and the keystrokes are those of
+   the row `write, and Server::handle` of `lsp_bench pairs`, which also writes each message. */
 #include <stdio.h>
 #include <stdlib.h>
 #include <string.h>
@@ -53,8 +53,8 @@ static void begin(laspidru_handle *server) {
     laspidru_settings settings = LASPIDRU_SETTINGS_DEFAULT;
     laspidru_answer answer;
     demand(laspidru_server_new(server, &settings) == LASPIDRU_OK);
-    demand(laspidru_deliver(server, (bytes)initialize, strlen(initialize), &answer) == LASPIDRU_OK);
-    demand(laspidru_deliver(server, (bytes)opening, strlen(opening), &answer) == LASPIDRU_OK && answer.kind == LASPIDRU_CHANGED);
+    demand(laspidru_session_deliver(server, (bytes)initialize, strlen(initialize), &answer) == LASPIDRU_OK);
+    demand(laspidru_session_deliver(server, (bytes)opening, strlen(opening), &answer) == LASPIDRU_OK && answer.kind == LASPIDRU_CHANGED);
 }
 
 /* What a keystroke costs in one round. */
@@ -66,13 +66,13 @@ static double round_of(int from_bytes) {
     double start = now();
     for (size_t i = 0; i < COUNT; i++)
         if (from_bytes)
-            demand(laspidru_take(&server, (bytes)frames[i], lens[i], &taken, &answer) == LASPIDRU_OK && taken.is_whole &&
+            demand(laspidru_session_feed(&server, (bytes)frames[i], lens[i], &taken, &answer) == LASPIDRU_OK && taken.is_whole &&
                    answer.kind == LASPIDRU_CHANGED);
         else
-            demand(laspidru_deliver(&server, (bytes)frames[i] + lens[i] - body_lens[i], body_lens[i], &answer) == LASPIDRU_OK &&
+            demand(laspidru_session_deliver(&server, (bytes)frames[i] + lens[i] - body_lens[i], body_lens[i], &answer) == LASPIDRU_OK &&
                    answer.kind == LASPIDRU_CHANGED);
     double each = (now() - start) / COUNT;
-    laspidru_close(&server);
+    laspidru_handle_free(&server);
     return each;
 }
 

@@ -7,7 +7,7 @@
 int main(void) {
     const char *text = "one\ntwo\n";
     laspidru_handle document = {0};
-    if (laspidru_document_open(&document, (const unsigned char *)text, strlen(text)) != LASPIDRU_OK)
+    if (laspidru_document_new(&document, (const unsigned char *)text, strlen(text)) != LASPIDRU_OK)
         return 1;
 
     /* Replaces "two" by "2", and then puts "0" before all. The texts of both follow each other. */
@@ -28,6 +28,6 @@ int main(void) {
     if (laspidru_document_offset(&document, LASPIDRU_UTF16, place, &offset) == LASPIDRU_OK)
         printf("line 1, character 1 is byte %zu\n", (size_t)offset);
 
-    laspidru_close(&document);
+    laspidru_handle_free(&document);
     return code != LASPIDRU_OK;
 }

@@ -42,7 +42,7 @@ int main(void) {
         return 4;
     laspidru_u32 code = laspidru_log_run(&output, LASPIDRU_CHECK, &settings, log, 0, log, len, &ending);
     print_output(&output);
-    laspidru_close(&output);
+    laspidru_handle_free(&output);
     free(log);
     if (code == LASPIDRU_OK)
         return (int)ending.status;

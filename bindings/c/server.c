@@ -12,7 +12,7 @@ static int reply(laspidru_handle *server, laspidru_size len) {
     unsigned char part[4096];
     laspidru_size start, copied;
     for (start = 0; start < len; start += copied)
-        if (laspidru_frame(server, start, part, sizeof part, &copied) != LASPIDRU_OK ||
+        if (laspidru_session_frame(server, start, part, sizeof part, &copied) != LASPIDRU_OK ||
             fwrite(part, 1, copied, stdout) != copied)
             return 0;
     return fflush(stdout) == 0;
@@ -22,7 +22,7 @@ static int reply(laspidru_handle *server, laspidru_size len) {
 static void print_text(const char *what, laspidru_u32 code) {
     unsigned char text[120];
     laspidru_size len = 0;
-    laspidru_text(code, 0, text, sizeof text, &len);
+    laspidru_code_text(code, 0, text, sizeof text, &len);
     fprintf(stderr, "%s: %.*s\n", what, (int)len, (const char *)text);
 }
 
@@ -30,7 +30,7 @@ static void print_text(const char *what, laspidru_u32 code) {
 static void print_refused(laspidru_handle *server, laspidru_size body_len, laspidru_u32 reason) {
     unsigned char *body = (unsigned char *)malloc(body_len), uri[4096];
     laspidru_size copied = 0, len = 0;
-    if (body && laspidru_body(server, 0, body, body_len, &copied) == LASPIDRU_OK)
+    if (body && laspidru_session_body(server, 0, body, body_len, &copied) == LASPIDRU_OK)
         laspidru_message_uri(body, copied, 0, uri, sizeof uri, &len);
     free(body);
     fprintf(stderr, "%.*s ", (int)len, (const char *)uri);
@@ -65,7 +65,7 @@ static int take(laspidru_handle *server, const unsigned char *piece, laspidru_si
     laspidru_answer answer;
     int status = GOES_ON;
     while (len > 0 && status == GOES_ON) {
-        if (laspidru_take(server, piece, len, &taken, &answer) != LASPIDRU_OK)
+        if (laspidru_session_feed(server, piece, len, &taken, &answer) != LASPIDRU_OK)
             return FAILED;
         piece += taken.bytes;
         len -= taken.bytes;
@@ -83,6 +83,6 @@ int main(void) {
     ssize_t len;
     while (status == GOES_ON && (len = read(STDIN_FILENO, piece, sizeof piece)) > 0)
         status = take(&server, piece, (laspidru_size)len);
-    laspidru_close(&server);
+    laspidru_handle_free(&server);
     return status == GOES_ON ? 1 : status; /* the stream ended before `exit` */
 }

@@ -23,8 +23,8 @@ static void demand(laspidru_u32 code) {
 static unsigned char *copied(laspidru_handle *handle, laspidru_size len) {
     unsigned char *out = malloc(len + 1);
     laspidru_size first, rest;
-    demand(laspidru_frame(handle, 0, out, len / 2, &first));
-    demand(laspidru_frame(handle, first, out + first, len - first, &rest));
+    demand(laspidru_session_frame(handle, 0, out, len / 2, &first));
+    demand(laspidru_session_frame(handle, first, out + first, len - first, &rest));
     if (first + rest != len) demand(99);
     return out;
 }
@@ -43,9 +43,9 @@ static int take(struct queue *queue, laspidru_handle *end, laspidru_answer *answ
     laspidru_taken taken;
     queue->first = (queue->first + 1) % MOST;
     queue->count--;
-    demand(laspidru_take(end, frame, cut, &taken, answer));
+    demand(laspidru_session_feed(end, frame, cut, &taken, answer));
     if (taken.is_whole || taken.bytes != cut) demand(99);
-    demand(laspidru_take(end, frame + cut, all - cut, &taken, answer));
+    demand(laspidru_session_feed(end, frame + cut, all - cut, &taken, answer));
     if (!taken.is_whole || taken.bytes != all - cut) demand(99);
     free(frame);
     return 1;
@@ -94,7 +94,7 @@ static void edit(const char *uri, int version, int count) {
         it->is_whole = *word == 'w';
         texts_len += it->len = plain(line + at + 1, texts + texts_len);
     }
-    laspidru_u32 code = laspidru_client_edit(&client, (bytes)uri, strlen(uri), version, edits, count, (bytes)texts, texts_len, &fault, &len);
+    laspidru_u32 code = laspidru_client_did_change(&client, (bytes)uri, strlen(uri), version, edits, count, (bytes)texts, texts_len, &fault, &len);
     called(code, len);
 }
 
@@ -102,8 +102,8 @@ static void print_document(const char *name, laspidru_handle *end, const char *u
     static unsigned char out[ROOM];
     laspidru_opened opened;
     laspidru_size count;
-    if (laspidru_open_state(end, (bytes)uri, strlen(uri), &opened) == LASPIDRU_NOT_OPEN) return;
-    demand(laspidru_open_text(end, (bytes)uri, strlen(uri), 0, out, sizeof out, &count));
+    if (laspidru_session_document_state(end, (bytes)uri, strlen(uri), &opened) == LASPIDRU_NOT_OPEN) return;
+    demand(laspidru_session_document_text(end, (bytes)uri, strlen(uri), 0, out, sizeof out, &count));
     if (count != opened.bytes) demand(99);
     printf("%s %s %d ", name, uri, opened.version);
     for (laspidru_size i = 0; i < count; i++)
@@ -120,8 +120,8 @@ static void end_session(void) {
         print_document("client", &client, URIS[i]);
         print_document("server", &server, URIS[i]);
     }
-    laspidru_close(&client);
-    laspidru_close(&server);
+    laspidru_handle_free(&client);
+    laspidru_handle_free(&server);
     for (; to_server.count; to_server.count--) free(to_server.frames[to_server.first++ % MOST]);
     for (; to_client.count; to_client.count--) free(to_client.frames[to_client.first++ % MOST]);
     to_server.first = to_client.first = 0;
@@ -157,13 +157,13 @@ static int lifecycle(const char *line) {
 static void open_document(const char *uri, int version, const char *escaped) {
     static char text[ROOM];
     laspidru_size text_len = plain(escaped, text), len = 0;
-    laspidru_u32 code = laspidru_client_open(&client, (bytes)uri, strlen(uri), (bytes)"c", 1, version, (bytes)text, text_len, &len);
+    laspidru_u32 code = laspidru_client_did_open(&client, (bytes)uri, strlen(uri), (bytes)"c", 1, version, (bytes)text, text_len, &len);
     called(code, len);
 }
 
 static void close_document(const char *uri) {
     laspidru_size len = 0;
-    laspidru_u32 code = laspidru_client_close(&client, (bytes)uri, strlen(uri), &len);
+    laspidru_u32 code = laspidru_client_did_close(&client, (bytes)uri, strlen(uri), &len);
     called(code, len);
 }
 

@@ -23,8 +23,8 @@ static void check(int is_right, const char *what, int line) {
 
 static const unsigned char *bytes(const char *text) { return (const unsigned char *)text; }
 
-static laspidru_u32 open_text(laspidru_handle *document, const char *text) {
-    return laspidru_document_open(document, bytes(text), strlen(text));
+static laspidru_u32 new_document(laspidru_handle *document, const char *text) {
+    return laspidru_document_new(document, bytes(text), strlen(text));
 }
 
 static int has_text(laspidru_handle *document, const char *text) {

@@ -26,7 +26,7 @@ static int has_length(laspidru_handle *document, laspidru_size wanted) {
 /* What a thread does; NULL where a call failed. */
 static void *work(void *done) {
     laspidru_handle own = {0};
-    int is_right = laspidru_document_open(&own, (const unsigned char *)"", 0) == LASPIDRU_OK;
+    int is_right = laspidru_document_new(&own, (const unsigned char *)"", 0) == LASPIDRU_OK;
     for (int i = 0; i < CHANGES && is_right; i++) {
         is_right = put(&own);
         pthread_mutex_lock(&lock);
@@ -34,13 +34,13 @@ static void *work(void *done) {
         pthread_mutex_unlock(&lock);
     }
     is_right = is_right && has_length(&own, CHANGES);
-    laspidru_close(&own);
+    laspidru_handle_free(&own);
     return is_right ? done : NULL;
 }
 
 int main(void) {
     pthread_t threads[THREADS];
-    int failed = laspidru_document_open(&shared, (const unsigned char *)"", 0) != LASPIDRU_OK;
+    int failed = laspidru_document_new(&shared, (const unsigned char *)"", 0) != LASPIDRU_OK;
     for (int i = 0; i < THREADS; i++)
         failed |= pthread_create(&threads[i], NULL, work, &shared) != 0;
     for (int i = 0; i < THREADS; i++) {
@@ -48,7 +48,7 @@ int main(void) {
         failed |= pthread_join(threads[i], &done) != 0 || done == NULL;
     }
     failed |= !has_length(&shared, THREADS * CHANGES);
-    laspidru_close(&shared);
+    laspidru_handle_free(&shared);
     puts(failed ? "failed" : "passed");
     return failed;
 }

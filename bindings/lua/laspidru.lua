@@ -22,9 +22,9 @@ typedef struct { size_t max_body, max_text, max_docs, max_changes; uint64_t at; 
     documents, texts, bodies, has_uri, brief, all; } laspidru_log_settings;
 typedef struct { uint32_t status, frame, missing; uint64_t messages, refused, offset; size_t output_len; } laspidru_ending;
 uint32_t laspidru_version(void);
-uint32_t laspidru_text(uint32_t code, size_t start, unsigned char *out, size_t out_len, size_t *copied);
-uint32_t laspidru_document_open(laspidru_handle *document, const unsigned char *text, size_t text_len);
-void laspidru_close(laspidru_handle *handle);
+uint32_t laspidru_code_text(uint32_t code, size_t start, unsigned char *out, size_t out_len, size_t *copied);
+uint32_t laspidru_document_new(laspidru_handle *document, const unsigned char *text, size_t text_len);
+void laspidru_handle_free(laspidru_handle *handle);
 uint32_t laspidru_document_change(laspidru_handle *document, uint32_t encoding, const laspidru_edit *edits, size_t edits_len,
     const unsigned char *texts, size_t texts_len, laspidru_fault *fault);
 uint32_t laspidru_document_size(laspidru_handle *document, laspidru_length *length);
@@ -43,41 +43,45 @@ uint32_t laspidru_batch_edit(laspidru_handle *batch, size_t index, laspidru_edit
     size_t *copied);
 uint32_t laspidru_framer_new(laspidru_handle *framer, size_t max_body);
 uint32_t laspidru_framer_feed(laspidru_handle *framer, const unsigned char *piece, size_t piece_len, laspidru_taken *taken);
+uint32_t laspidru_framer_body(laspidru_handle *framer, size_t start, unsigned char *out, size_t out_len, size_t *copied);
 uint32_t laspidru_framer_next(laspidru_handle *framer);
 uint32_t laspidru_framer_at_rest(laspidru_handle *framer, bool *at_rest);
 uint32_t laspidru_server_new(laspidru_handle *server, const laspidru_settings *settings);
 uint32_t laspidru_client_new(laspidru_handle *client, const laspidru_client_settings *settings);
 uint32_t laspidru_client_start(laspidru_handle *client, size_t *frame_len);
-uint32_t laspidru_client_open(laspidru_handle *client, const unsigned char *uri, size_t uri_len, const unsigned char *language,
-    size_t language_len, int32_t version, const unsigned char *text, size_t text_len, size_t *frame_len);
-uint32_t laspidru_client_edit(laspidru_handle *client, const unsigned char *uri, size_t uri_len, int32_t version,
+uint32_t laspidru_client_did_open(laspidru_handle *client, const unsigned char *uri, size_t uri_len,
+    const unsigned char *language, size_t language_len, int32_t version, const unsigned char *text, size_t text_len,
+    size_t *frame_len);
+uint32_t laspidru_client_did_change(laspidru_handle *client, const unsigned char *uri, size_t uri_len, int32_t version,
     const laspidru_edit *edits, size_t edits_len, const unsigned char *texts, size_t texts_len, laspidru_fault *fault,
     size_t *frame_len);
-uint32_t laspidru_client_close(laspidru_handle *client, const unsigned char *uri, size_t uri_len, size_t *frame_len);
+uint32_t laspidru_client_did_close(laspidru_handle *client, const unsigned char *uri, size_t uri_len, size_t *frame_len);
 uint32_t laspidru_client_shutdown(laspidru_handle *client, size_t *frame_len);
 uint32_t laspidru_client_exit(laspidru_handle *client, size_t *frame_len);
-uint32_t laspidru_take(laspidru_handle *end, const unsigned char *piece, size_t piece_len, laspidru_taken *taken,
+uint32_t laspidru_session_feed(laspidru_handle *session, const unsigned char *piece, size_t piece_len, laspidru_taken *taken,
     laspidru_answer *answer);
-uint32_t laspidru_body(laspidru_handle *end_or_framer, size_t start, unsigned char *out, size_t out_len, size_t *copied);
-uint32_t laspidru_deliver(laspidru_handle *end, const unsigned char *body, size_t body_len, laspidru_answer *answer);
-uint32_t laspidru_frame(laspidru_handle *end, size_t start, unsigned char *out, size_t out_len, size_t *copied);
-uint32_t laspidru_session_state(laspidru_handle *end, laspidru_state *state);
+uint32_t laspidru_session_body(laspidru_handle *session, size_t start, unsigned char *out, size_t out_len, size_t *copied);
+uint32_t laspidru_session_deliver(laspidru_handle *session, const unsigned char *body, size_t body_len, laspidru_answer *answer);
+uint32_t laspidru_session_frame(laspidru_handle *session, size_t start, unsigned char *out, size_t out_len, size_t *copied);
+uint32_t laspidru_session_state(laspidru_handle *session, laspidru_state *state);
 uint32_t laspidru_message_uri(const unsigned char *body, size_t body_len, size_t start, unsigned char *out, size_t out_len,
     size_t *copied);
-uint32_t laspidru_open_state(laspidru_handle *end, const unsigned char *uri, size_t uri_len, laspidru_opened *document);
-uint32_t laspidru_open_text(laspidru_handle *end, const unsigned char *uri, size_t uri_len, size_t start, unsigned char *out,
-    size_t out_len, size_t *copied);
-uint32_t laspidru_open_offset(laspidru_handle *end, const unsigned char *uri, size_t uri_len, uint32_t encoding,
+uint32_t laspidru_session_document_state(laspidru_handle *session, const unsigned char *uri, size_t uri_len,
+    laspidru_opened *document);
+uint32_t laspidru_session_document_text(laspidru_handle *session, const unsigned char *uri, size_t uri_len, size_t start,
+    unsigned char *out, size_t out_len, size_t *copied);
+uint32_t laspidru_session_document_offset(laspidru_handle *session, const unsigned char *uri, size_t uri_len, uint32_t encoding,
     laspidru_position position, size_t *offset);
-uint32_t laspidru_open_position(laspidru_handle *end, const unsigned char *uri, size_t uri_len, uint32_t encoding, size_t offset,
-    laspidru_position *position);
-uint32_t laspidru_open_line(laspidru_handle *end, const unsigned char *uri, size_t uri_len, uint32_t line, laspidru_line *range);
-uint32_t laspidru_open_batch_of_edits(laspidru_handle *end, const unsigned char *uri, size_t uri_len, uint32_t encoding,
-    const laspidru_edit *edits, size_t edits_len, const unsigned char *texts, size_t texts_len, laspidru_handle *batch,
-    laspidru_edits_fault *fault);
-uint32_t laspidru_open_canonical_message(laspidru_handle *end, const unsigned char *uri, size_t uri_len, int32_t version,
+uint32_t laspidru_session_document_position(laspidru_handle *session, const unsigned char *uri, size_t uri_len, uint32_t encoding,
+    size_t offset, laspidru_position *position);
+uint32_t laspidru_session_document_line(laspidru_handle *session, const unsigned char *uri, size_t uri_len, uint32_t line,
+    laspidru_line *range);
+uint32_t laspidru_session_document_batch_of_edits(laspidru_handle *session, const unsigned char *uri, size_t uri_len,
     uint32_t encoding, const laspidru_edit *edits, size_t edits_len, const unsigned char *texts, size_t texts_len,
-    laspidru_handle *output, laspidru_fault *fault, size_t *frame_len);
+    laspidru_handle *batch, laspidru_edits_fault *fault);
+uint32_t laspidru_session_document_canonical_message(laspidru_handle *session, const unsigned char *uri, size_t uri_len,
+    int32_t version, uint32_t encoding, const laspidru_edit *edits, size_t edits_len, const unsigned char *texts,
+    size_t texts_len, laspidru_handle *output, laspidru_fault *fault, size_t *frame_len);
 uint32_t laspidru_log_run(laspidru_handle *output, uint32_t command, const laspidru_log_settings *settings,
     const unsigned char *uri, size_t uri_len, const unsigned char *log, size_t log_len, laspidru_ending *ending);
 uint32_t laspidru_log_compare(laspidru_handle *output, const laspidru_log_settings *settings, const unsigned char *uri,
@@ -125,7 +129,7 @@ local KINDS = { [0] = "send", [3] = "ignored", [6] = "noted", [7] = "bad-server"
 local CODES, WHY = {}, {}
 do
     local out, count, code = ffi.new("unsigned char[120]"), ffi.new("size_t[1]"), 0
-    while C.laspidru_text(code, 0, out, 120, count) == 0 do
+    while C.laspidru_code_text(code, 0, out, 120, count) == 0 do
         local name, why_ = ffi.string(out, count[0]):match("^(.-): (.*)$")
         CODES[code], WHY[name], code = name, why_, code + 1
     end
@@ -178,7 +182,7 @@ end
 
 -- A handle, which the collector closes.
 local function new_handle()
-    return ffi.gc(ffi.new("laspidru_handle"), C.laspidru_close)
+    return ffi.gc(ffi.new("laspidru_handle"), C.laspidru_handle_free)
 end
 
 -- So many bytes that a call copies.
@@ -253,7 +257,7 @@ Document.__index = Document
 -- A document of a text; positions count units of `encoding`, "utf-16" if none is given.
 function Document.new(text, encoding)
     local self = setmetatable({ handle = new_handle(), encoding = encoding_of(encoding or "utf-16") }, Document)
-    demand(C.laspidru_document_open(self.handle, text_of(text, "a text"), #text))
+    demand(C.laspidru_document_new(self.handle, text_of(text, "a text"), #text))
     return self
 end
 
@@ -326,7 +330,7 @@ end
 
 -- Frees the text at once; else the collector does. Each later call raises EMPTY.
 function Document:close()
-    C.laspidru_close(self.handle)
+    C.laspidru_handle_free(self.handle)
 end
 
 -- A client's end of a session, without input and output of its own: each call returns the bytes to send.
@@ -363,7 +367,7 @@ end
 
 local function frame_of(self, len)
     local handle = self.handle
-    return copied(function(...) return C.laspidru_frame(handle, 0, ...) end, tonumber(len))
+    return copied(function(...) return C.laspidru_session_frame(handle, 0, ...) end, tonumber(len))
 end
 
 local function call(self, code, len)
@@ -384,7 +388,7 @@ function Client:open(uri, language, version, text)
     text_of(language, "a language")
     text_of(text, "a text")
     number(version, -2147483648, 2147483647)
-    return call(self, C.laspidru_client_open(self.handle, uri, #uri, language, #language, version, text, #text, len), len)
+    return call(self, C.laspidru_client_did_open(self.handle, uri, #uri, language, #language, version, text, #text, len), len)
 end
 
 -- Changes a document: one `textDocument/didChange`, with the canonical batch, or where the server asked for it with the whole text.
@@ -393,14 +397,14 @@ function Client:edit(uri, version, changes)
     local fault, len = ffi.new("laspidru_fault"), ffi.new("size_t[1]")
     text_of(uri, "a URI")
     number(version, -2147483648, 2147483647)
-    demand_change(C.laspidru_client_edit(self.handle, uri, #uri, version, edits, count, texts, #texts, fault, len), fault)
+    demand_change(C.laspidru_client_did_change(self.handle, uri, #uri, version, edits, count, texts, #texts, fault, len), fault)
     return frame_of(self, len[0])
 end
 
 -- Closes a document: `textDocument/didClose`.
 function Client:close(uri)
     local len = ffi.new("size_t[1]")
-    return call(self, C.laspidru_client_close(self.handle, text_of(uri, "a URI"), #uri, len), len)
+    return call(self, C.laspidru_client_did_close(self.handle, text_of(uri, "a URI"), #uri, len), len)
 end
 
 -- Asks the server to shut down.
@@ -427,7 +431,7 @@ end
 -- `why` where it is "bad-server". The others are "noted" and "ignored".
 function Client:deliver(body)
     local answer = ffi.new("laspidru_answer")
-    demand(C.laspidru_deliver(self.handle, text_of(body, "a body"), #body, answer))
+    demand(C.laspidru_session_deliver(self.handle, text_of(body, "a body"), #body, answer))
     return event_of(self, answer, body)
 end
 
@@ -435,7 +439,7 @@ end
 -- the message before, if there was one.
 local function next_event(self, last)
     local handle, taken, answer = self.handle, ffi.new("laspidru_taken"), ffi.new("laspidru_answer")
-    local code, has_rest = C.laspidru_take(handle, self.rest, #self.rest, taken, answer), self.rest ~= ""
+    local code, has_rest = C.laspidru_session_feed(handle, self.rest, #self.rest, taken, answer), self.rest ~= ""
     -- Of a stream that is refused no more is taken.
     self.rest = is(code, "OK", "OUT_OF_MEMORY") and self.rest:sub(tonumber(taken.bytes) + 1) or ""
     if is(code, "BAD_FRAME") then refuse("BAD_FRAME", { frame = taken.frame, offset = tonumber(taken.offset) }) end
@@ -443,7 +447,7 @@ local function next_event(self, last)
     if is(code, "WRONG_PHASE") and (last or not has_rest) then return nil end
     demand(code)
     if not taken.is_whole then return nil end
-    return event_of(self, answer, copied(function(...) return C.laspidru_body(handle, 0, ...) end, tonumber(taken.body_len)))
+    return event_of(self, answer, copied(function(...) return C.laspidru_session_body(handle, 0, ...) end, tonumber(taken.body_len)))
 end
 
 -- What the client does with each message that ends in these bytes, as `deliver` says it: a list of events, once all are handled. They
@@ -489,7 +493,7 @@ end
 
 local function opened_at(self, uri)
     local opened = ffi.new("laspidru_opened")
-    return is_open(C.laspidru_open_state(self.handle, text_of(uri, "a URI"), #uri, opened)) and opened or nil
+    return is_open(C.laspidru_session_document_state(self.handle, text_of(uri, "a URI"), #uri, opened)) and opened or nil
 end
 
 -- The version of the open document of a URI, or nil.
@@ -502,15 +506,15 @@ end
 function Client:text(uri)
     local opened, handle = opened_at(self, uri), self.handle
     if not opened then return nil end
-    return copied(function(...) return C.laspidru_open_text(handle, uri, #uri, 0, ...) end, tonumber(opened.bytes))
+    return copied(function(...) return C.laspidru_session_document_text(handle, uri, #uri, 0, ...) end, tonumber(opened.bytes))
 end
 
 -- A line, counted from 0, of the open document of a URI, without its line end, or nil. The rest of the text is not read.
 function Client:line(uri, line)
     local handle, range = self.handle, ffi.new("laspidru_line")
-    if not is_open(C.laspidru_open_line(handle, text_of(uri, "a URI"), #uri, uint(line), range)) then return nil end
+    if not is_open(C.laspidru_session_document_line(handle, text_of(uri, "a URI"), #uri, uint(line), range)) then return nil end
     local len = tonumber(range["end"] - range.start)
-    return copied(function(...) return C.laspidru_open_text(handle, uri, #uri, range.start, ...) end, len)
+    return copied(function(...) return C.laspidru_session_document_text(handle, uri, #uri, range.start, ...) end, len)
 end
 
 -- The number of the encoding that was agreed on; of UTF-16 before.
@@ -522,14 +526,15 @@ end
 -- The byte offset, counted from 0, of a position in the open document of a URI, or nil. One after the line's end is the line's end.
 function Client:offset(uri, position)
     local place, offset = ffi.new("laspidru_position", uint(position.line), uint(position.character)), ffi.new("size_t[1]")
-    local code = C.laspidru_open_offset(self.handle, text_of(uri, "a URI"), #uri, units_of(self), place, offset)
+    local code = C.laspidru_session_document_offset(self.handle, text_of(uri, "a URI"), #uri, units_of(self), place, offset)
     return is_open(code) and tonumber(offset[0]) or nil
 end
 
 -- The exact position of a byte offset in the open document of a URI, or nil.
 function Client:position(uri, offset)
     local place, at = ffi.new("laspidru_position"), number(offset, 0, 2 ^ 53)
-    if not is_open(C.laspidru_open_position(self.handle, text_of(uri, "a URI"), #uri, units_of(self), at, place)) then return nil end
+    local code = C.laspidru_session_document_position(self.handle, text_of(uri, "a URI"), #uri, units_of(self), at, place)
+    if not is_open(code) then return nil end
     return { line = place.line, character = place.character }
 end
 
@@ -538,7 +543,8 @@ function Client:batch_of_edits(uri, edits_)
     local edits, count, texts = batch_of_text_edits(edits_)
     local handle, found, fault = self.handle, new_handle(), ffi.new("laspidru_edits_fault")
     text_of(uri, "a URI")
-    demand_edits(C.laspidru_open_batch_of_edits(handle, uri, #uri, units_of(self), edits, count, texts, #texts, found, fault), fault)
+    local code = C.laspidru_session_document_batch_of_edits(handle, uri, #uri, units_of(self), edits, count, texts, #texts, found, fault)
+    demand_edits(code, fault)
     return changes_of(found)
 end
 

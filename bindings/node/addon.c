@@ -23,8 +23,8 @@ typedef struct {
 /* declared: by tools/declared */
 #define EACH(CALL) \
     CALL(version, "") \
-    CALL(text, "nnbnb", a[0].n, a[1].n, a[2].at, a[3].n, a[4].at) \
-    CALL(document_open, "hbn", a[0].at, a[1].at, a[2].n) \
+    CALL(code_text, "nnbnb", a[0].n, a[1].n, a[2].at, a[3].n, a[4].at) \
+    CALL(document_new, "hbn", a[0].at, a[1].at, a[2].n) \
     CALL(document_change, "hnbnbnb", a[0].at, a[1].n, a[2].at, a[3].n, a[4].at, a[5].n, a[6].at) \
     CALL(document_size, "hb", a[0].at, a[1].at) \
     CALL(document_line, "hnb", a[0].at, a[1].n, a[2].at) \
@@ -38,29 +38,30 @@ typedef struct {
     CALL(batch_edit, "hnbbnb", a[0].at, a[1].n, a[2].at, a[3].at, a[4].n, a[5].at) \
     CALL(framer_new, "hn", a[0].at, a[1].n) \
     CALL(framer_feed, "hbnb", a[0].at, a[1].at, a[2].n, a[3].at) \
+    CALL(framer_body, "hnbnb", a[0].at, a[1].n, a[2].at, a[3].n, a[4].at) \
     CALL(framer_next, "h", a[0].at) \
     CALL(framer_at_rest, "hb", a[0].at, a[1].at) \
     CALL(server_new, "hb", a[0].at, a[1].at) \
     CALL(client_new, "hb", a[0].at, a[1].at) \
     CALL(client_start, "hb", a[0].at, a[1].at) \
-    CALL(client_open, "hbnbnnbnb", a[0].at, a[1].at, a[2].n, a[3].at, a[4].n, a[5].n, a[6].at, a[7].n, a[8].at) \
-    CALL(client_edit, "hbnnbnbnbb", a[0].at, a[1].at, a[2].n, a[3].n, a[4].at, a[5].n, a[6].at, a[7].n, a[8].at, a[9].at) \
-    CALL(client_close, "hbnb", a[0].at, a[1].at, a[2].n, a[3].at) \
+    CALL(client_did_open, "hbnbnnbnb", a[0].at, a[1].at, a[2].n, a[3].at, a[4].n, a[5].n, a[6].at, a[7].n, a[8].at) \
+    CALL(client_did_change, "hbnnbnbnbb", a[0].at, a[1].at, a[2].n, a[3].n, a[4].at, a[5].n, a[6].at, a[7].n, a[8].at, a[9].at) \
+    CALL(client_did_close, "hbnb", a[0].at, a[1].at, a[2].n, a[3].at) \
     CALL(client_shutdown, "hb", a[0].at, a[1].at) \
     CALL(client_exit, "hb", a[0].at, a[1].at) \
-    CALL(take, "hbnbb", a[0].at, a[1].at, a[2].n, a[3].at, a[4].at) \
-    CALL(body, "hnbnb", a[0].at, a[1].n, a[2].at, a[3].n, a[4].at) \
-    CALL(deliver, "hbnb", a[0].at, a[1].at, a[2].n, a[3].at) \
-    CALL(frame, "hnbnb", a[0].at, a[1].n, a[2].at, a[3].n, a[4].at) \
+    CALL(session_feed, "hbnbb", a[0].at, a[1].at, a[2].n, a[3].at, a[4].at) \
+    CALL(session_body, "hnbnb", a[0].at, a[1].n, a[2].at, a[3].n, a[4].at) \
+    CALL(session_deliver, "hbnb", a[0].at, a[1].at, a[2].n, a[3].at) \
+    CALL(session_frame, "hnbnb", a[0].at, a[1].n, a[2].at, a[3].n, a[4].at) \
     CALL(session_state, "hb", a[0].at, a[1].at) \
     CALL(message_uri, "bnnbnb", a[0].at, a[1].n, a[2].n, a[3].at, a[4].n, a[5].at) \
-    CALL(open_state, "hbnb", a[0].at, a[1].at, a[2].n, a[3].at) \
-    CALL(open_text, "hbnnbnb", a[0].at, a[1].at, a[2].n, a[3].n, a[4].at, a[5].n, a[6].at) \
-    CALL(open_offset, "hbnnxb", a[0].at, a[1].at, a[2].n, a[3].n, a[4].position, a[5].at) \
-    CALL(open_position, "hbnnnb", a[0].at, a[1].at, a[2].n, a[3].n, a[4].n, a[5].at) \
-    CALL(open_line, "hbnnb", a[0].at, a[1].at, a[2].n, a[3].n, a[4].at) \
-    CALL(open_batch_of_edits, "hbnnbnbnhb", a[0].at, a[1].at, a[2].n, a[3].n, a[4].at, a[5].n, a[6].at, a[7].n, a[8].at, a[9].at) \
-    CALL(open_canonical_message, "hbnnnbnbnhbb", a[0].at, a[1].at, a[2].n, a[3].n, a[4].n, a[5].at, a[6].n, a[7].at, a[8].n, a[9].at, a[10].at, a[11].at) \
+    CALL(session_document_state, "hbnb", a[0].at, a[1].at, a[2].n, a[3].at) \
+    CALL(session_document_text, "hbnnbnb", a[0].at, a[1].at, a[2].n, a[3].n, a[4].at, a[5].n, a[6].at) \
+    CALL(session_document_offset, "hbnnxb", a[0].at, a[1].at, a[2].n, a[3].n, a[4].position, a[5].at) \
+    CALL(session_document_position, "hbnnnb", a[0].at, a[1].at, a[2].n, a[3].n, a[4].n, a[5].at) \
+    CALL(session_document_line, "hbnnb", a[0].at, a[1].at, a[2].n, a[3].n, a[4].at) \
+    CALL(session_document_batch_of_edits, "hbnnbnbnhb", a[0].at, a[1].at, a[2].n, a[3].n, a[4].at, a[5].n, a[6].at, a[7].n, a[8].at, a[9].at) \
+    CALL(session_document_canonical_message, "hbnnnbnbnhbb", a[0].at, a[1].at, a[2].n, a[3].n, a[4].n, a[5].at, a[6].n, a[7].at, a[8].n, a[9].at, a[10].at, a[11].at) \
     CALL(log_run, "hnbbnbnb", a[0].at, a[1].n, a[2].at, a[3].at, a[4].n, a[5].at, a[6].n, a[7].at) \
     CALL(log_compare, "hbbnbnbnb", a[0].at, a[1].at, a[2].at, a[3].n, a[4].at, a[5].n, a[6].at, a[7].n, a[8].at) \
     CALL(output_copy, "hnbnb", a[0].at, a[1].n, a[2].at, a[3].n, a[4].at) \
@@ -118,7 +119,7 @@ static void report_size(napi_env env, held *it, int64_t bytes) {
 static void free_held(napi_env env, void *data, void *hint) {
     held *it = data;
     (void)hint;
-    laspidru_close(&it->handle);
+    laspidru_handle_free(&it->handle);
     report_size(env, it, 0);
     free(it);
 }
@@ -151,7 +152,7 @@ static napi_value drop(napi_env env, napi_callback_info info) {
     held *it = held_of(env, info, 1, found);
     if (it == NULL)
         return refuse_arguments(env);
-    laspidru_close(&it->handle);
+    laspidru_handle_free(&it->handle);
     return NULL;
 }
 

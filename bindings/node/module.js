@@ -74,7 +74,7 @@ function inModule(module_) {
   const place = (at) => at;
   const allocated = (size) => (size < 2 ** 31 ? lib.malloc(size) >>> 0 : 0) || lib.runOut();
   const free = (at) => { if (trap === undefined) lib.free(at); };
-  const drop = (handle) => { if (trap === undefined) lib.close(handle); };
+  const drop = (handle) => { if (trap === undefined) lib.handle_free(handle); };
   const finished = new FinalizationRegistry((at) => {
     drop(place(at));
     free(at);
@@ -280,7 +280,7 @@ function over(lib) {
 
   const batchOf = (call, refused) => during((batch) => written(AT.edits_fault.size, (at) => call(batch, at), () => changesOf(batch), refused));
   const textOf = (held, start, length) => lib.string(length, (out, most, count) => lib.document_copy(lib.of(held), size(start), out, most, count));
-  const frameAt = (held, length) => lib.buffer(length, (out, most, count) => lib.frame(lib.of(held), size(0), out, most, count));
+  const frameAt = (held, length) => lib.buffer(length, (out, most, count) => lib.session_frame(lib.of(held), size(0), out, most, count));
 
   /** Where the length of a document is written. */
   function lengthsAt(held) {
@@ -319,12 +319,13 @@ function over(lib) {
     const at = take(16);
     const code = call(handle, name, length, place(at));
     if (code !== OK) return isCode(code, 'NOT_OPEN') ? undefined : refuse(code);
-    return found(at, (start, room) => lib.string(room, (out, most, count) => lib.open_text(handle, name, length, size(start), out, most, count)));
+    return found(at, (start, room) => lib.string(room, (out, most, count) =>
+      lib.session_document_text(handle, name, length, size(start), out, most, count)));
   }
 
   const calls = {
     open(text) {
-      const document = { held: made((handle) => lib.document_open(handle, ...passed(text))), putIn: REPORTED_STEP };
+      const document = { held: made((handle) => lib.document_new(handle, ...passed(text))), putIn: REPORTED_STEP };
       note(document, 0);
       return document;
     },
@@ -372,7 +373,7 @@ function over(lib) {
       const [handle, it] = [lib.of(framer), AT.taken];
       return written(it.size, (at) => lib.framer_feed(handle, ...passed(piece.subarray(start)), at), (at) => {
         if (!bool(at + it.is_whole)) return [u64(at + it.bytes)];
-        const body = lib.buffer(u64(at + it.body_len), (...to) => lib.body(handle, size(0), ...to));
+        const body = lib.buffer(u64(at + it.body_len), (...to) => lib.framer_body(handle, size(0), ...to));
         lib.framer_next(handle);
         return [u64(at + it.bytes), body];
       }, (code, at) => (isCode(code, 'BAD_FRAME') ? [-u32(at + it.frame), u64(at + it.offset)] : refuse(code)));
@@ -380,7 +381,7 @@ function over(lib) {
     isAtRest: (framer) => written(8, (at) => lib.framer_at_rest(lib.of(framer), at), bool),
     newServer: (numbers) => made((handle) => lib.server_new(handle, place(settingsOf(numbers, AT.settings, SERVER)))),
     newClient: (numbers) => made((handle) => lib.client_new(handle, place(settingsOf(numbers, AT.client_settings, CLIENT)))),
-    deliver: (end, body) => written(AT.answer.size, (at) => lib.deliver(lib.of(end), ...passed(body), at), (at) => {
+    deliver: (end, body) => written(AT.answer.size, (at) => lib.session_deliver(lib.of(end), ...passed(body), at), (at) => {
       const it = AT.answer;
       const out = [u32(at + it.kind), u32(at + it.reason), u32(at + it.status), i32(at + it.error)];
       if (out[0] === REPLIED) out.push(frameAt(end, u64(at + it.reply_len)));
@@ -398,28 +399,29 @@ function over(lib) {
     version: () => lib.version(),
     call: (client, which) => frameOf(client, [lib.client_start, lib.client_shutdown, lib.client_exit][which]),
     openAt: (client, uri, language, version, text) => frameOf(client, (handle, length) =>
-      lib.client_open(handle, ...passed(uri), ...passed(language), version, ...passed(text), length)),
+      lib.client_did_open(handle, ...passed(uri), ...passed(language), version, ...passed(text), length)),
     edit: (client, uri, version, ...edits) => frameOf(client, (handle, length, fault) =>
-      lib.client_edit(handle, ...passed(uri), version, ...editsOf(...edits), fault, length), refuseChange),
-    closeAt: (client, uri) => frameOf(client, (handle, length) => lib.client_close(handle, ...passed(uri), length)),
+      lib.client_did_change(handle, ...passed(uri), version, ...editsOf(...edits), fault, length), refuseChange),
+    closeAt: (client, uri) => frameOf(client, (handle, length) => lib.client_did_close(handle, ...passed(uri), length)),
     state: (end) => written(AT.state.size, (at) => lib.session_state(lib.of(end), at),
       (at) => [u32(at + AT.state.phase), u32(at + AT.state.reason), u32(at + AT.state.encoding), u64(at + AT.state.documents)]),
-    document: (end, uri, withText) => ofOpen(end, uri, lib.open_state, (at, text) =>
+    document: (end, uri, withText) => ofOpen(end, uri, lib.session_document_state, (at, text) =>
       [i32(at + AT.opened.version), withText ? text(0, u64(at + AT.opened.bytes)) : undefined]),
-    offsetAt: (end, uri, encoding, line, character) =>
-      ofOpen(end, uri, (handle, name, length, at) => lib.open_offset(handle, name, length, encoding, ...lib.position(line, character), at), u64),
+    offsetAt: (end, uri, encoding, line, character) => ofOpen(end, uri, (handle, name, length, at) =>
+      lib.session_document_offset(handle, name, length, encoding, ...lib.position(line, character), at), u64),
     positionAt: (end, uri, encoding, offset) => ofOpen(end, uri, (handle, name, length, at) =>
-      lib.open_position(handle, name, length, encoding, size(offset), at), (at) => [u32(at + AT.position.line), u32(at + AT.position.character)]),
-    lineAt: (end, uri, line) => ofOpen(end, uri, (handle, name, length, at) => lib.open_line(handle, name, length, line, at),
+      lib.session_document_position(handle, name, length, encoding, size(offset), at),
+    (at) => [u32(at + AT.position.line), u32(at + AT.position.character)]),
+    lineAt: (end, uri, line) => ofOpen(end, uri, (handle, name, length, at) => lib.session_document_line(handle, name, length, line, at),
       (at, text) => text(u64(at + AT.line.start), u64(at + AT.line.end) - u64(at + AT.line.start))),
     batchOfEditsAt: (end, uri, encoding, ...edits) => batchOf((...out) =>
-      lib.open_batch_of_edits(lib.of(end), ...passed(uri), encoding, ...editsOf(...edits), ...out), refuseEdits),
+      lib.session_document_batch_of_edits(lib.of(end), ...passed(uri), encoding, ...editsOf(...edits), ...out), refuseEdits),
     canonicalMessage: (end, uri, version, encoding, ...edits) => during((output) => written(AT.fault.size + 8, (at) =>
-      lib.open_canonical_message(lib.of(end), ...passed(uri), version, encoding, ...editsOf(...edits), output, at,
+      lib.session_document_canonical_message(lib.of(end), ...passed(uri), version, encoding, ...editsOf(...edits), output, at,
         place(Number(at) + AT.fault.size)), (at) => lib.buffer(u64(at + AT.fault.size), (...to) => lib.output_copy(output, size(0), ...to)), refuseChange)),
   };
   lib.refuse = () => undefined; // (there are no more texts)
-  const textAt = within((code) => lib.string(120, (...to) => lib.text(code, size(0), ...to)));
+  const textAt = within((code) => lib.string(120, (...to) => lib.code_text(code, size(0), ...to)));
   for (let text = textAt(0); text; text = textAt(texts.length)) texts.push(text.split(': '));
   lib.refuse = refuse;
   return Object.fromEntries(Object.entries(calls).map(([name, call]) => [name, within(call)]));

@@ -50,7 +50,7 @@ static bytes bytes_of(emacs_env *env, emacs_value string) {
 
 static void close_client(void *pointer) {
     client *it = pointer;
-    laspidru_close(&it->handle);
+    laspidru_handle_free(&it->handle);
     free(it);
 }
 
@@ -62,7 +62,7 @@ static emacs_value body_of(emacs_env *env, client *it, laspidru_u32 code, laspid
     if (!frame)
         return refuse(env, LASPIDRU_OUT_OF_MEMORY);
     laspidru_size copied, start = 0;
-    code = laspidru_frame(&it->handle, 0, frame, frame_len, &copied);
+    code = laspidru_session_frame(&it->handle, 0, frame, frame_len, &copied);
     while (!code && start + 4 <= copied && memcmp(frame + start, "\r\n\r\n", 4))
         start++;
     emacs_value body = code ? refuse(env, code) : env->make_string(env, (char *)frame + start + 4, copied - start - 4);
@@ -93,7 +93,7 @@ static emacs_value make_client(emacs_env *env, ptrdiff_t count, emacs_value *giv
     if (!code)
         code = laspidru_client_start(&it->handle, &frame_len);
     if (!code)
-        code = laspidru_deliver(&it->handle, response.at, response.len, &answer);
+        code = laspidru_session_deliver(&it->handle, response.at, response.len, &answer);
     if (!code)
         code = answer.kind == LASPIDRU_BAD_SERVER ? answer.reason : laspidru_session_state(&it->handle, &state);
     free(response.at);
@@ -113,7 +113,7 @@ static emacs_value open_document(emacs_env *env, ptrdiff_t count, emacs_value *g
     emacs_value body = given[0];
     if (!env->non_local_exit_check(env)) {
         laspidru_size frame_len = 0;
-        laspidru_u32 code = laspidru_client_open(&it->handle, uri.at, uri.len, language.at, language.len, version, text.at, text.len,
+        laspidru_u32 code = laspidru_client_did_open(&it->handle, uri.at, uri.len, language.at, language.len, version, text.at, text.len,
                                                  &frame_len);
         body = body_of(env, it, code, frame_len);
     }
@@ -127,17 +127,17 @@ static emacs_value open_document(emacs_env *env, ptrdiff_t count, emacs_value *g
 static bytes text_of(emacs_env *env, client *it, bytes uri) {
     laspidru_opened opened;
     bytes text = {0, 0};
-    laspidru_u32 code = laspidru_open_state(&it->handle, uri.at, uri.len, &opened);
+    laspidru_u32 code = laspidru_session_document_state(&it->handle, uri.at, uri.len, &opened);
     if (code)
         refuse(env, code);
     else if ((text.at = allocated(env, opened.bytes)))
-        laspidru_open_text(&it->handle, uri.at, uri.len, 0, text.at, opened.bytes, &text.len);
+        laspidru_session_document_text(&it->handle, uri.at, uri.len, 0, text.at, opened.bytes, &text.len);
     return text;
 }
 
 /* Whether a position of the document is at this byte offset. */
 static int is_border(client *it, bytes uri, size_t offset, laspidru_position *position) {
-    return laspidru_open_position(&it->handle, uri.at, uri.len, it->encoding, offset, position) == LASPIDRU_OK;
+    return laspidru_session_document_position(&it->handle, uri.at, uri.len, it->encoding, offset, position) == LASPIDRU_OK;
 }
 
 /* One message for what differs between a document and a text, in the smallest range whose ends are positions. */
@@ -148,7 +148,7 @@ static laspidru_u32 edit(client *it, bytes uri, laspidru_i32 version, bytes old,
     while (head < least && old.at[head] == new.at[head])
         head++;
     if (head == old.len && head == new.len)
-        return laspidru_client_edit(&it->handle, uri.at, uri.len, version, &change, 0, new.at, 0, &fault, frame_len);
+        return laspidru_client_did_change(&it->handle, uri.at, uri.len, version, &change, 0, new.at, 0, &fault, frame_len);
     while (!is_border(it, uri, head, &change.start) && head > 0)
         head--;
     while (tail < least - head && old.at[old.len - tail - 1] == new.at[new.len - tail - 1])
@@ -156,7 +156,7 @@ static laspidru_u32 edit(client *it, bytes uri, laspidru_i32 version, bytes old,
     while (!is_border(it, uri, old.len - tail, &change.end) && tail > 0)
         tail--;
     change.len = new.len - head - tail;
-    return laspidru_client_edit(&it->handle, uri.at, uri.len, version, &change, 1, new.at + head, change.len, &fault, frame_len);
+    return laspidru_client_did_change(&it->handle, uri.at, uri.len, version, &change, 1, new.at + head, change.len, &fault, frame_len);
 }
 
 /* (laspidru-module-change CLIENT URI VERSION TEXT) */
@@ -187,7 +187,7 @@ static emacs_value close_document(emacs_env *env, ptrdiff_t count, emacs_value *
     if (env->non_local_exit_check(env))
         return given[0];
     laspidru_size frame_len = 0;
-    laspidru_u32 code = laspidru_client_close(&it->handle, uri.at, uri.len, &frame_len);
+    laspidru_u32 code = laspidru_client_did_close(&it->handle, uri.at, uri.len, &frame_len);
     free(uri.at);
     return body_of(env, it, code, frame_len);
 }

@@ -13,7 +13,7 @@ enum { GOES_ON = -1, FAILED = 1 };
 static void print_code(const char *what, laspidru_u32 code) {
     unsigned char text[120];
     laspidru_size len = 0;
-    laspidru_text(code, 0, text, sizeof text, &len);
+    laspidru_code_text(code, 0, text, sizeof text, &len);
     fprintf(stderr, "%s: %.*s\n", what, (int)len, (const char *)text);
 }
 
@@ -26,7 +26,7 @@ static int send_message(json_t *message) {
     return is_sent;
 }
 
-/* Both laspidru_body and laspidru_frame. */
+/* Both laspidru_session_body and laspidru_session_frame. */
 typedef laspidru_u32 copier(laspidru_handle *, laspidru_size, unsigned char *, laspidru_size, laspidru_size *);
 
 /* Returns all that is copied, with a 0 at its end, or NULL; the caller frees it. */
@@ -47,10 +47,10 @@ static json_t *hover(laspidru_handle *server, const char *name) {
     laspidru_size len = name ? strlen(name) : 0, copied;
     json_t *result = NULL;
     unsigned char *text;
-    if (!name || laspidru_open_state(server, uri, len, &opened) != LASPIDRU_OK)
+    if (!name || laspidru_session_document_state(server, uri, len, &opened) != LASPIDRU_OK)
         return json_null();
     text = (unsigned char *)malloc(opened.bytes + 1);
-    if (text && laspidru_open_text(server, uri, len, 0, text, opened.bytes, &copied) == LASPIDRU_OK)
+    if (text && laspidru_session_document_text(server, uri, len, 0, text, opened.bytes, &copied) == LASPIDRU_OK)
         result = json_pack("{s:[o]}", "contents", json_stringn((const char *)text, copied));
     free(text);
     return result;
@@ -72,7 +72,7 @@ static json_t *own_reply(laspidru_handle *server, json_t *request, const char *f
 
 /* Answers a request, or what can't be read. False where that failed. */
 static int reply(laspidru_handle *server, const laspidru_taken *taken, const laspidru_answer *answer) {
-    char *frame = copy(server, laspidru_frame, answer->reply_len), *body = copy(server, laspidru_body, taken->body_len);
+    char *frame = copy(server, laspidru_session_frame, answer->reply_len), *body = copy(server, laspidru_session_body, taken->body_len);
     int is_ours = answer->error == 0 || answer->error == -32601, is_sent = 0;
     if (body && (answer->error == -32700 || answer->error == -32600)) /* a change may be lost with it */
         fprintf(stderr, "faulty: %d %.200s\n", (int)answer->error, body);
@@ -91,7 +91,7 @@ static int reply(laspidru_handle *server, const laspidru_taken *taken, const las
 static void print_refused(laspidru_handle *server, laspidru_size body_len, laspidru_u32 reason) {
     unsigned char uri[4096];
     laspidru_size len = 0;
-    char *body = copy(server, laspidru_body, body_len);
+    char *body = copy(server, laspidru_session_body, body_len);
     if (body)
         laspidru_message_uri((const unsigned char *)body, body_len, 0, uri, sizeof uri, &len);
     free(body);
@@ -104,7 +104,7 @@ static int take(laspidru_handle *server, const unsigned char *piece, laspidru_si
     laspidru_taken taken;
     laspidru_answer answer;
     laspidru_u32 code = LASPIDRU_OK;
-    while (len > 0 && (code = laspidru_take(server, piece, len, &taken, &answer)) == LASPIDRU_OK) {
+    while (len > 0 && (code = laspidru_session_feed(server, piece, len, &taken, &answer)) == LASPIDRU_OK) {
         piece += taken.bytes;
         len -= taken.bytes;
         if (!taken.is_whole)
@@ -129,6 +129,6 @@ int main(void) {
     ssize_t len;
     while (status == GOES_ON && (len = read(STDIN_FILENO, piece, sizeof piece)) > 0)
         status = take(&server, piece, (laspidru_size)len);
-    laspidru_close(&server);
+    laspidru_handle_free(&server);
     return status == GOES_ON ? FAILED : status; /* the stream ended before `exit` */
 }

@@ -34,7 +34,7 @@ int main(void) {
         uint32_t answer[] = {code == LASPIDRU_OK ? ending.status : FAULT, (uint32_t)copied};
         fwrite(answer, sizeof answer, 1, stdout);
         fwrite(text, 1, (size_t)copied, stdout);
-        laspidru_close(&output);
+        laspidru_handle_free(&output);
         free(log), free(text);
     }
     return 0;

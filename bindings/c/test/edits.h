@@ -2,12 +2,12 @@
 
 static laspidru_u32 served_edits(laspidru_handle *server, const laspidru_edit *edits, laspidru_size count, const char *texts,
                                  laspidru_handle *batch, laspidru_edits_fault *fault) {
-    return laspidru_open_batch_of_edits(server, bytes(uri_a), 9, LASPIDRU_UTF8, edits, count, bytes(texts), strlen(texts), batch, fault);
+    return laspidru_session_document_batch_of_edits(server, bytes(uri_a), 9, LASPIDRU_UTF8, edits, count, bytes(texts), strlen(texts), batch, fault);
 }
 
 static laspidru_u32 served_message(laspidru_handle *server, laspidru_i32 version, const laspidru_edit *edits, laspidru_size count,
                                    const char *texts, laspidru_handle *output, laspidru_fault *fault, laspidru_size *len) {
-    return laspidru_open_canonical_message(server, bytes(uri_a), 9, version, LASPIDRU_UTF8, edits, count, bytes(texts), strlen(texts),
+    return laspidru_session_document_canonical_message(server, bytes(uri_a), 9, version, LASPIDRU_UTF8, edits, count, bytes(texts), strlen(texts),
                                              output, fault, len);
 }
 
@@ -37,8 +37,8 @@ static void test_server_batch_of_edits(void) {
     CHECK(found.start.line == 1 && found.start.character == 0 && found.end.line == 1 && found.end.character == 1);
     CHECK(laspidru_batch_edit(&batch, 1, &found, out, 3, &copied) == LASPIDRU_OK && copied == 1 && out[0] == '1');
     CHECK(laspidru_batch_len(&batch, &len) == LASPIDRU_OK && len == 2);
-    laspidru_close(&batch);
-    laspidru_close(&server);
+    laspidru_handle_free(&batch);
+    laspidru_handle_free(&server);
 }
 
 static void test_server_message(void) {
@@ -57,6 +57,6 @@ static void test_server_message(void) {
     add_frame(&wanted, "", canonical_a);
     CHECK(len == wanted.len && laspidru_output_copy(&output, 0, out, sizeof out, &copied) == LASPIDRU_OK);
     CHECK(copied == wanted.len && memcmp(out, wanted.bytes, copied) == 0);
-    laspidru_close(&server);
-    laspidru_close(&output);
+    laspidru_handle_free(&server);
+    laspidru_handle_free(&output);
 }

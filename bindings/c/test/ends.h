@@ -7,7 +7,7 @@ static int is_taken(laspidru_taken it, laspidru_size count, int is_whole, laspid
 static int is_body(laspidru_handle *framer, const char *body) {
     unsigned char out[64];
     laspidru_size copied = 99;
-    return laspidru_body(framer, 0, out, sizeof out, &copied) == LASPIDRU_OK && copied == strlen(body) &&
+    return laspidru_framer_body(framer, 0, out, sizeof out, &copied) == LASPIDRU_OK && copied == strlen(body) &&
            memcmp(out, body, copied) == 0;
 }
 
@@ -24,14 +24,14 @@ static void test_framer(void) {
     unsigned char out[4] = "---";
     laspidru_size copied = 9;
     CHECK(laspidru_framer_new(&framer, 4096) == LASPIDRU_OK && framer.is_full && is_at_rest(&framer, 1));
-    CHECK(laspidru_body(&framer, 0, out, 3, &copied) == LASPIDRU_NO_MESSAGE && copied == 9);
+    CHECK(laspidru_framer_body(&framer, 0, out, 3, &copied) == LASPIDRU_NO_MESSAGE && copied == 9);
     /* A byte at a time, up to the first message; then all that is left, which goes up to the end of the second one. */
     for (; at < bytes(stream) + 22; at++)
         CHECK(laspidru_framer_feed(&framer, at, 1, &taken) == LASPIDRU_OK && is_taken(taken, 1, 0, 0));
     CHECK(laspidru_framer_feed(&framer, at++, 1, &taken) == LASPIDRU_OK && is_taken(taken, 1, 1, 2));
     CHECK(is_body(&framer, "ab") && is_at_rest(&framer, 0));
     CHECK(laspidru_framer_feed(&framer, at, (laspidru_size)(end - at), &taken) == LASPIDRU_OK && is_taken(taken, 0, 1, 2));
-    CHECK(laspidru_body(&framer, 1, out, 3, &copied) == LASPIDRU_OK && copied == 1 && memcmp(out, "b--", 3) == 0);
+    CHECK(laspidru_framer_body(&framer, 1, out, 3, &copied) == LASPIDRU_OK && copied == 1 && memcmp(out, "b--", 3) == 0);
     CHECK(laspidru_framer_next(&framer) == LASPIDRU_OK && is_at_rest(&framer, 1));
     CHECK(laspidru_framer_next(&framer) == LASPIDRU_OK && is_at_rest(&framer, 1));
     CHECK(laspidru_framer_feed(&framer, at, (laspidru_size)(end - at), &taken) == LASPIDRU_OK && is_taken(taken, 21, 1, 0));
@@ -45,19 +45,19 @@ static void test_framer(void) {
     CHECK(laspidru_framer_feed(&framer, bytes("Content-Length 3"), 16, &taken) == LASPIDRU_BAD_FRAME);
     CHECK(taken.offset == 68 + 14 && taken.frame == 1 && taken.bytes == 0 && !taken.is_whole);
     CHECK(laspidru_framer_feed(&framer, bytes("C"), 1, &taken) == LASPIDRU_FAILED && taken.offset == 82);
-    CHECK(laspidru_body(&framer, 0, out, 3, &copied) == LASPIDRU_NO_MESSAGE && is_at_rest(&framer, 0));
-    laspidru_close(&framer);
+    CHECK(laspidru_framer_body(&framer, 0, out, 3, &copied) == LASPIDRU_NO_MESSAGE && is_at_rest(&framer, 0));
+    laspidru_handle_free(&framer);
 }
 
 static const laspidru_client_settings client_settings = {.max_body = 4096, .max_text = 64, .max_docs = 2, .max_changes = 4, .utf8 = 1};
 
-static laspidru_u32 client_open(laspidru_handle *client, const char *uri, laspidru_i32 version, const char *text, laspidru_size *len) {
-    return laspidru_client_open(client, bytes(uri), strlen(uri), bytes("c"), 1, version, bytes(text), strlen(text), len);
+static laspidru_u32 did_open(laspidru_handle *client, const char *uri, laspidru_i32 version, const char *text, laspidru_size *len) {
+    return laspidru_client_did_open(client, bytes(uri), strlen(uri), bytes("c"), 1, version, bytes(text), strlen(text), len);
 }
 
-static laspidru_u32 client_edit(laspidru_handle *client, laspidru_i32 version, const laspidru_edit *edits, laspidru_size count,
+static laspidru_u32 did_change(laspidru_handle *client, laspidru_i32 version, const laspidru_edit *edits, laspidru_size count,
                                 const char *texts, laspidru_fault *fault, laspidru_size *len) {
-    return laspidru_client_edit(client, bytes(uri_a), 9, version, edits, count, bytes(texts), strlen(texts), fault, len);
+    return laspidru_client_did_change(client, bytes(uri_a), 9, version, edits, count, bytes(texts), strlen(texts), fault, len);
 }
 
 /* Whether the frame to send is of this body. */
@@ -66,7 +66,7 @@ static int sends(laspidru_handle *client, laspidru_size len, const char *body) {
     part wanted = {{0}, 0};
     laspidru_size copied = 99;
     add_frame(&wanted, "", body);
-    return len == wanted.len && laspidru_frame(client, 0, out, sizeof out, &copied) == LASPIDRU_OK &&
+    return len == wanted.len && laspidru_session_frame(client, 0, out, sizeof out, &copied) == LASPIDRU_OK &&
            copied == wanted.len && memcmp(out, wanted.bytes, copied) == 0;
 }
 
@@ -87,13 +87,13 @@ static void test_client_lifecycle(void) {
     laspidru_size len = 9, copied = 9;
     unsigned char out[8] = "-------";
     CHECK(laspidru_client_new(&client, &client_settings) == LASPIDRU_OK);
-    CHECK(laspidru_frame(&client, 0, out, 7, &copied) == LASPIDRU_OK && copied == 0);
+    CHECK(laspidru_session_frame(&client, 0, out, 7, &copied) == LASPIDRU_OK && copied == 0);
     CHECK(hand(&client, capabilities, &answer) == LASPIDRU_WRONG_PHASE && answer.kind == 9);
     CHECK(laspidru_client_start(&client, &len) == LASPIDRU_OK && sends(&client, len, asked));
-    CHECK(laspidru_frame(&client, 1, out, 6, &copied) == LASPIDRU_OK && copied == 6 && memcmp(out, "ontent-", 7) == 0);
+    CHECK(laspidru_session_frame(&client, 1, out, 6, &copied) == LASPIDRU_OK && copied == 6 && memcmp(out, "ontent-", 7) == 0);
     CHECK(is_state(&client, LASPIDRU_PHASE_ASKED, 0, 0, 0));
     CHECK(hand(&client, "{\"jsonrpc\":\"2.0\",\"method\":\"$/logTrace\"}", &answer) == LASPIDRU_OK && is_kind(answer, LASPIDRU_IGNORED, 0, 0));
-    CHECK(laspidru_frame(&client, 0, out, 7, &copied) == LASPIDRU_OK && copied == 0);
+    CHECK(laspidru_session_frame(&client, 0, out, 7, &copied) == LASPIDRU_OK && copied == 0);
     CHECK(hand(&client, "{\"jsonrpc\":\"2.0\",\"id\":7,\"method\":\"a/b\"}", &answer) == LASPIDRU_OK && is_kind(answer, LASPIDRU_REPLIED, 0, 0));
     CHECK(hand(&client, capabilities, &answer) == LASPIDRU_OK && is_kind(answer, LASPIDRU_REPLIED, 0, 0));
     CHECK(is_state(&client, LASPIDRU_PHASE_READY, 0, LASPIDRU_UTF8, 0));
@@ -102,7 +102,7 @@ static void test_client_lifecycle(void) {
     CHECK(is_state(&client, LASPIDRU_PHASE_CLOSED, 0, LASPIDRU_UTF8, 0));
     CHECK(laspidru_client_exit(&client, &len) == LASPIDRU_OK && sends(&client, len, "{\"jsonrpc\":\"2.0\",\"method\":\"exit\"}"));
     CHECK(hand(&client, capabilities, &answer) == LASPIDRU_WRONG_PHASE && is_state(&client, LASPIDRU_PHASE_DONE, 0, LASPIDRU_UTF8, 0));
-    laspidru_close(&client);
+    laspidru_handle_free(&client);
 }
 
 static void test_client_documents(void) {
@@ -114,25 +114,25 @@ static void test_client_documents(void) {
     laspidru_size len = 9, copied = 9;
     unsigned char out[4] = "---";
     start_client(&client);
-    CHECK(client_open(&client, uri_a, 1, "ab\ncd", &len) == LASPIDRU_OK && holds(&client, 1, "ab\ncd"));
+    CHECK(did_open(&client, uri_a, 1, "ab\ncd", &len) == LASPIDRU_OK && holds(&client, 1, "ab\ncd"));
     CHECK(sends(&client, len, "{\"jsonrpc\":\"2.0\",\"method\":\"textDocument/didOpen\",\"params\":{\"textDocument\":{\"languageId\":\"c\","
                               "\"text\":\"ab\\ncd\",\"uri\":\"file:///a\",\"version\":1}}}"));
-    CHECK(client_edit(&client, 2, &reversed, 1, "", &fault, &len) == LASPIDRU_REVERSED_RANGE && fault.change == 0 && !fault.at_end);
+    CHECK(did_change(&client, 2, &reversed, 1, "", &fault, &len) == LASPIDRU_REVERSED_RANGE && fault.change == 0 && !fault.at_end);
     CHECK(holds(&client, 1, "ab\ncd") && is_state(&client, LASPIDRU_PHASE_READY, 0, LASPIDRU_UTF8, 1));
-    CHECK(client_edit(&client, 7, both, 2, "XYQ", &fault, &len) == LASPIDRU_OK && holds(&client, 7, "Qab\nXYd"));
+    CHECK(did_change(&client, 7, both, 2, "XYQ", &fault, &len) == LASPIDRU_OK && holds(&client, 7, "Qab\nXYd"));
     CHECK(sends(&client, len, "{\"jsonrpc\":\"2.0\",\"method\":\"textDocument/didChange\",\"params\":{\"contentChanges\":["
                               "{\"range\":{\"end\":{\"character\":1,\"line\":1},\"start\":{\"character\":0,\"line\":1}},\"text\":\"XY\"},"
                               "{\"range\":{\"end\":{\"character\":0,\"line\":0},\"start\":{\"character\":0,\"line\":0}},\"text\":\"Q\"}],"
                               "\"textDocument\":{\"uri\":\"file:///a\",\"version\":7}}}"));
-    CHECK(client_edit(&client, 8, &whole, 1, "\xc3\xa9.", &fault, &len) == LASPIDRU_OK && holds(&client, 8, "\xc3\xa9."));
-    CHECK(client_edit(&client, 9, &inside, 1, "", &fault, &len) == LASPIDRU_INSIDE_CHARACTER && fault.change == 0 && !fault.at_end);
+    CHECK(did_change(&client, 8, &whole, 1, "\xc3\xa9.", &fault, &len) == LASPIDRU_OK && holds(&client, 8, "\xc3\xa9."));
+    CHECK(did_change(&client, 9, &inside, 1, "", &fault, &len) == LASPIDRU_INSIDE_CHARACTER && fault.change == 0 && !fault.at_end);
     CHECK(holds(&client, 8, "\xc3\xa9."));
-    CHECK(laspidru_open_text(&client, bytes(uri_a), 9, 2, out, 3, &copied) == LASPIDRU_OK && copied == 1 && memcmp(out, ".--", 3) == 0);
-    CHECK(laspidru_client_close(&client, bytes(uri_a), 9, &len) == LASPIDRU_OK);
+    CHECK(laspidru_session_document_text(&client, bytes(uri_a), 9, 2, out, 3, &copied) == LASPIDRU_OK && copied == 1 && memcmp(out, ".--", 3) == 0);
+    CHECK(laspidru_client_did_close(&client, bytes(uri_a), 9, &len) == LASPIDRU_OK);
     CHECK(sends(&client, len, "{\"jsonrpc\":\"2.0\",\"method\":\"textDocument/didClose\",\"params\":{\"textDocument\":{\"uri\":\"file:///a\"}}}"));
-    CHECK(laspidru_open_state(&client, bytes(uri_a), 9, &opened) == LASPIDRU_NOT_OPEN && opened.version == 9);
+    CHECK(laspidru_session_document_state(&client, bytes(uri_a), 9, &opened) == LASPIDRU_NOT_OPEN && opened.version == 9);
     CHECK(is_state(&client, LASPIDRU_PHASE_READY, 0, LASPIDRU_UTF8, 0));
-    laspidru_close(&client);
+    laspidru_handle_free(&client);
 }
 
 /* Each reason for which a session can't continue. The documents stay. */
@@ -155,13 +155,13 @@ static void test_bad_servers(void) {
         CHECK(hand(&client, rows[i].body, &answer) == LASPIDRU_OK && is_kind(answer, LASPIDRU_BAD_SERVER, rows[i].reason, 0));
         CHECK(is_state(&client, LASPIDRU_PHASE_FAILED, rows[i].reason, 0, 0));
         CHECK(hand(&client, capabilities, &answer) == LASPIDRU_WRONG_PHASE);
-        laspidru_close(&client);
+        laspidru_handle_free(&client);
     }
     start_client(&client);
-    CHECK(client_open(&client, uri_a, 1, "ab\ncd", &len) == LASPIDRU_OK);
+    CHECK(did_open(&client, uri_a, 1, "ab\ncd", &len) == LASPIDRU_OK);
     CHECK(hand(&client, capabilities, &answer) == LASPIDRU_OK && is_kind(answer, LASPIDRU_BAD_SERVER, LASPIDRU_NOT_AN_ANSWER, 0));
     CHECK(holds(&client, 1, "ab\ncd") && is_state(&client, LASPIDRU_PHASE_FAILED, LASPIDRU_NOT_AN_ANSWER, LASPIDRU_UTF8, 1));
-    laspidru_close(&client);
+    laspidru_handle_free(&client);
 }
 
 /* Hands the frame of a client to a server, by a framer, a few bytes at a time; the reply, if there is one, goes back. */
@@ -170,21 +170,21 @@ static void carry(laspidru_handle *client, laspidru_handle *framer, laspidru_han
     laspidru_taken taken = {0, 0, 0, 0, 0};
     laspidru_answer answer = {9, 9, 9, 9, 9}, heard = {9, 9, 9, 9, 9};
     laspidru_size copied = 0, start, piece;
-    CHECK(laspidru_frame(client, 0, frame, sizeof frame, &copied) == LASPIDRU_OK && copied == len);
+    CHECK(laspidru_session_frame(client, 0, frame, sizeof frame, &copied) == LASPIDRU_OK && copied == len);
     for (start = 0; start < len; start += taken.bytes) {
         piece = len - start < 7 ? len - start : 7;
         CHECK(laspidru_framer_feed(framer, frame + start, piece, &taken) == LASPIDRU_OK && taken.bytes == piece);
         CHECK(taken.is_whole == (start + piece == len));
     }
-    CHECK(laspidru_body(framer, 0, body, sizeof body, &copied) == LASPIDRU_OK && copied == taken.body_len);
+    CHECK(laspidru_framer_body(framer, 0, body, sizeof body, &copied) == LASPIDRU_OK && copied == taken.body_len);
     CHECK(laspidru_framer_next(framer) == LASPIDRU_OK);
-    CHECK(laspidru_deliver(server, body, copied, &answer) == LASPIDRU_OK && answer.kind == kind);
+    CHECK(laspidru_session_deliver(server, body, copied, &answer) == LASPIDRU_OK && answer.kind == kind);
     if (kind != LASPIDRU_REPLIED)
         return;
-    CHECK(laspidru_frame(server, 0, reply, sizeof reply, &copied) == LASPIDRU_OK);
+    CHECK(laspidru_session_frame(server, 0, reply, sizeof reply, &copied) == LASPIDRU_OK);
     CHECK(laspidru_framer_feed(framer, reply, copied, &taken) == LASPIDRU_OK && taken.bytes == copied && taken.is_whole);
-    CHECK(laspidru_body(framer, 0, body, sizeof body, &copied) == LASPIDRU_OK && laspidru_framer_next(framer) == LASPIDRU_OK);
-    CHECK(laspidru_deliver(client, body, copied, &heard) == LASPIDRU_OK && heard.kind != LASPIDRU_BAD_SERVER);
+    CHECK(laspidru_framer_body(framer, 0, body, sizeof body, &copied) == LASPIDRU_OK && laspidru_framer_next(framer) == LASPIDRU_OK);
+    CHECK(laspidru_session_deliver(client, body, copied, &heard) == LASPIDRU_OK && heard.kind != LASPIDRU_BAD_SERVER);
 }
 
 /* Both ends agree. */
@@ -198,16 +198,16 @@ static void test_both_ends(void) {
     CHECK(laspidru_server_new(&server, &settings) == LASPIDRU_OK && laspidru_client_start(&client, &len) == LASPIDRU_OK);
     carry(&client, &framer, &server, len, LASPIDRU_REPLIED);
     CHECK(laspidru_session_state(&client, &state) == LASPIDRU_OK && state.encoding == LASPIDRU_UTF8 && state.phase == LASPIDRU_PHASE_READY);
-    CHECK(client_open(&client, uri_a, 1, "ab\ncd", &len) == LASPIDRU_OK);
+    CHECK(did_open(&client, uri_a, 1, "ab\ncd", &len) == LASPIDRU_OK);
     carry(&client, &framer, &server, len, LASPIDRU_CHANGED);
-    CHECK(client_edit(&client, 2, both, 2, "XYQ", &fault, &len) == LASPIDRU_OK);
+    CHECK(did_change(&client, 2, both, 2, "XYQ", &fault, &len) == LASPIDRU_OK);
     carry(&client, &framer, &server, len, LASPIDRU_CHANGED);
     CHECK(holds(&client, 2, "Qab\nXYd") && holds(&server, 2, "Qab\nXYd"));
     CHECK(laspidru_client_shutdown(&client, &len) == LASPIDRU_OK);
     carry(&client, &framer, &server, len, LASPIDRU_REPLIED);
     CHECK(laspidru_client_exit(&client, &len) == LASPIDRU_OK);
     carry(&client, &framer, &server, len, LASPIDRU_EXITED);
-    laspidru_close(&client);
-    laspidru_close(&framer);
-    laspidru_close(&server);
+    laspidru_handle_free(&client);
+    laspidru_handle_free(&framer);
+    laspidru_handle_free(&server);
 }

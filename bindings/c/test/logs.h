@@ -78,7 +78,7 @@ static int has_output(laspidru_handle *output, part wanted, laspidru_ending endi
     int is_right = output->is_full && ending.output_len == wanted.len &&
                    laspidru_output_copy(output, 0, out, sizeof out, &copied) == LASPIDRU_OK && copied == wanted.len &&
                    memcmp(out, wanted.bytes, copied) == 0;
-    laspidru_close(output);
+    laspidru_handle_free(output);
     return is_right;
 }
 
@@ -159,21 +159,21 @@ static void test_log_options(void) {
     part_of.has_uri = 1;
     CHECK(laspidru_log_run(&output, LASPIDRU_REPLAY, &part_of, bytes("b"), 1, log.bytes, log.len, &ending) == LASPIDRU_OK);
     CHECK(ending.status == 1 && ending.missing == LASPIDRU_NOT_OPEN && ending.output_len == 0);
-    laspidru_close(&output);
+    laspidru_handle_free(&output);
     /* A line for each record; with texts and bodies longer ones. */
     CHECK(run_log(&output, LASPIDRU_TRACE, &log_settings, log, &ending) == LASPIDRU_OK && is_outcome(ending, 0, 5, 0));
     plain = ending.output_len;
     CHECK(laspidru_output_copy(&output, 0, out.bytes, sizeof out.bytes, &copied) == LASPIDRU_OK && copied == plain && out.bytes[0] == '{');
-    laspidru_close(&output);
+    laspidru_handle_free(&output);
     CHECK(run_log(&output, LASPIDRU_TRACE, &texts, log, &ending) == LASPIDRU_OK && ending.output_len > plain);
     with_texts = ending.output_len;
-    laspidru_close(&output);
+    laspidru_handle_free(&output);
     CHECK(run_log(&output, LASPIDRU_TRACE, &bodies, log, &ending) == LASPIDRU_OK && ending.output_len > with_texts);
-    laspidru_close(&output);
+    laspidru_handle_free(&output);
     CHECK(run_log(&output, LASPIDRU_EXPLAIN, &log_settings, log_of(stale), &ending) == LASPIDRU_OK && is_outcome(ending, 1, 4, 1));
     CHECK(laspidru_output_copy(&output, 0, out.bytes, 40, &copied) == LASPIDRU_OK && memcmp(out.bytes, "1 reply\n2 changed\n", 18) == 0);
     CHECK(ending.output_len > 40);
-    laspidru_close(&output);
+    laspidru_handle_free(&output);
 }
 
 /* Whether the output of `explain` begins so. */
@@ -185,7 +185,7 @@ static int explains(const laspidru_log_settings *how, part log, const char *begi
     int is_right = run_log(&output, LASPIDRU_EXPLAIN, how, log, &ending) == LASPIDRU_OK && ending.status == 1 &&
                    laspidru_output_copy(&output, 0, out, strlen(begins), &copied) == LASPIDRU_OK &&
                    copied == strlen(begins) && memcmp(out, begins, copied) == 0;
-    laspidru_close(&output);
+    laspidru_handle_free(&output);
     return is_right;
 }
 
@@ -247,7 +247,7 @@ static void test_compare_refused(void) {
     CHECK(run_log(&output, LASPIDRU_CHECK, &log_settings, log, &ending) == LASPIDRU_OK);
     ending.output_len = 9;
     CHECK(compare_log(&output, &how, "\xff", "\xff", log, &ending) == LASPIDRU_IN_USE && output.is_full);
-    laspidru_close(&output);
+    laspidru_handle_free(&output);
     CHECK(compare_log(&output, &how, "\xff", "", log, &ending) == LASPIDRU_NOT_UTF8);
     CHECK(compare_log(&output, &how, "", "\xff", log, &ending) == LASPIDRU_NOT_UTF8);
     CHECK(compare_log(&output, &how, "", "", log, &ending) == LASPIDRU_BAD_ENCODING);

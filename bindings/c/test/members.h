@@ -4,14 +4,14 @@
 static int is_text(laspidru_u32 code, const char *wanted) {
     unsigned char out[120];
     laspidru_size copied = 999;
-    return laspidru_text(code, 0, out, sizeof out, &copied) == LASPIDRU_OK && copied == strlen(wanted) && memcmp(out, wanted, copied) == 0;
+    return laspidru_code_text(code, 0, out, sizeof out, &copied) == LASPIDRU_OK && copied == strlen(wanted) && memcmp(out, wanted, copied) == 0;
 }
 
 /* Does the text of a code begin with its name and a colon? Python, Node and Lua take the names from there. */
 static int is_named(laspidru_u32 code, const char *name) {
     unsigned char out[120];
     laspidru_size copied = 0, len = strlen(name);
-    return laspidru_text(code, 0, out, sizeof out, &copied) == LASPIDRU_OK && copied > len && memcmp(out, name, len) == 0;
+    return laspidru_code_text(code, 0, out, sizeof out, &copied) == LASPIDRU_OK && copied > len && memcmp(out, name, len) == 0;
 }
 
 #define CHECK_NAME(code) CHECK(is_named(LASPIDRU_##code, #code ": "))
@@ -23,12 +23,12 @@ static void test_texts(void) {
     CHECK(is_text(LASPIDRU_OK, "OK: the call is done") && is_text(LASPIDRU_STALE_VERSION, "STALE_VERSION: the version is not greater than the current one"));
     CHECK(is_text(LASPIDRU_BAD_MAX_DOCS, "BAD_MAX_DOCS: max_docs is out of its range, 1 to 65,536 documents"));
     CHECK(is_text(LASPIDRU_NO_DOCUMENT, "NO_DOCUMENT: the message opens, changes and closes no document"));
-    CHECK(laspidru_text(36, 0, out, 5, &copied) == LASPIDRU_OUT_OF_RANGE && copied == 9 && out[0] == '-');
-    CHECK(laspidru_text(4294967295u, 0, out, 5, &copied) == LASPIDRU_OUT_OF_RANGE);
-    CHECK(laspidru_text(LASPIDRU_EMPTY, 7, out, 3, &copied) == LASPIDRU_OK && copied == 3 && memcmp(out, "the--", 5) == 0);
-    CHECK(laspidru_text(LASPIDRU_EMPTY, 27, out, 3, &copied) == LASPIDRU_OUT_OF_RANGE && copied == 3);
+    CHECK(laspidru_code_text(36, 0, out, 5, &copied) == LASPIDRU_OUT_OF_RANGE && copied == 9 && out[0] == '-');
+    CHECK(laspidru_code_text(4294967295u, 0, out, 5, &copied) == LASPIDRU_OUT_OF_RANGE);
+    CHECK(laspidru_code_text(LASPIDRU_EMPTY, 7, out, 3, &copied) == LASPIDRU_OK && copied == 3 && memcmp(out, "the--", 5) == 0);
+    CHECK(laspidru_code_text(LASPIDRU_EMPTY, 27, out, 3, &copied) == LASPIDRU_OUT_OF_RANGE && copied == 3);
     for (code = 0; code < 36; code++)
-        CHECK(laspidru_text((laspidru_u32)code, 0, out, 120, &copied) == LASPIDRU_OK && copied > 8 && copied < 120);
+        CHECK(laspidru_code_text((laspidru_u32)code, 0, out, 120, &copied) == LASPIDRU_OK && copied > 8 && copied < 120);
     /* Each code has its own row: no two are exchanged. */
     CHECK_NAME(OK); CHECK_NAME(NOT_UTF8); CHECK_NAME(OUT_OF_MEMORY); CHECK_NAME(IN_USE); CHECK_NAME(EMPTY);
     CHECK_NAME(TOO_LONG); CHECK_NAME(INSIDE_CHARACTER); CHECK_NAME(REVERSED_RANGE); CHECK_NAME(BAD_ENCODING);
@@ -75,7 +75,7 @@ static void test_defaults(void) {
 static int sends_with(laspidru_handle *end, const char *text) {
     static unsigned char out[4096];
     laspidru_size copied = 0, at;
-    if (laspidru_frame(end, 0, out, sizeof out, &copied) != LASPIDRU_OK)
+    if (laspidru_session_frame(end, 0, out, sizeof out, &copied) != LASPIDRU_OK)
         return 0;
     for (at = 0; at + strlen(text) <= copied; at++)
         if (memcmp(out + at, text, strlen(text)) == 0)
@@ -99,22 +99,22 @@ static void test_settings_of_servers(void) {
     CHECK(is_state(&server, LASPIDRU_PHASE_READY, 0, LASPIDRU_UTF16, 0) && sends_with(&server, "\"change\":2"));
     CHECK(hand(&server, open_a, &answer) == LASPIDRU_OK && hand(&server, open_a, &answer) == LASPIDRU_OK);
     CHECK(answer.kind == LASPIDRU_REFUSED && answer.reason == LASPIDRU_ALREADY_OPEN && answer.status == 0 && answer.error == 0);
-    laspidru_close(&server);
+    laspidru_handle_free(&server);
     how.is_fixed = 1;
     begin(&server, &how);
     CHECK(is_state(&server, LASPIDRU_PHASE_READY, 0, LASPIDRU_UTF8, 0) && sends_with(&server, "\"change\":2"));
-    laspidru_close(&server);
+    laspidru_handle_free(&server);
     how = settings;
     how.is_full = 1;
     begin(&server, &how);
     CHECK(is_state(&server, LASPIDRU_PHASE_READY, 0, LASPIDRU_UTF16, 0) && sends_with(&server, "\"change\":1"));
-    laspidru_close(&server);
+    laspidru_handle_free(&server);
     how = settings;
     how.lenient = 1;
     begin(&server, &how);
     CHECK(hand(&server, open_a, &answer) == LASPIDRU_OK && hand(&server, open_a, &answer) == LASPIDRU_OK && answer.kind == LASPIDRU_CHANGED);
     CHECK(is_state(&server, LASPIDRU_PHASE_READY, 0, LASPIDRU_UTF16, 1));
-    laspidru_close(&server);
+    laspidru_handle_free(&server);
 }
 
 static void test_settings_of_clients(void) {
@@ -125,24 +125,24 @@ static void test_settings_of_clients(void) {
     how.utf8 = 0;
     CHECK(laspidru_client_new(&client, &how) == LASPIDRU_OK && laspidru_client_start(&client, &len) == LASPIDRU_OK);
     CHECK(!sends_with(&client, "utf-8") && !sends_with(&client, "utf-32"));
-    laspidru_close(&client);
+    laspidru_handle_free(&client);
     how.utf8 = 1;
     CHECK(laspidru_client_new(&client, &how) == LASPIDRU_OK && laspidru_client_start(&client, &len) == LASPIDRU_OK);
     CHECK(sends_with(&client, "\"utf-8\",\"utf-16\"]") && !sends_with(&client, "utf-32"));
-    CHECK(hand(&client, capabilities, &answer) == LASPIDRU_OK && client_open(&client, uri_a, 1, "a", &len) == LASPIDRU_OK);
-    CHECK(client_open(&client, uri_a, 1, "b", &len) == LASPIDRU_ALREADY_OPEN);
-    laspidru_close(&client);
+    CHECK(hand(&client, capabilities, &answer) == LASPIDRU_OK && did_open(&client, uri_a, 1, "a", &len) == LASPIDRU_OK);
+    CHECK(did_open(&client, uri_a, 1, "b", &len) == LASPIDRU_ALREADY_OPEN);
+    laspidru_handle_free(&client);
     how.utf8 = 0;
     how.utf32 = 1;
     CHECK(laspidru_client_new(&client, &how) == LASPIDRU_OK && laspidru_client_start(&client, &len) == LASPIDRU_OK);
     CHECK(!sends_with(&client, "utf-8") && sends_with(&client, "\"utf-16\",\"utf-32\"]"));
-    laspidru_close(&client);
+    laspidru_handle_free(&client);
     how = client_settings;
     how.lenient = 1;
     CHECK(laspidru_client_new(&client, &how) == LASPIDRU_OK && laspidru_client_start(&client, &len) == LASPIDRU_OK);
-    CHECK(hand(&client, capabilities, &answer) == LASPIDRU_OK && client_open(&client, uri_a, 1, "a", &len) == LASPIDRU_OK);
-    CHECK(client_open(&client, uri_a, 1, "b", &len) == LASPIDRU_OK && holds(&client, 1, "b"));
-    laspidru_close(&client);
+    CHECK(hand(&client, capabilities, &answer) == LASPIDRU_OK && did_open(&client, uri_a, 1, "a", &len) == LASPIDRU_OK);
+    CHECK(did_open(&client, uri_a, 1, "b", &len) == LASPIDRU_OK && holds(&client, 1, "b"));
+    laspidru_handle_free(&client);
     how.max_text = 1073741825;
     CHECK(laspidru_client_new(&client, &how) == LASPIDRU_BAD_MAX_TEXT);
     how.max_body = 4095;
@@ -164,26 +164,26 @@ static void test_members_of_results(void) {
     laspidru_line line = {.start = 71, .end = 72};
     laspidru_opened opened = {.version = 71, .bytes = 72};
     laspidru_handle document = {0}, server = {0}, output = {0};
-    CHECK(open_text(&document, "ab\ncd") == LASPIDRU_OK);
+    CHECK(new_document(&document, "ab\ncd") == LASPIDRU_OK);
     CHECK(apply(&document, over, 3, "x", &fault) == LASPIDRU_OVERLAP && fault.edit == 2 && fault.other == 1 && !fault.at_end);
     CHECK(laspidru_document_size(&document, &length) == LASPIDRU_OK && length.bytes == 5 && length.lines == 2);
     CHECK(laspidru_document_line(&document, 1, &line) == LASPIDRU_OK && line.start == 3 && line.end == 5);
-    laspidru_close(&document);
+    laspidru_handle_free(&document);
     CHECK(laspidru_server_new(&server, &settings) == LASPIDRU_OK);
-    CHECK(laspidru_take(&server, bytes("Content-Length: 1\r\n\r\n{C"), 23, &taken, &answer) == LASPIDRU_OK);
+    CHECK(laspidru_session_feed(&server, bytes("Content-Length: 1\r\n\r\n{C"), 23, &taken, &answer) == LASPIDRU_OK);
     CHECK(taken.bytes == 22 && taken.body_len == 1 && taken.offset == 0 && taken.frame == 0 && taken.is_whole);
     CHECK(answer.kind == LASPIDRU_REPLIED && answer.reason == 0 && answer.status == 0 && answer.error == -32700 && answer.reply_len > 80);
-    CHECK(laspidru_take(&server, bytes("Content-Length: 4097\r\n\r\n"), 24, &taken, &answer) == LASPIDRU_BAD_FRAME);
+    CHECK(laspidru_session_feed(&server, bytes("Content-Length: 4097\r\n\r\n"), 24, &taken, &answer) == LASPIDRU_BAD_FRAME);
     CHECK(taken.bytes == 0 && taken.body_len == 0 && taken.offset == 45 && taken.frame == 6 && !taken.is_whole);
     /* After a fault nothing is written but zeroes. */
-    CHECK(laspidru_take(&server, bytes("C"), 1, &taken, &answer) == LASPIDRU_FAILED);
+    CHECK(laspidru_session_feed(&server, bytes("C"), 1, &taken, &answer) == LASPIDRU_FAILED);
     CHECK(taken.bytes == 0 && taken.body_len == 0 && taken.offset == 0 && taken.frame == 0 && !taken.is_whole);
     CHECK(hand(&server, initialize, &answer) == LASPIDRU_OK && hand(&server, open_a, &answer) == LASPIDRU_OK && hand(&server, change_a, &answer) == LASPIDRU_OK);
-    CHECK(laspidru_open_state(&server, bytes(uri_a), 9, &opened) == LASPIDRU_OK && opened.version == 7 && opened.bytes == 6);
+    CHECK(laspidru_session_document_state(&server, bytes(uri_a), 9, &opened) == LASPIDRU_OK && opened.version == 7 && opened.bytes == 6);
     CHECK(hand(&server, exits, &answer) == LASPIDRU_OK && answer.kind == LASPIDRU_EXITED && answer.reason == 0 && answer.status == 1);
-    laspidru_close(&server);
+    laspidru_handle_free(&server);
     CHECK(run_log(&output, LASPIDRU_CHECK, &log_settings, log_of(session), &ending) == LASPIDRU_OK);
     CHECK(ending.status == 1 && ending.frame == 0 && ending.missing == 0 && ending.messages == 4 && ending.refused == 1);
     CHECK(ending.offset == 0 && ending.output_len == 41);
-    laspidru_close(&output);
+    laspidru_handle_free(&output);
 }

@@ -9,7 +9,7 @@ static int run_refused(void) {
     laspidru_edits_fault edits_fault = {0, 0, 0};
     laspidru_u32 code;
     int refusals = 0;
-    while ((code = open_text(&document, "ab\ncd")) == LASPIDRU_OUT_OF_MEMORY) {
+    while ((code = new_document(&document, "ab\ncd")) == LASPIDRU_OUT_OF_MEMORY) {
         CHECK(!document.is_full);
         refusals++;
     }
@@ -26,7 +26,7 @@ static int run_refused(void) {
         refusals++;
     }
     CHECK(code == LASPIDRU_OK && has_text(&document, "a\r\nlonger\ncd"));
-    laspidru_close(&batch);
+    laspidru_handle_free(&batch);
     while ((code = laspidru_document_batch_of_edits(&document, LASPIDRU_UTF16, edits, 2, bytes(texts), 8, &batch, &edits_fault)) ==
            LASPIDRU_OUT_OF_MEMORY) {
         CHECK(!batch.is_full && has_text(&document, "a\r\nlonger\ncd"));
@@ -38,8 +38,8 @@ static int run_refused(void) {
         refusals++;
     }
     CHECK(code == LASPIDRU_OK && has_text(&document, "a\r\n\r\nlongeronger\ncd"));
-    laspidru_close(&batch);
-    laspidru_close(&document);
+    laspidru_handle_free(&batch);
+    laspidru_handle_free(&document);
     CHECK(heap_blocks() == 0);
     return refusals;
 }
@@ -69,7 +69,7 @@ static int run_refused_server(void) {
         CHECK(code == LASPIDRU_OK && answer.kind != LASPIDRU_REFUSED && answer.kind != LASPIDRU_DROPPED);
     }
     CHECK(holds(&server, 7, "ab\nXYd"));
-    laspidru_close(&server);
+    laspidru_handle_free(&server);
     CHECK(heap_blocks() == 0);
     return refusals;
 }
@@ -94,7 +94,7 @@ static int run_refused_logs(void) {
             refusals++;
         }
         CHECK(code == LASPIDRU_OK && ending.status == 0 && ending.missing == 0);
-        laspidru_close(&output);
+        laspidru_handle_free(&output);
     }
     ending.status = 9;
     while ((code = compare_log(&output, &all_settings, "/a", "ab\ncd", log, &ending)) == LASPIDRU_OUT_OF_MEMORY) {
@@ -102,7 +102,7 @@ static int run_refused_logs(void) {
         refusals++;
     }
     CHECK(code == LASPIDRU_OK && ending.status == 1 && ending.missing == 0);
-    laspidru_close(&output);
+    laspidru_handle_free(&output);
     CHECK(heap_blocks() == 0);
     return refusals;
 }
@@ -122,7 +122,7 @@ static int run_refused_framer(void) {
         refusals++;
     }
     CHECK(is_taken(taken, strlen(stream), 1, 5) && is_body(&framer, "abcde"));
-    laspidru_close(&framer);
+    laspidru_handle_free(&framer);
     CHECK(heap_blocks() == 0);
     return refusals;
 }
@@ -148,17 +148,17 @@ static int run_refused_client(void) {
     }
     AGAIN(laspidru_client_start(&client, &len), LASPIDRU_PHASE_NEW, 0);
     AGAIN(hand(&client, capabilities, &answer), LASPIDRU_PHASE_ASKED, 0);
-    AGAIN(client_open(&client, uri_a, 1, "ab\ncd", &len), LASPIDRU_PHASE_READY, 0);
+    AGAIN(did_open(&client, uri_a, 1, "ab\ncd", &len), LASPIDRU_PHASE_READY, 0);
     CHECK(holds(&client, 1, "ab\ncd"));
-    AGAIN(client_edit(&client, 2, edits, 2, "\r\nlonger", &fault, &len), LASPIDRU_PHASE_READY, 1);
+    AGAIN(did_change(&client, 2, edits, 2, "\r\nlonger", &fault, &len), LASPIDRU_PHASE_READY, 1);
     CHECK(holds(&client, 2, "a\r\nlonger\ncd") && fault.change == 9);
-    AGAIN(laspidru_client_close(&client, bytes(uri_a), 9, &len), LASPIDRU_PHASE_READY, 1);
+    AGAIN(laspidru_client_did_close(&client, bytes(uri_a), 9, &len), LASPIDRU_PHASE_READY, 1);
     AGAIN(laspidru_client_shutdown(&client, &len), LASPIDRU_PHASE_READY, 0);
     AGAIN(hand(&client, answered, &answer), LASPIDRU_PHASE_CLOSING, 0);
     AGAIN(laspidru_client_exit(&client, &len), LASPIDRU_PHASE_CLOSED, 0);
 #undef AGAIN
     CHECK(is_state(&client, LASPIDRU_PHASE_DONE, 0, LASPIDRU_UTF8, 0));
-    laspidru_close(&client);
+    laspidru_handle_free(&client);
     CHECK(heap_blocks() == 0);
     return refusals;
 }
@@ -172,7 +172,7 @@ static int take_again(laspidru_handle *end, const char *const *bodies, laspidru_
     int refusals = 0;
     do {
         laspidru_answer before = *answer;
-        code = laspidru_take(end, bytes(stream) + at, len - at, &taken, answer);
+        code = laspidru_session_feed(end, bytes(stream) + at, len - at, &taken, answer);
         at += taken.bytes;
         CHECK(code == LASPIDRU_OK || code == LASPIDRU_OUT_OF_MEMORY);
         if (code == LASPIDRU_OUT_OF_MEMORY) {
@@ -199,14 +199,14 @@ static int run_refused_take(void) {
         CHECK(answer.kind != LASPIDRU_REFUSED && answer.kind != LASPIDRU_DROPPED && copies(&server, bodies[i]));
     }
     CHECK(holds(&server, 7, "ab\nXYd"));
-    laspidru_close(&server);
+    laspidru_handle_free(&server);
     while (laspidru_client_new(&client, &client_settings) == LASPIDRU_OUT_OF_MEMORY)
         refusals++;
     while (laspidru_client_start(&client, &len) == LASPIDRU_OUT_OF_MEMORY)
         refusals++;
     refusals += take_again(&client, from_server, &answer);
     CHECK(is_state(&client, LASPIDRU_PHASE_READY, 0, LASPIDRU_UTF8, 0));
-    laspidru_close(&client);
+    laspidru_handle_free(&client);
     CHECK(heap_blocks() == 0);
     return refusals;
 }
@@ -232,14 +232,14 @@ static int run_refused_served(void) {
         refusals++;
     }
     CHECK(code == LASPIDRU_OK && made.is_full);
-    laspidru_close(&made);
+    laspidru_handle_free(&made);
     while ((code = served_message(&server, 7, edits, 2, texts, &made, &fault, &len)) == LASPIDRU_OUT_OF_MEMORY) {
         CHECK(!made.is_full && len == 9 && fault.change == 9 && holds(&server, 1, "ab\ncd"));
         refusals++;
     }
     CHECK(code == LASPIDRU_OK && made.is_full && len != 9);
-    laspidru_close(&made);
-    laspidru_close(&server);
+    laspidru_handle_free(&made);
+    laspidru_handle_free(&server);
     CHECK(heap_blocks() == 0);
     return refusals;
 }

@@ -15,7 +15,7 @@ static const char exits[] = "{\"jsonrpc\":\"2.0\",\"method\":\"exit\"}";
 static const char uri_a[] = "file:///a";
 
 static laspidru_u32 hand(laspidru_handle *server, const char *body, laspidru_answer *answer) {
-    return laspidru_deliver(server, bytes(body), strlen(body), answer);
+    return laspidru_session_deliver(server, bytes(body), strlen(body), answer);
 }
 
 static int is_kind(laspidru_answer answer, laspidru_u32 kind, laspidru_u32 reason, laspidru_i32 error) {
@@ -34,9 +34,9 @@ static int holds(laspidru_handle *server, laspidru_i32 version, const char *text
     unsigned char out[64];
     laspidru_size copied = 99;
     laspidru_opened opened = {99, 99};
-    return laspidru_open_state(server, bytes(uri_a), 9, &opened) == LASPIDRU_OK && opened.version == version &&
+    return laspidru_session_document_state(server, bytes(uri_a), 9, &opened) == LASPIDRU_OK && opened.version == version &&
            opened.bytes == strlen(text) &&
-           laspidru_open_text(server, bytes(uri_a), 9, 0, out, sizeof out, &copied) == LASPIDRU_OK &&
+           laspidru_session_document_text(server, bytes(uri_a), 9, 0, out, sizeof out, &copied) == LASPIDRU_OK &&
            copied == opened.bytes && memcmp(out, text, copied) == 0;
 }
 
@@ -49,27 +49,27 @@ static void test_server(void) {
     laspidru_size copied = 9;
     CHECK(hand(&server, shutdown, &answer) == LASPIDRU_EMPTY && answer.kind == 9);
     CHECK(laspidru_server_new(&server, &settings) == LASPIDRU_OK && is_state(&server, LASPIDRU_PHASE_NEW, 0, 0, 0));
-    CHECK(laspidru_frame(&server, 0, out, sizeof out, &copied) == LASPIDRU_OK && copied == 0);
+    CHECK(laspidru_session_frame(&server, 0, out, sizeof out, &copied) == LASPIDRU_OK && copied == 0);
     CHECK(hand(&server, open_a, &answer) == LASPIDRU_OK && is_kind(answer, LASPIDRU_DROPPED, 0, 0));
     CHECK(hand(&server, shutdown, &answer) == LASPIDRU_OK && is_kind(answer, LASPIDRU_REPLIED, 0, -32002));
     CHECK(hand(&server, initialize, &answer) == LASPIDRU_OK && is_kind(answer, LASPIDRU_REPLIED, 0, 0));
     CHECK(hand(&server, open_a, &answer) == LASPIDRU_OK && is_kind(answer, LASPIDRU_CHANGED, 0, 0));
-    CHECK(laspidru_frame(&server, 0, out, sizeof out, &copied) == LASPIDRU_OK && copied == 0);
+    CHECK(laspidru_session_frame(&server, 0, out, sizeof out, &copied) == LASPIDRU_OK && copied == 0);
     CHECK(hand(&server, open_a, &answer) == LASPIDRU_OK && is_kind(answer, LASPIDRU_REFUSED, LASPIDRU_ALREADY_OPEN, 0));
     CHECK(is_state(&server, LASPIDRU_PHASE_READY, 0, LASPIDRU_UTF8, 1) && holds(&server, 1, "ab\ncd"));
     CHECK(hand(&server, change_a, &answer) == LASPIDRU_OK && is_kind(answer, LASPIDRU_CHANGED, 0, 0));
     CHECK(holds(&server, 7, "ab\nXYd"));
     CHECK(hand(&server, change_a, &answer) == LASPIDRU_OK && is_kind(answer, LASPIDRU_REFUSED, LASPIDRU_STALE_VERSION, 0));
-    CHECK(laspidru_open_text(&server, bytes(uri_a), 9, 4, out, 1, &copied) == LASPIDRU_OK && copied == 1 && out[0] == 'Y');
+    CHECK(laspidru_session_document_text(&server, bytes(uri_a), 9, 4, out, 1, &copied) == LASPIDRU_OK && copied == 1 && out[0] == 'Y');
     CHECK(hand(&server, close_a, &answer) == LASPIDRU_OK && is_kind(answer, LASPIDRU_CHANGED, 0, 0));
-    CHECK(laspidru_open_state(&server, bytes(uri_a), 9, &opened) == LASPIDRU_NOT_OPEN && opened.version == 9);
+    CHECK(laspidru_session_document_state(&server, bytes(uri_a), 9, &opened) == LASPIDRU_NOT_OPEN && opened.version == 9);
     CHECK(hand(&server, shutdown, &answer) == LASPIDRU_OK && is_kind(answer, LASPIDRU_REPLIED, 0, 0));
-    CHECK(answer.reply_len == strlen(wanted) && laspidru_frame(&server, 0, out, sizeof out, &copied) == LASPIDRU_OK);
+    CHECK(answer.reply_len == strlen(wanted) && laspidru_session_frame(&server, 0, out, sizeof out, &copied) == LASPIDRU_OK);
     CHECK(copied == strlen(wanted) && memcmp(out, wanted, copied) == 0);
-    CHECK(laspidru_frame(&server, 59, out, 3, &copied) == LASPIDRU_OK && copied == 1 && out[0] == '}');
+    CHECK(laspidru_session_frame(&server, 59, out, 3, &copied) == LASPIDRU_OK && copied == 1 && out[0] == '}');
     CHECK(is_state(&server, LASPIDRU_PHASE_CLOSED, 0, LASPIDRU_UTF8, 0));
     CHECK(hand(&server, exits, &answer) == LASPIDRU_OK && answer.kind == LASPIDRU_EXITED && answer.status == 0);
     CHECK(is_state(&server, LASPIDRU_PHASE_DONE, 0, LASPIDRU_UTF8, 0));
     CHECK(hand(&server, exits, &answer) == LASPIDRU_ENDED && answer.kind == LASPIDRU_EXITED);
-    laspidru_close(&server);
+    laspidru_handle_free(&server);
 }

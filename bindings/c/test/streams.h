@@ -14,7 +14,8 @@ static laspidru_size stream_of(char *out, const char *const *bodies) {
 static int copies(laspidru_handle *handle, const char *text) {
     static unsigned char out[STREAM_ROOM];
     laspidru_size first = 99, rest = 99, half = strlen(text) / 2;
-    return laspidru_body(handle, 0, out, half, &first) == LASPIDRU_OK && laspidru_body(handle, first, out + first, sizeof out - first, &rest) == LASPIDRU_OK &&
+    return laspidru_session_body(handle, 0, out, half, &first) == LASPIDRU_OK &&
+           laspidru_session_body(handle, first, out + first, sizeof out - first, &rest) == LASPIDRU_OK &&
            first == half && first + rest == strlen(text) && memcmp(out, text, strlen(text)) == 0;
 }
 
@@ -26,7 +27,7 @@ static void take_all(laspidru_handle *end, const char *const *bodies, const lasp
     laspidru_answer answer = {9, 9, 9, 9, 9};
     while (at < len) {
         laspidru_size piece = len - at < most ? len - at : most;
-        CHECK(laspidru_take(end, bytes(stream) + at, piece, &taken, &answer) == LASPIDRU_OK && taken.bytes <= piece);
+        CHECK(laspidru_session_feed(end, bytes(stream) + at, piece, &taken, &answer) == LASPIDRU_OK && taken.bytes <= piece);
         at += taken.bytes;
         CHECK(taken.is_whole || taken.bytes == piece);
         CHECK(taken.offset == 0 && taken.frame == 0);
@@ -52,23 +53,23 @@ static void test_server_take(void) {
     laspidru_size i, copied = 9;
     for (i = 0; i < 4; i++) {
         laspidru_handle server = {0};
-        CHECK(laspidru_take(&server, bytes("C"), 1, &taken, &answer) == LASPIDRU_EMPTY && taken.bytes == 9 && answer.kind == 9);
-        CHECK(laspidru_body(&server, 0, out, 3, &copied) == LASPIDRU_EMPTY && copied == 9);
+        CHECK(laspidru_session_feed(&server, bytes("C"), 1, &taken, &answer) == LASPIDRU_EMPTY && taken.bytes == 9 && answer.kind == 9);
+        CHECK(laspidru_session_body(&server, 0, out, 3, &copied) == LASPIDRU_EMPTY && copied == 9);
         CHECK(laspidru_server_new(&server, &settings) == LASPIDRU_OK);
-        CHECK(laspidru_body(&server, 0, out, 3, &copied) == LASPIDRU_NO_MESSAGE && copied == 9);
+        CHECK(laspidru_session_body(&server, 0, out, 3, &copied) == LASPIDRU_NO_MESSAGE && copied == 9);
         take_all(&server, session, kinds, most[i]);
         CHECK(holds(&server, 7, "ab\nXYd"));
-        CHECK(laspidru_body(&server, 1, out, 3, &copied) == LASPIDRU_OK && copied == 3 && memcmp(out, "\"js", 3) == 0);
-        CHECK(laspidru_body(&server, 1000, out, 3, &copied) == LASPIDRU_OUT_OF_RANGE && copied == 3);
+        CHECK(laspidru_session_body(&server, 1, out, 3, &copied) == LASPIDRU_OK && copied == 3 && memcmp(out, "\"js", 3) == 0);
+        CHECK(laspidru_session_body(&server, 1000, out, 3, &copied) == LASPIDRU_OUT_OF_RANGE && copied == 3);
         /* No byte follows: the body is released, and the answer stays as it is. */
-        CHECK(laspidru_take(&server, bytes(""), 0, &taken, &answer) == LASPIDRU_OK && taken.bytes == 0 && !taken.is_whole && answer.kind == 9);
-        CHECK(laspidru_body(&server, 0, out, 3, &copied) == LASPIDRU_NO_MESSAGE);
+        CHECK(laspidru_session_feed(&server, bytes(""), 0, &taken, &answer) == LASPIDRU_OK && taken.bytes == 0 && !taken.is_whole && answer.kind == 9);
+        CHECK(laspidru_session_body(&server, 0, out, 3, &copied) == LASPIDRU_NO_MESSAGE);
         copied = 9;
         take_all(&server, last, end, most[i]);
-        CHECK(laspidru_take(&server, bytes("C"), 1, &taken, &answer) == LASPIDRU_ENDED && taken.bytes == 0 && answer.kind == 9);
+        CHECK(laspidru_session_feed(&server, bytes("C"), 1, &taken, &answer) == LASPIDRU_ENDED && taken.bytes == 0 && answer.kind == 9);
         CHECK(copies(&server, exits));
         taken = (laspidru_taken){9, 9, 9, 9, 1};
-        laspidru_close(&server);
+        laspidru_handle_free(&server);
     }
 }
 
@@ -84,14 +85,14 @@ static void test_server_take_in_order(void) {
     int asked = 0;
     CHECK(laspidru_server_new(&server, &settings) == LASPIDRU_OK);
     for (; at < len; at += taken.bytes) {
-        CHECK(laspidru_take(&server, bytes(stream) + at, len - at, &taken, &answer) == LASPIDRU_OK && taken.is_whole);
+        CHECK(laspidru_session_feed(&server, bytes(stream) + at, len - at, &taken, &answer) == LASPIDRU_OK && taken.is_whole);
         if (answer.error != -32601)
             continue;
         CHECK(asked == 0 ? holds(&server, 1, "ab\ncd") : holds(&server, 7, "ab\nXYd"));
         asked++;
     }
     CHECK(asked == 2);
-    laspidru_close(&server);
+    laspidru_handle_free(&server);
 }
 
 static void test_client_take(void) {
@@ -108,18 +109,18 @@ static void test_client_take(void) {
     unsigned char out[4] = "---";
     for (i = 0; i < 4; i++) {
         laspidru_handle client = {0};
-        CHECK(laspidru_take(&client, bytes("C"), 1, &taken, &answer) == LASPIDRU_EMPTY && taken.bytes == 9 && answer.kind == 9);
-        CHECK(laspidru_body(&client, 0, out, 3, &copied) == LASPIDRU_EMPTY && copied == 9);
+        CHECK(laspidru_session_feed(&client, bytes("C"), 1, &taken, &answer) == LASPIDRU_EMPTY && taken.bytes == 9 && answer.kind == 9);
+        CHECK(laspidru_session_body(&client, 0, out, 3, &copied) == LASPIDRU_EMPTY && copied == 9);
         CHECK(laspidru_client_new(&client, &client_settings) == LASPIDRU_OK);
-        CHECK(laspidru_take(&client, bytes("C"), 1, &taken, &answer) == LASPIDRU_WRONG_PHASE && taken.bytes == 9 && answer.kind == 9);
-        CHECK(laspidru_body(&client, 0, out, 3, &copied) == LASPIDRU_NO_MESSAGE && copied == 9);
+        CHECK(laspidru_session_feed(&client, bytes("C"), 1, &taken, &answer) == LASPIDRU_WRONG_PHASE && taken.bytes == 9 && answer.kind == 9);
+        CHECK(laspidru_session_body(&client, 0, out, 3, &copied) == LASPIDRU_NO_MESSAGE && copied == 9);
         CHECK(laspidru_client_start(&client, &len) == LASPIDRU_OK);
         take_all(&client, session, kinds, most[i]);
         CHECK(is_state(&client, LASPIDRU_PHASE_READY, 0, LASPIDRU_UTF8, 0));
-        CHECK(laspidru_body(&client, 1000, out, 3, &copied) == LASPIDRU_OUT_OF_RANGE && copied == 9);
+        CHECK(laspidru_session_body(&client, 1000, out, 3, &copied) == LASPIDRU_OUT_OF_RANGE && copied == 9);
         take_all(&client, bad, end, most[i]);
         CHECK(is_state(&client, LASPIDRU_PHASE_FAILED, LASPIDRU_NOT_AN_ANSWER, LASPIDRU_UTF8, 0));
-        CHECK(laspidru_take(&client, bytes("C"), 1, &taken, &answer) == LASPIDRU_WRONG_PHASE && answer.kind == 9);
-        laspidru_close(&client);
+        CHECK(laspidru_session_feed(&client, bytes("C"), 1, &taken, &answer) == LASPIDRU_WRONG_PHASE && answer.kind == 9);
+        laspidru_handle_free(&client);
     }
 }

@@ -28,9 +28,9 @@ typedef struct { size_t max_body, max_text, max_docs, max_changes; uint64_t at; 
     documents, texts, bodies, has_uri, brief, all; } laspidru_log_settings;
 typedef struct { uint32_t status, frame, missing; uint64_t messages, refused, offset; size_t output_len; } laspidru_ending;
 uint32_t laspidru_version(void);
-uint32_t laspidru_text(uint32_t code, size_t start, unsigned char *out, size_t out_len, size_t *copied);
-uint32_t laspidru_document_open(laspidru_handle *document, const unsigned char *text, size_t text_len);
-void laspidru_close(laspidru_handle *handle);
+uint32_t laspidru_code_text(uint32_t code, size_t start, unsigned char *out, size_t out_len, size_t *copied);
+uint32_t laspidru_document_new(laspidru_handle *document, const unsigned char *text, size_t text_len);
+void laspidru_handle_free(laspidru_handle *handle);
 uint32_t laspidru_document_change(laspidru_handle *document, uint32_t encoding, const laspidru_edit *edits, size_t edits_len,
     const unsigned char *texts, size_t texts_len, laspidru_fault *fault);
 uint32_t laspidru_document_size(laspidru_handle *document, laspidru_length *length);
@@ -49,41 +49,45 @@ uint32_t laspidru_batch_edit(laspidru_handle *batch, size_t index, laspidru_edit
     size_t *copied);
 uint32_t laspidru_framer_new(laspidru_handle *framer, size_t max_body);
 uint32_t laspidru_framer_feed(laspidru_handle *framer, const unsigned char *piece, size_t piece_len, laspidru_taken *taken);
+uint32_t laspidru_framer_body(laspidru_handle *framer, size_t start, unsigned char *out, size_t out_len, size_t *copied);
 uint32_t laspidru_framer_next(laspidru_handle *framer);
 uint32_t laspidru_framer_at_rest(laspidru_handle *framer, bool *at_rest);
 uint32_t laspidru_server_new(laspidru_handle *server, const laspidru_settings *settings);
 uint32_t laspidru_client_new(laspidru_handle *client, const laspidru_client_settings *settings);
 uint32_t laspidru_client_start(laspidru_handle *client, size_t *frame_len);
-uint32_t laspidru_client_open(laspidru_handle *client, const unsigned char *uri, size_t uri_len, const unsigned char *language,
-    size_t language_len, int32_t version, const unsigned char *text, size_t text_len, size_t *frame_len);
-uint32_t laspidru_client_edit(laspidru_handle *client, const unsigned char *uri, size_t uri_len, int32_t version,
+uint32_t laspidru_client_did_open(laspidru_handle *client, const unsigned char *uri, size_t uri_len,
+    const unsigned char *language, size_t language_len, int32_t version, const unsigned char *text, size_t text_len,
+    size_t *frame_len);
+uint32_t laspidru_client_did_change(laspidru_handle *client, const unsigned char *uri, size_t uri_len, int32_t version,
     const laspidru_edit *edits, size_t edits_len, const unsigned char *texts, size_t texts_len, laspidru_fault *fault,
     size_t *frame_len);
-uint32_t laspidru_client_close(laspidru_handle *client, const unsigned char *uri, size_t uri_len, size_t *frame_len);
+uint32_t laspidru_client_did_close(laspidru_handle *client, const unsigned char *uri, size_t uri_len, size_t *frame_len);
 uint32_t laspidru_client_shutdown(laspidru_handle *client, size_t *frame_len);
 uint32_t laspidru_client_exit(laspidru_handle *client, size_t *frame_len);
-uint32_t laspidru_take(laspidru_handle *end, const unsigned char *piece, size_t piece_len, laspidru_taken *taken,
+uint32_t laspidru_session_feed(laspidru_handle *session, const unsigned char *piece, size_t piece_len, laspidru_taken *taken,
     laspidru_answer *answer);
-uint32_t laspidru_body(laspidru_handle *end_or_framer, size_t start, unsigned char *out, size_t out_len, size_t *copied);
-uint32_t laspidru_deliver(laspidru_handle *end, const unsigned char *body, size_t body_len, laspidru_answer *answer);
-uint32_t laspidru_frame(laspidru_handle *end, size_t start, unsigned char *out, size_t out_len, size_t *copied);
-uint32_t laspidru_session_state(laspidru_handle *end, laspidru_state *state);
+uint32_t laspidru_session_body(laspidru_handle *session, size_t start, unsigned char *out, size_t out_len, size_t *copied);
+uint32_t laspidru_session_deliver(laspidru_handle *session, const unsigned char *body, size_t body_len, laspidru_answer *answer);
+uint32_t laspidru_session_frame(laspidru_handle *session, size_t start, unsigned char *out, size_t out_len, size_t *copied);
+uint32_t laspidru_session_state(laspidru_handle *session, laspidru_state *state);
 uint32_t laspidru_message_uri(const unsigned char *body, size_t body_len, size_t start, unsigned char *out, size_t out_len,
     size_t *copied);
-uint32_t laspidru_open_state(laspidru_handle *end, const unsigned char *uri, size_t uri_len, laspidru_opened *document);
-uint32_t laspidru_open_text(laspidru_handle *end, const unsigned char *uri, size_t uri_len, size_t start, unsigned char *out,
-    size_t out_len, size_t *copied);
-uint32_t laspidru_open_offset(laspidru_handle *end, const unsigned char *uri, size_t uri_len, uint32_t encoding,
+uint32_t laspidru_session_document_state(laspidru_handle *session, const unsigned char *uri, size_t uri_len,
+    laspidru_opened *document);
+uint32_t laspidru_session_document_text(laspidru_handle *session, const unsigned char *uri, size_t uri_len, size_t start,
+    unsigned char *out, size_t out_len, size_t *copied);
+uint32_t laspidru_session_document_offset(laspidru_handle *session, const unsigned char *uri, size_t uri_len, uint32_t encoding,
     laspidru_position position, size_t *offset);
-uint32_t laspidru_open_position(laspidru_handle *end, const unsigned char *uri, size_t uri_len, uint32_t encoding, size_t offset,
-    laspidru_position *position);
-uint32_t laspidru_open_line(laspidru_handle *end, const unsigned char *uri, size_t uri_len, uint32_t line, laspidru_line *range);
-uint32_t laspidru_open_batch_of_edits(laspidru_handle *end, const unsigned char *uri, size_t uri_len, uint32_t encoding,
-    const laspidru_edit *edits, size_t edits_len, const unsigned char *texts, size_t texts_len, laspidru_handle *batch,
-    laspidru_edits_fault *fault);
-uint32_t laspidru_open_canonical_message(laspidru_handle *end, const unsigned char *uri, size_t uri_len, int32_t version,
+uint32_t laspidru_session_document_position(laspidru_handle *session, const unsigned char *uri, size_t uri_len, uint32_t encoding,
+    size_t offset, laspidru_position *position);
+uint32_t laspidru_session_document_line(laspidru_handle *session, const unsigned char *uri, size_t uri_len, uint32_t line,
+    laspidru_line *range);
+uint32_t laspidru_session_document_batch_of_edits(laspidru_handle *session, const unsigned char *uri, size_t uri_len,
     uint32_t encoding, const laspidru_edit *edits, size_t edits_len, const unsigned char *texts, size_t texts_len,
-    laspidru_handle *output, laspidru_fault *fault, size_t *frame_len);
+    laspidru_handle *batch, laspidru_edits_fault *fault);
+uint32_t laspidru_session_document_canonical_message(laspidru_handle *session, const unsigned char *uri, size_t uri_len,
+    int32_t version, uint32_t encoding, const laspidru_edit *edits, size_t edits_len, const unsigned char *texts,
+    size_t texts_len, laspidru_handle *output, laspidru_fault *fault, size_t *frame_len);
 uint32_t laspidru_log_run(laspidru_handle *output, uint32_t command, const laspidru_log_settings *settings,
     const unsigned char *uri, size_t uri_len, const unsigned char *log, size_t log_len, laspidru_ending *ending);
 uint32_t laspidru_log_compare(laspidru_handle *output, const laspidru_log_settings *settings, const unsigned char *uri,

@@ -91,7 +91,7 @@ def _texts() -> Iterator[List[str]]:
     """The name of each code, and what it means, as the library says it."""
     out, copied = create_string_buffer(120), c_size_t()
     for code in range(256):
-        if LIBRARY.laspidru_text(code, 0, out, 120, byref(copied)) != OK:
+        if LIBRARY.laspidru_code_text(code, 0, out, 120, byref(copied)) != OK:
             return
         yield out.raw[:copied.value].decode().split(": ", 1)
 
@@ -285,7 +285,7 @@ def changes_of(batch_: Any) -> List[Dict[str, Any]]:
         demand(LIBRARY.laspidru_batch_len(byref(batch_), byref(count)))
         return [_change_at(batch_, index) for index in range(count.value)]
     finally:
-        LIBRARY.laspidru_close(byref(batch_))
+        LIBRARY.laspidru_handle_free(byref(batch_))
 
 
 def _change_at(batch_: Any, index: int) -> Dict[str, Any]:

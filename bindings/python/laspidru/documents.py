@@ -31,7 +31,7 @@ class Document:
 
     def __open(self, text: str) -> None:
         data = utf8(text)
-        demand(LIBRARY.laspidru_document_open(byref(self.__handle), data, len(data)))
+        demand(LIBRARY.laspidru_document_new(byref(self.__handle), data, len(data)))
 
     def __full(self) -> Any:
         """The handle, once the text was read that is to be read late. The lock is held."""
@@ -48,7 +48,7 @@ class Document:
         with self.__lock:
             self.__load = None
             self.__changed()
-            LIBRARY.laspidru_close(byref(self.__handle))
+            LIBRARY.laspidru_handle_free(byref(self.__handle))
 
     def __del__(self) -> None:
         if hasattr(self, "_Document__lock"):

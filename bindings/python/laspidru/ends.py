@@ -52,7 +52,7 @@ class Framer:
 
     def __del__(self) -> None:
         if hasattr(self, "_Framer__lock"):
-            LIBRARY.laspidru_close(byref(self.__handle))
+            LIBRARY.laspidru_handle_free(byref(self.__handle))
 
     def receive(self, data: bytes) -> List[bytes]:
         """The bodies of the messages that end in these bytes. A faulty frame raises FrameFault, whose `events` are the bodies before
@@ -87,7 +87,7 @@ class Framer:
         length = self.__received.take(LIBRARY.laspidru_framer_feed, handle)
         if length is None:
             return None
-        body = copy_out(LIBRARY.laspidru_body, length, handle)
+        body = copy_out(LIBRARY.laspidru_framer_body, length, handle)
         demand(LIBRARY.laspidru_framer_next(handle))
         return body
 
@@ -143,7 +143,7 @@ class _End:
 
     def __del__(self) -> None:
         if hasattr(self, "_lock"):
-            LIBRARY.laspidru_close(byref(self._handle))
+            LIBRARY.laspidru_handle_free(byref(self._handle))
 
     def _event(self, answer: Any, body: bytes) -> Event:
         """What is reported of an answer to a message."""
@@ -152,26 +152,26 @@ class _End:
                      NAMES[answer.reason] if answer.reason else None, answer.status if kind == "exited" else None)
 
     def _frame(self, length: int) -> bytes:
-        return copy_out(LIBRARY.laspidru_frame, length, byref(self._handle))
+        return copy_out(LIBRARY.laspidru_session_frame, length, byref(self._handle))
 
     def _next_event(self) -> Any:
         """What the end did with the next message that is whole; None where the rest of it is to come."""
         handle = byref(self._handle)
         if self._answered is None:
             answer = Answer()
-            length = self._received.take(LIBRARY.laspidru_take, handle, byref(answer))
+            length = self._received.take(LIBRARY.laspidru_session_feed, handle, byref(answer))
             if length is None:
                 return None
             self._answered = answer, length
         answer, length = self._answered
-        event = self._event(answer, copy_out(LIBRARY.laspidru_body, length, handle))
+        event = self._event(answer, copy_out(LIBRARY.laspidru_session_body, length, handle))
         self._answered = None
         return event
 
     def _handle_body(self, body: bytes) -> Event:
         data, answer = some_bytes(body, "a body"), Answer()
         with self._lock:
-            demand(LIBRARY.laspidru_deliver(byref(self._handle), data, len(data), byref(answer)))
+            demand(LIBRARY.laspidru_session_deliver(byref(self._handle), data, len(data), byref(answer)))
             return self._event(answer, data)
 
     def _messages(self, data: bytes) -> Iterator[Event]:
@@ -211,7 +211,7 @@ class _End:
 
     def _opened(self, uri: str) -> Optional[Any]:
         data, opened = utf8(uri), Opened()
-        code = LIBRARY.laspidru_open_state(byref(self._handle), data, len(data), byref(opened))
+        code = LIBRARY.laspidru_session_document_state(byref(self._handle), data, len(data), byref(opened))
         return opened if _is_open(code) else None
 
     def version(self, uri: str) -> Optional[int]:
@@ -227,7 +227,7 @@ class _End:
             if opened is None:
                 return None
             data = utf8(uri)
-            return copy_out(LIBRARY.laspidru_open_text, opened.bytes, byref(self._handle), data, len(data)).decode()
+            return copy_out(LIBRARY.laspidru_session_document_text, opened.bytes, byref(self._handle), data, len(data)).decode()
 
     def _state(self) -> Any:
         state = State()
@@ -259,7 +259,7 @@ class _End:
         the line's end. Positions count units of the session's encoding, or of this one."""
         name, place, units, offset = utf8(uri), place_of(position), self._units(encoding), c_size_t()
         with self._lock:
-            code = LIBRARY.laspidru_open_offset(byref(self._handle), name, len(name), units, place, byref(offset))
+            code = LIBRARY.laspidru_session_document_offset(byref(self._handle), name, len(name), units, place, byref(offset))
         return offset.value if _is_open(code) else None
 
     def position(self, uri: str, byte_offset: int, encoding: Optional[str] = None) -> Optional[Dict[str, int]]:
@@ -268,7 +268,7 @@ class _End:
         name, units, place = utf8(uri), self._units(encoding), Place()
         byte_offset = number(byte_offset, 64)
         with self._lock:
-            code = LIBRARY.laspidru_open_position(byref(self._handle), name, len(name), units, byte_offset, byref(place))
+            code = LIBRARY.laspidru_session_document_position(byref(self._handle), name, len(name), units, byte_offset, byref(place))
         return {"line": place.line, "character": place.character} if _is_open(code) else None
 
     def position_in(self, uri: str, position: Any, encoding: str) -> Optional[Dict[str, int]]:
@@ -282,11 +282,11 @@ class _End:
         is not read."""
         name, count, found, copied = utf8(uri), number(line, 32), Line(), c_size_t()
         with self._lock:
-            if not _is_open(LIBRARY.laspidru_open_line(byref(self._handle), name, len(name), count, byref(found))):
+            if not _is_open(LIBRARY.laspidru_session_document_line(byref(self._handle), name, len(name), count, byref(found))):
                 return None
             room = found.end - found.start
             out = create_string_buffer(max(room, 1))
-            demand(LIBRARY.laspidru_open_text(byref(self._handle), name, len(name), found.start, out, room, byref(copied)))
+            demand(LIBRARY.laspidru_session_document_text(byref(self._handle), name, len(name), found.start, out, room, byref(copied)))
         return out.raw[:copied.value].decode()
 
     def batch_of_edits(self, uri: str, edits: Sequence[Any]) -> List[Dict[str, Any]]:
@@ -295,8 +295,9 @@ class _End:
         name, (passed, count, texts) = utf8(uri), batch_of_edits(edits)
         found, fault = Handle(), TextEditsFault()
         with self._lock:
-            code = LIBRARY.laspidru_open_batch_of_edits(byref(self._handle), name, len(name), self._units(None), passed, count,
-                                                          texts, len(texts), byref(found), byref(fault))
+            code = LIBRARY.laspidru_session_document_batch_of_edits(
+                byref(self._handle), name, len(name), self._units(None), passed, count, texts, len(texts), byref(found),
+                byref(fault))
         demand_edits(code, fault)
         return changes_of(found)
 
@@ -306,14 +307,14 @@ class _End:
         name, (edits, count, texts) = utf8(uri), batch(changes)
         output, fault, length = Handle(), Fault(), c_size_t()
         with self._lock:
-            code = LIBRARY.laspidru_open_canonical_message(
+            code = LIBRARY.laspidru_session_document_canonical_message(
                 byref(self._handle), name, len(name), version_number(version), self._units(None), edits, count, texts,
                 len(texts), byref(output), byref(fault), byref(length))
         demand_change(code, fault)
         try:
             return copy_out(LIBRARY.laspidru_output_copy, length.value, byref(output))
         finally:
-            LIBRARY.laspidru_close(byref(output))
+            LIBRARY.laspidru_handle_free(byref(output))
 
 
 class Server(_End):
@@ -374,7 +375,7 @@ class Client(_End):
     def open(self, uri: str, language: str, version: int, text: str) -> bytes:
         """Opens a document: `textDocument/didOpen`."""
         name, kind, data = utf8(uri), utf8(language), utf8(text)
-        return self.__call("open", name, len(name), kind, len(kind), version_number(version), data, len(data))
+        return self.__call("did_open", name, len(name), kind, len(kind), version_number(version), data, len(data))
 
     def edit(self, uri: str, version: int, changes: Sequence[Any]) -> bytes:
         """Changes a document: one `textDocument/didChange`, with the canonical batch, or where the server asked for it with the
@@ -382,15 +383,15 @@ class Client(_End):
         name, length, fault = utf8(uri), c_size_t(), Fault()
         edits, count, texts = batch(changes)
         with self._lock:
-            code = LIBRARY.laspidru_client_edit(byref(self._handle), name, len(name), version_number(version), edits, count,
-                                                texts, len(texts), byref(fault), byref(length))
+            code = LIBRARY.laspidru_client_did_change(byref(self._handle), name, len(name), version_number(version), edits, count,
+                                                      texts, len(texts), byref(fault), byref(length))
             demand_change(code, fault)
             return self._frame(length.value)
 
     def close(self, uri: str) -> bytes:
         """Closes a document: `textDocument/didClose`."""
         name = utf8(uri)
-        return self.__call("close", name, len(name))
+        return self.__call("did_close", name, len(name))
 
     def shutdown(self) -> bytes:
         """Asks the server to shut down."""

@@ -52,7 +52,7 @@ def _run(name: str, log: Any, saved: Optional[bytes] = None, /, *, at: Optional[
             demand(code)
         output = copy_out(LIBRARY.laspidru_output_copy, ending.output_len, byref(handle))
     finally:
-        LIBRARY.laspidru_close(byref(handle))
+        LIBRARY.laspidru_handle_free(byref(handle))
     if code:
         raise LogFault(NAMES[code], ending.offset, ending.frame, output)
     if ending.missing:

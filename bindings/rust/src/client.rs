@@ -118,7 +118,7 @@ impl Client {
     /// would be too long, and [`Error::OutOfMemory`].
     pub fn open(&mut self, uri: &str, language: &str, version: i32, text: &str) -> Result<Vec<u8>, Error> {
         let mut len = 0;
-        self.frame(self.handle.client_open(uri, language, version, text, &mut len), len)
+        self.frame(self.handle.client_did_open(uri, language, version, text, &mut len), len)
     }
 
     /// Changes a document, and returns the frame of one `textDocument/didChange`, with the canonical batch, or where the server
@@ -130,8 +130,8 @@ impl Client {
     pub fn edit(&mut self, uri: &str, version: i32, changes: &[Change]) -> Result<Vec<u8>, Error> {
         let (edits, texts) = batch(changes);
         let (mut fault, mut len) = (ffi::Fault::default(), 0);
-        demand_change(self.handle.client_edit(uri, version, &edits, &texts, &mut fault, &mut len), &fault)?;
-        Ok(self.handle.frame(len))
+        demand_change(self.handle.client_did_change(uri, version, &edits, &texts, &mut fault, &mut len), &fault)?;
+        Ok(self.handle.session_frame(len))
     }
 
     /// Closes a document, and returns the frame of `textDocument/didClose`.
@@ -140,7 +140,7 @@ impl Client {
     /// As those of [`Client::open`].
     pub fn close(&mut self, uri: &str) -> Result<Vec<u8>, Error> {
         let mut len = 0;
-        self.frame(self.handle.client_close(uri, &mut len), len)
+        self.frame(self.handle.client_did_close(uri, &mut len), len)
     }
 
     /// Asks the server to shut down, and returns the frame of `shutdown`.
@@ -179,13 +179,13 @@ impl Client {
     /// [`Error::WrongPhase`] in [`Phase::New`], [`Phase::Done`] and [`Phase::Failed`], and [`Error::OutOfMemory`].
     pub fn deliver(&mut self, body: &[u8]) -> Result<Delivered, Error> {
         let mut answer = ffi::Answer::default();
-        demand(self.handle.deliver(body, &mut answer))?;
+        demand(self.handle.session_deliver(body, &mut answer))?;
         Ok(self.delivered(&answer))
     }
 
     fn delivered(&self, answer: &ffi::Answer) -> Delivered {
         match answer.kind {
-            ffi::REPLIED => Delivered::Send(self.handle.frame(answer.reply_len)),
+            ffi::REPLIED => Delivered::Send(self.handle.session_frame(answer.reply_len)),
             ffi::NOTED => Delivered::Noted,
             ffi::IGNORED => Delivered::Ignored,
             ffi::BAD_SERVER => Delivered::BadServer(reason(answer.reason)),
@@ -215,7 +215,7 @@ impl Client {
 
     fn frame(&self, code: u32, len: usize) -> Result<Vec<u8>, Error> {
         demand(code)?;
-        Ok(self.handle.frame(len))
+        Ok(self.handle.session_frame(len))
     }
 }
 

@@ -24,7 +24,7 @@ pub type Lifecycle = unsafe extern "C" fn(*mut Raw, *mut usize) -> u32;
 pub fn text(code: u32) -> String {
     let (mut bytes, mut len) = ([0; 120], 0);
     // SAFETY: the pointer is that of an array, with its length.
-    let found = unsafe { laspidru_text(code, 0, bytes.as_mut_ptr(), bytes.len(), &mut len) };
+    let found = unsafe { laspidru_code_text(code, 0, bytes.as_mut_ptr(), bytes.len(), &mut len) };
     if found == OK {
         String::from_utf8_lossy(&bytes[..len]).into_owned()
     } else {
@@ -60,7 +60,7 @@ unsafe impl Send for Handle {}
 impl Drop for Handle {
     fn drop(&mut self) {
         // SAFETY: as for each call below. The library closes any handle.
-        unsafe { laspidru_close(self.0.get_mut()) }
+        unsafe { laspidru_handle_free(self.0.get_mut()) }
     }
 }
 
@@ -84,8 +84,8 @@ impl Handle {
         bytes
     }
 
-    pub fn document_open(&self, text: &str) -> u32 {
-        unsafe { laspidru_document_open(&mut *self.0.borrow_mut(), text.as_ptr(), text.len()) }
+    pub fn document_new(&self, text: &str) -> u32 {
+        unsafe { laspidru_document_new(&mut *self.0.borrow_mut(), text.as_ptr(), text.len()) }
     }
 
     fn with_batch<F>(&self, call: Changing<F>, encoding: u32, edits: &[Edit], texts: &[u8], fault: &mut F) -> u32 {
@@ -165,6 +165,11 @@ impl Handle {
         unsafe { laspidru_framer_feed(&mut *self.0.borrow_mut(), piece.as_ptr(), piece.len(), taken) }
     }
 
+    /// The body of the message that is buffered, which has so many bytes.
+    pub fn framer_body(&self, len: usize) -> Vec<u8> {
+        self.copied(laspidru_framer_body, 0, len)
+    }
+
     pub fn framer_next(&self) -> u32 {
         unsafe { laspidru_framer_next(&mut *self.0.borrow_mut()) }
     }
@@ -185,13 +190,15 @@ impl Handle {
         unsafe { call(&mut *self.0.borrow_mut(), len) }
     }
 
-    pub fn client_open(&self, uri: &str, language: &str, version: i32, text: &str, len: &mut usize) -> u32 {
+    pub fn client_did_open(&self, uri: &str, language: &str, version: i32, text: &str, len: &mut usize) -> u32 {
         let (handle, uri_len, language_len) = (&mut *self.0.borrow_mut(), uri.len(), language.len());
         let (uri, language) = (uri.as_ptr(), language.as_ptr());
-        unsafe { laspidru_client_open(handle, uri, uri_len, language, language_len, version, text.as_ptr(), text.len(), len) }
+        unsafe {
+            laspidru_client_did_open(handle, uri, uri_len, language, language_len, version, text.as_ptr(), text.len(), len)
+        }
     }
 
-    pub fn client_edit(
+    pub fn client_did_change(
         &self,
         uri: &str,
         version: i32,
@@ -202,29 +209,29 @@ impl Handle {
     ) -> u32 {
         let (handle, count, texts_len) = (&mut *self.0.borrow_mut(), edits.len(), texts.len());
         let (name, edits, texts) = (uri.as_ptr(), edits.as_ptr(), texts.as_ptr());
-        unsafe { laspidru_client_edit(handle, name, uri.len(), version, edits, count, texts, texts_len, fault, len) }
+        unsafe { laspidru_client_did_change(handle, name, uri.len(), version, edits, count, texts, texts_len, fault, len) }
     }
 
-    pub fn client_close(&self, uri: &str, len: &mut usize) -> u32 {
-        unsafe { laspidru_client_close(&mut *self.0.borrow_mut(), uri.as_ptr(), uri.len(), len) }
+    pub fn client_did_close(&self, uri: &str, len: &mut usize) -> u32 {
+        unsafe { laspidru_client_did_close(&mut *self.0.borrow_mut(), uri.as_ptr(), uri.len(), len) }
     }
 
-    pub fn take(&self, piece: &[u8], taken: &mut Taken, answer: &mut Answer) -> u32 {
-        unsafe { laspidru_take(&mut *self.0.borrow_mut(), piece.as_ptr(), piece.len(), taken, answer) }
+    pub fn session_feed(&self, piece: &[u8], taken: &mut Taken, answer: &mut Answer) -> u32 {
+        unsafe { laspidru_session_feed(&mut *self.0.borrow_mut(), piece.as_ptr(), piece.len(), taken, answer) }
     }
 
     /// The body of the message that was taken last, which has so many bytes.
-    pub fn body(&self, len: usize) -> Vec<u8> {
-        self.copied(laspidru_body, 0, len)
+    pub fn session_body(&self, len: usize) -> Vec<u8> {
+        self.copied(laspidru_session_body, 0, len)
     }
 
-    pub fn deliver(&self, body: &[u8], answer: &mut Answer) -> u32 {
-        unsafe { laspidru_deliver(&mut *self.0.borrow_mut(), body.as_ptr(), body.len(), answer) }
+    pub fn session_deliver(&self, body: &[u8], answer: &mut Answer) -> u32 {
+        unsafe { laspidru_session_deliver(&mut *self.0.borrow_mut(), body.as_ptr(), body.len(), answer) }
     }
 
     /// The frame to send, which has so many bytes.
-    pub fn frame(&self, len: usize) -> Vec<u8> {
-        self.copied(laspidru_frame, 0, len)
+    pub fn session_frame(&self, len: usize) -> Vec<u8> {
+        self.copied(laspidru_session_frame, 0, len)
     }
 
     pub fn state(&self) -> State {
@@ -237,7 +244,7 @@ impl Handle {
     /// The open document of a URI.
     pub fn opened(&self, uri: &str) -> Option<Opened> {
         let mut opened = Opened::default();
-        match unsafe { laspidru_open_state(&mut *self.0.borrow_mut(), uri.as_ptr(), uri.len(), &mut opened) } {
+        match unsafe { laspidru_session_document_state(&mut *self.0.borrow_mut(), uri.as_ptr(), uri.len(), &mut opened) } {
             OK => Some(opened),
             NOT_OPEN => None,
             code => unreachable!("code {code} of a full handle and a URI in UTF-8"),
@@ -254,7 +261,7 @@ impl Handle {
     fn part(&self, uri: &str, start: usize, len: usize) -> String {
         let (mut bytes, mut count) = (vec![0; len], 0);
         let (handle, name, out) = (&mut *self.0.borrow_mut(), uri.as_ptr(), bytes.as_mut_ptr());
-        let code = unsafe { laspidru_open_text(handle, name, uri.len(), start, out, len, &mut count) };
+        let code = unsafe { laspidru_session_document_text(handle, name, uri.len(), start, out, len, &mut count) };
         assert_eq!((code, count), (OK, len), "the document has these bytes");
         String::from_utf8(bytes).expect("the library keeps UTF-8")
     }
@@ -262,7 +269,8 @@ impl Handle {
     /// A line of the open document of a URI, if there is one, without its line end.
     pub fn line(&self, uri: &str, number: u32) -> Option<String> {
         let mut line = Line::default();
-        let code = unsafe { laspidru_open_line(&mut *self.0.borrow_mut(), uri.as_ptr(), uri.len(), number, &mut line) };
+        let code =
+            unsafe { laspidru_session_document_line(&mut *self.0.borrow_mut(), uri.as_ptr(), uri.len(), number, &mut line) };
         match code {
             OK => Some(self.part(uri, line.start, line.end - line.start)),
             NOT_OPEN | OUT_OF_RANGE => None,
@@ -273,18 +281,18 @@ impl Handle {
     /// The byte offset of a position in the open document of a URI.
     pub fn offset(&self, uri: &str, encoding: u32, position: Position) -> Result<Option<usize>, Error> {
         let (handle, name, mut offset) = (&mut *self.0.borrow_mut(), uri.as_ptr(), 0);
-        let code = unsafe { laspidru_open_offset(handle, name, uri.len(), encoding, position, &mut offset) };
+        let code = unsafe { laspidru_session_document_offset(handle, name, uri.len(), encoding, position, &mut offset) };
         in_open(code, offset)
     }
 
     /// The exact position of a byte offset in the open document of a URI.
     pub fn position(&self, uri: &str, encoding: u32, offset: usize) -> Result<Option<Position>, Error> {
         let (handle, name, mut position) = (&mut *self.0.borrow_mut(), uri.as_ptr(), Position::default());
-        let code = unsafe { laspidru_open_position(handle, name, uri.len(), encoding, offset, &mut position) };
+        let code = unsafe { laspidru_session_document_position(handle, name, uri.len(), encoding, offset, &mut position) };
         in_open(code, position)
     }
 
-    pub fn open_batch_of_edits(
+    pub fn session_batch_of_edits(
         &self,
         uri: &str,
         encoding: u32,
@@ -295,11 +303,13 @@ impl Handle {
     ) -> u32 {
         let (handle, batch, count, len) = (&mut *self.0.borrow_mut(), &mut *batch.0.borrow_mut(), edits.len(), texts.len());
         let (name, edits, texts) = (uri.as_ptr(), edits.as_ptr(), texts.as_ptr());
-        unsafe { laspidru_open_batch_of_edits(handle, name, uri.len(), encoding, edits, count, texts, len, batch, fault) }
+        unsafe {
+            laspidru_session_document_batch_of_edits(handle, name, uri.len(), encoding, edits, count, texts, len, batch, fault)
+        }
     }
 
     /// The frame of a canonical message, or the code of why there is none.
-    pub fn open_canonical_message(
+    pub fn session_canonical_message(
         &self,
         uri: &str,
         version: i32,
@@ -311,7 +321,7 @@ impl Handle {
         let (output, mut frame_len, count, len) = (Handle::empty(), 0, edits.len(), texts.len());
         let (name, edits, texts) = (uri.as_ptr(), edits.as_ptr(), texts.as_ptr());
         let code = unsafe {
-            laspidru_open_canonical_message(
+            laspidru_session_document_canonical_message(
                 &mut *self.0.borrow_mut(),
                 name,
                 uri.len(),

@@ -45,7 +45,7 @@ impl Framer {
     /// [`Error::OutOfMemory`] the same call continues.
     pub fn next_body(&mut self) -> Result<Option<Vec<u8>>, Error> {
         let Some(len) = self.received.take(|piece, taken| self.handle.framer_feed(piece, taken))? else { return Ok(None) };
-        let body = self.handle.body(len);
+        let body = self.handle.framer_body(len);
         assert_eq!(self.handle.framer_next(), ffi::OK, "the handle of a framer is full");
         Ok(Some(body))
     }

@@ -262,7 +262,7 @@ impl Document {
     /// [`Refusal::TooLong`] if the text has more than 1,073,741,824 bytes, else [`Error::OutOfMemory`].
     pub fn new(text: &str, encoding: Encoding) -> Result<Self, Error> {
         let handle = ffi::Handle::empty();
-        demand(handle.document_open(text))?;
+        demand(handle.document_new(text))?;
         Ok(Document { handle, text: OnceCell::new(), encoding })
     }
 

@@ -54,7 +54,7 @@ impl Received {
     /// Hands what is left to an end of a session: the body of the message that ends there, and the end's answer.
     pub fn take_by(&mut self, handle: &ffi::Handle) -> Result<Option<(Vec<u8>, ffi::Answer)>, Error> {
         let mut answer = ffi::Answer::default();
-        let len = self.take(|piece, taken| handle.take(piece, taken, &mut answer))?;
-        Ok(len.map(|len| (handle.body(len), answer)))
+        let len = self.take(|piece, taken| handle.session_feed(piece, taken, &mut answer))?;
+        Ok(len.map(|len| (handle.session_body(len), answer)))
     }
 }

@@ -162,15 +162,16 @@ impl Server {
     /// [`Error::Ended`] after `exit`, and [`Error::OutOfMemory`]: then the same body can be passed again.
     pub fn handle(&mut self, body: &[u8]) -> Result<Answer, Error> {
         let mut answer = ffi::Answer::default();
-        demand(self.handle.deliver(body, &mut answer))?;
+        demand(self.handle.session_deliver(body, &mut answer))?;
         Ok(self.answered(&answer))
     }
 
     fn answered(&self, answer: &ffi::Answer) -> Answer {
         match answer.kind {
-            ffi::REPLIED => {
-                Answer::Reply { frame: self.handle.frame(answer.reply_len), code: (answer.error != 0).then_some(answer.error) }
-            }
+            ffi::REPLIED => Answer::Reply {
+                frame: self.handle.session_frame(answer.reply_len),
+                code: (answer.error != 0).then_some(answer.error),
+            },
             ffi::CHANGED => Answer::Changed,
             ffi::DROPPED => Answer::Dropped,
             ffi::IGNORED => Answer::Ignored,

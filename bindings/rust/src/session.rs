@@ -57,7 +57,7 @@ macro_rules! session {
             pub fn batch_of_edits(&self, uri: &str, edits: &[TextEdit]) -> Result<Option<Vec<Change>>, Error> {
                 let (passed, texts) = passed_edits(edits);
                 let (mut fault, found) = (ffi::EditsFault::default(), ffi::Handle::empty());
-                match self.handle.open_batch_of_edits(uri, self.units(), &passed, texts.as_bytes(), &found, &mut fault) {
+                match self.handle.session_batch_of_edits(uri, self.units(), &passed, texts.as_bytes(), &found, &mut fault) {
                     ffi::NOT_OPEN => Ok(None),
                     code => demand_edits(code, &fault).map(|()| Some(changes_of(&found))),
                 }
@@ -72,7 +72,7 @@ macro_rules! session {
             pub fn canonical_message(&self, uri: &str, version: i32, changes: &[Change]) -> Result<Vec<u8>, Error> {
                 let (edits, texts) = batch(changes);
                 let mut fault = ffi::Fault::default();
-                let frame = self.handle.open_canonical_message(uri, version, self.units(), &edits, &texts, &mut fault);
+                let frame = self.handle.session_canonical_message(uri, version, self.units(), &edits, &texts, &mut fault);
                 frame.map_err(|code| Error::of(code, &fault))
             }
 

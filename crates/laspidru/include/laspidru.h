@@ -4,13 +4,14 @@
    codes mean: both in share/doc/laspidru once installed (of Debian's package in share/doc/liblaspidru-dev). The end of
    this file has the codes of each function.
 
-   Each function but laspidru_close and laspidru_version tests the bytes, numbers and handles that it is passed, and
+   Each function but laspidru_handle_free and laspidru_version tests the bytes, numbers and handles that it is passed, and
    returns a code. Pointers, lengths and bools are yours (CODES.md). Where the code isn't LASPIDRU_OK nothing has changed;
    only after the four faults of a log, 20 to 23, the output up to the fault is kept, after LASPIDRU_BAD_FRAME no more of a
-   stream is taken, and laspidru_take releases the message of before, and may have taken one that it couldn't handle yet.
+   stream is taken, and laspidru_session_feed releases the message of before, and may have taken one that it couldn't handle
+   yet.
    LASPIDRU_OUT_OF_MEMORY may come in place of LASPIDRU_OK, and of each code after it in the call's row.
    A handle of zeroes is empty. It is given to one call at a time, and never copied while it is full; it may be used
-   by any thread. What a handle holds is freed by laspidru_close. Pointers are never null, also where a length is 0. */
+   by any thread. What a handle holds is freed by laspidru_handle_free. Pointers are never null, also where a length is 0. */
 #ifndef LASPIDRU_H
 #define LASPIDRU_H
 
@@ -30,7 +31,7 @@ typedef __UINT64_TYPE__ laspidru_u64;
 #define LASPIDRU_VERSION_NUMBER 100
 #define LASPIDRU_VERSION "0.1.0"
 
-/* Codes. laspidru_text says what each means. */
+/* Codes. laspidru_code_text says what each means. */
 enum {
     LASPIDRU_OK = 0,
     LASPIDRU_NOT_UTF8 = 1,
@@ -165,7 +166,7 @@ typedef struct laspidru_length {
    `is_fixed`, the one that it takes whatever is offered. LSP 3.17 allows one that was offered, or UTF-16: fix another only for
    logs, or where you write the editor too. Where `is_full` it asks for whole texts, else for ranges. */
 typedef struct laspidru_settings {
-    laspidru_size max_body;    /* 4,096 to 1,073,741,824 bytes of a message of its stream; laspidru_deliver takes any body */
+    laspidru_size max_body;    /* 4,096 to 1,073,741,824 bytes of a message of its stream; session_deliver takes any body */
     laspidru_size max_text;    /* up to 1,073,741,824 bytes */
     laspidru_size max_docs;    /* 1 to 65,536 */
     laspidru_size max_changes; /* 1 to 1,048,576 in a message */
@@ -184,7 +185,7 @@ typedef struct laspidru_answer {
     laspidru_u32 reason;     /* REFUSED, BAD_SERVER: the code that says why */
     laspidru_u32 status;     /* EXITED: 0 after shutdown, else 1 */
     laspidru_i32 error;      /* REPLIED: the number of an error reply (LSP 3.17, ErrorCodes), 0 of a result */
-    laspidru_size reply_len; /* REPLIED: how many bytes laspidru_frame copies */
+    laspidru_size reply_len; /* REPLIED: how many bytes laspidru_session_frame copies */
 } laspidru_answer;
 
 /* What was taken of a piece of a stream, or where the stream is faulty. A member that isn't of the code is 0. */
@@ -209,7 +210,7 @@ typedef struct laspidru_client_settings {
 
 #define LASPIDRU_CLIENT_SETTINGS_DEFAULT {16777216, 16777216, 1024, 65536, 0, 0, 0}
 
-/* The state of an end's session. */
+/* The state of a session. */
 typedef struct laspidru_state {
     laspidru_u32 phase;      /* LASPIDRU_PHASE_NEW .. LASPIDRU_PHASE_FAILED */
     laspidru_u32 reason;     /* PHASE_FAILED: the code that says why; else 0 */
@@ -259,14 +260,14 @@ laspidru_u32 laspidru_version(void);
 
 /* Copies what a code means from `start` on, as many bytes as `out` holds, and says how many: its name, a colon, a blank and a
    sentence, as "EMPTY: the handle is empty". It has at most 120 bytes, and no byte 0 at its end. */
-laspidru_u32 laspidru_text(laspidru_u32 code, laspidru_size start, unsigned char *out, laspidru_size out_len,
+laspidru_u32 laspidru_code_text(laspidru_u32 code, laspidru_size start, unsigned char *out, laspidru_size out_len,
     laspidru_size *copied);
 
-/* Opens a document in an empty handle, by a copy of the text. */
-laspidru_u32 laspidru_document_open(laspidru_handle *document, const unsigned char *text, laspidru_size text_len);
+/* Makes a document in an empty handle, of a copy of the text. */
+laspidru_u32 laspidru_document_new(laspidru_handle *document, const unsigned char *text, laspidru_size text_len);
 
 /* Frees what a handle holds, and leaves it empty. */
-void laspidru_close(laspidru_handle *handle);
+void laspidru_handle_free(laspidru_handle *handle);
 
 /* Makes the changes of a didChange, in order, or none of them. The texts of the edits follow each other in `texts`.
    With INSIDE_CHARACTER and REVERSED_RANGE `fault` says which change is faulty. */
@@ -320,7 +321,7 @@ laspidru_u32 laspidru_batch_len(laspidru_handle *batch, laspidru_size *len);
 laspidru_u32 laspidru_batch_edit(laspidru_handle *batch, laspidru_size index, laspidru_edit *edit,
     unsigned char *out, laspidru_size out_len, laspidru_size *copied);
 
-/* ---- A framer takes a stream apart: feed, then laspidru_body and next for each message, until all of the piece was taken.
+/* ---- A framer takes a stream apart: feed, then body and next for each message, until all of the piece was taken.
 
    Makes a framer in an empty handle, at the start of a stream. A body may have 4,096 to 1,073,741,824 bytes. */
 laspidru_u32 laspidru_framer_new(laspidru_handle *framer, laspidru_size max_body);
@@ -329,6 +330,10 @@ laspidru_u32 laspidru_framer_new(laspidru_handle *framer, laspidru_size max_body
    buffered it takes none. After LASPIDRU_BAD_FRAME no more is taken. */
 laspidru_u32 laspidru_framer_feed(laspidru_handle *framer, const unsigned char *piece, laspidru_size piece_len,
     laspidru_taken *taken);
+
+/* Copies the bytes of the whole message's body from `start` on, as many as `out` holds, and says how many. */
+laspidru_u32 laspidru_framer_body(laspidru_handle *framer, laspidru_size start,
+    unsigned char *out, laspidru_size out_len, laspidru_size *copied);
 
 /* Releases the whole message, so that the next one is taken. Where none is whole it does nothing. */
 laspidru_u32 laspidru_framer_next(laspidru_handle *framer);
@@ -342,26 +347,26 @@ laspidru_u32 laspidru_framer_at_rest(laspidru_handle *framer, laspidru_bool *at_
 laspidru_u32 laspidru_server_new(laspidru_handle *server, const laspidru_settings *settings);
 
 /* Makes a client in an empty handle, at the start of a session. It keeps an editor's documents and says what to send: each of
-   its calls that is done leaves a frame in it, which laspidru_frame copies, `frame_len` bytes. */
+   its calls that is done leaves a frame in it, which laspidru_session_frame copies, `frame_len` bytes. */
 laspidru_u32 laspidru_client_new(laspidru_handle *client, const laspidru_client_settings *settings);
 
 /* initialize, in phase NEW, which becomes ASKED. */
 laspidru_u32 laspidru_client_start(laspidru_handle *client, laspidru_size *frame_len);
 
 /* textDocument/didOpen, in phase READY. */
-laspidru_u32 laspidru_client_open(laspidru_handle *client, const unsigned char *uri, laspidru_size uri_len,
+laspidru_u32 laspidru_client_did_open(laspidru_handle *client, const unsigned char *uri, laspidru_size uri_len,
     const unsigned char *language, laspidru_size language_len, laspidru_i32 version,
     const unsigned char *text, laspidru_size text_len, laspidru_size *frame_len);
 
 /* One textDocument/didChange, in phase READY: the canonical batch of these changes, or where the server asked for it the
    whole text. Positions are in the encoding that was agreed on. The version must be greater than the current one,
    unless the limits are lenient. With INSIDE_CHARACTER and REVERSED_RANGE `fault` says which change is faulty. */
-laspidru_u32 laspidru_client_edit(laspidru_handle *client, const unsigned char *uri, laspidru_size uri_len,
+laspidru_u32 laspidru_client_did_change(laspidru_handle *client, const unsigned char *uri, laspidru_size uri_len,
     laspidru_i32 version, const laspidru_edit *edits, laspidru_size edits_len, const unsigned char *texts,
     laspidru_size texts_len, laspidru_fault *fault, laspidru_size *frame_len);
 
 /* textDocument/didClose, in phase READY. */
-laspidru_u32 laspidru_client_close(laspidru_handle *client, const unsigned char *uri, laspidru_size uri_len,
+laspidru_u32 laspidru_client_did_close(laspidru_handle *client, const unsigned char *uri, laspidru_size uri_len,
     laspidru_size *frame_len);
 
 /* shutdown, in phase READY, which becomes CLOSING. */
@@ -370,68 +375,70 @@ laspidru_u32 laspidru_client_shutdown(laspidru_handle *client, laspidru_size *fr
 /* exit, in phase CLOSED, which becomes DONE. */
 laspidru_u32 laspidru_client_exit(laspidru_handle *client, laspidru_size *frame_len);
 
-/* ---- Either end, a server or a client.
+/* ---- A session: either end of it, a server or a client.
 
    Takes bytes of the next piece of the other end's stream: all of them, or those up to the end of one message, which it
-   handles. `taken` says how many. Once the message is whole, `answer` is what laspidru_deliver answers, and the body can be
-   copied until the next call; before, it stays as it is. With LASPIDRU_FAILED and LASPIDRU_BAD_FRAME no byte was taken. With
-   LASPIDRU_OUT_OF_MEMORY `taken->bytes` may be more than 0: a message is whole then, and the next call handles it first, also
-   with a `piece_len` of 0. With LASPIDRU_EMPTY, LASPIDRU_OTHER_KIND, LASPIDRU_ENDED of a server and LASPIDRU_WRONG_PHASE of a
-   client nothing is written; with each other code the message of before is released, and laspidru_body no longer copies it. */
-laspidru_u32 laspidru_take(laspidru_handle *end, const unsigned char *piece, laspidru_size piece_len,
+   handles. `taken` says how many. Once the message is whole, `answer` is what laspidru_session_deliver answers, and the body
+   can be copied until the next call; before, it stays as it is. With LASPIDRU_FAILED and LASPIDRU_BAD_FRAME no byte was taken.
+   With LASPIDRU_OUT_OF_MEMORY `taken->bytes` may be more than 0: a message is whole then, and the next call handles it first,
+   also with a `piece_len` of 0. With LASPIDRU_EMPTY, LASPIDRU_OTHER_KIND, LASPIDRU_ENDED of a server and LASPIDRU_WRONG_PHASE
+   of a client nothing is written; with each other code the message of before is released, and laspidru_session_body no longer
+   copies it. */
+laspidru_u32 laspidru_session_feed(laspidru_handle *session, const unsigned char *piece, laspidru_size piece_len,
     laspidru_taken *taken, laspidru_answer *answer);
 
-/* Copies the bytes of the body that laspidru_take took last, or that a framer has buffered, from `start` on, as many as `out`
-   holds, and says how many. To a server a message is yours whose answer is IGNORED, and so is a request whose reply has the
-   error -32601. To a client a notification is, which is IGNORED, and so is a request, to which the frame is an error reply. */
-laspidru_u32 laspidru_body(laspidru_handle *end_or_framer, laspidru_size start,
+/* Copies the bytes of the body that laspidru_session_feed took last from `start` on, as many as `out` holds, and says how
+   many. To a server a message is yours whose answer is IGNORED, and so is a request whose reply has the error -32601. To a
+   client a notification is, which is IGNORED, and so is a request, to which the frame is an error reply. */
+laspidru_u32 laspidru_session_body(laspidru_handle *session, laspidru_size start,
     unsigned char *out, laspidru_size out_len, laspidru_size *copied);
 
 /* Hands the body of a message to an end: the bytes after its header. It is for who takes the stream apart. A client listens
    from ASKED to CLOSED. REPLIED says that there is a frame to send, `reply_len` bytes: a server's reply; of a client
    initialized after the response to initialize, else an error reply to a request. After LASPIDRU_OUT_OF_MEMORY the same body
    can be handed in again. */
-laspidru_u32 laspidru_deliver(laspidru_handle *end, const unsigned char *body, laspidru_size body_len, laspidru_answer *answer);
+laspidru_u32 laspidru_session_deliver(laspidru_handle *session, const unsigned char *body, laspidru_size body_len,
+    laspidru_answer *answer);
 
 /* Copies the bytes of the frame to send from `start` on, as many as `out` holds, and says how many. It is whole, with its
    header, and stays until the next call or message that is done. Where that sent none it has no bytes. */
-laspidru_u32 laspidru_frame(laspidru_handle *end, laspidru_size start,
+laspidru_u32 laspidru_session_frame(laspidru_handle *session, laspidru_size start,
     unsigned char *out, laspidru_size out_len, laspidru_size *copied);
 
 /* The phase, the encoding, and how many documents are open. */
-laspidru_u32 laspidru_session_state(laspidru_handle *end, laspidru_state *state);
+laspidru_u32 laspidru_session_state(laspidru_handle *session, laspidru_state *state);
 
 /* Copies the URI of the document that a body opens, changes or closes: a client's notification. NO_DOCUMENT says that it does
    none of these. */
 laspidru_u32 laspidru_message_uri(const unsigned char *body, laspidru_size body_len, laspidru_size start,
     unsigned char *out, laspidru_size out_len, laspidru_size *copied);
 
-/* ---- An end's open documents. URIs are compared byte for byte.
+/* ---- A session's open documents. URIs are compared byte for byte.
 
    The version and the length of the open document of a URI. */
-laspidru_u32 laspidru_open_state(laspidru_handle *end, const unsigned char *uri, laspidru_size uri_len,
+laspidru_u32 laspidru_session_document_state(laspidru_handle *session, const unsigned char *uri, laspidru_size uri_len,
     laspidru_opened *document);
 
 /* Copies the bytes of an open document's text from `start` on, as many as `out` holds, and says how many. */
-laspidru_u32 laspidru_open_text(laspidru_handle *end, const unsigned char *uri, laspidru_size uri_len,
+laspidru_u32 laspidru_session_document_text(laspidru_handle *session, const unsigned char *uri, laspidru_size uri_len,
     laspidru_size start, unsigned char *out, laspidru_size out_len, laspidru_size *copied);
 
 /* The byte offset of a position in an open document, as laspidru_document_offset has it. So a request's position is resolved,
    as that of textDocument/hover: its `encoding` is that of laspidru_session_state. */
-laspidru_u32 laspidru_open_offset(laspidru_handle *end, const unsigned char *uri, laspidru_size uri_len,
+laspidru_u32 laspidru_session_document_offset(laspidru_handle *session, const unsigned char *uri, laspidru_size uri_len,
     laspidru_u32 encoding, laspidru_position position, laspidru_size *offset);
 
 /* The exact position of a byte offset in an open document. */
-laspidru_u32 laspidru_open_position(laspidru_handle *end, const unsigned char *uri, laspidru_size uri_len,
+laspidru_u32 laspidru_session_document_position(laspidru_handle *session, const unsigned char *uri, laspidru_size uri_len,
     laspidru_u32 encoding, laspidru_size offset, laspidru_position *position);
 
 /* Where a line of an open document, counted from 0, starts, and where it ends without its line end. */
-laspidru_u32 laspidru_open_line(laspidru_handle *end, const unsigned char *uri, laspidru_size uri_len,
+laspidru_u32 laspidru_session_document_line(laspidru_handle *session, const unsigned char *uri, laspidru_size uri_len,
     laspidru_u32 line, laspidru_line *range);
 
 /* As laspidru_document_batch_of_edits, on an open document, for a formatter's or a code action's text edits. The document
    stays as it is until they are reported. */
-laspidru_u32 laspidru_open_batch_of_edits(laspidru_handle *end, const unsigned char *uri, laspidru_size uri_len,
+laspidru_u32 laspidru_session_document_batch_of_edits(laspidru_handle *session, const unsigned char *uri, laspidru_size uri_len,
     laspidru_u32 encoding, const laspidru_edit *edits, laspidru_size edits_len, const unsigned char *texts,
     laspidru_size texts_len, laspidru_handle *batch, laspidru_edits_fault *fault);
 
@@ -439,8 +446,8 @@ laspidru_u32 laspidru_open_batch_of_edits(laspidru_handle *end, const unsigned c
    its own (with lenient limits under any), into the empty handle `output`. laspidru_output_copy copies it: `frame_len`
    bytes, with its header. The document stays as it is. With INSIDE_CHARACTER and REVERSED_RANGE `fault` says which change
    is faulty. */
-laspidru_u32 laspidru_open_canonical_message(laspidru_handle *end, const unsigned char *uri, laspidru_size uri_len,
-    laspidru_i32 version, laspidru_u32 encoding, const laspidru_edit *edits, laspidru_size edits_len,
+laspidru_u32 laspidru_session_document_canonical_message(laspidru_handle *session, const unsigned char *uri,
+    laspidru_size uri_len, laspidru_i32 version, laspidru_u32 encoding, const laspidru_edit *edits, laspidru_size edits_len,
     const unsigned char *texts, laspidru_size texts_len, laspidru_handle *output, laspidru_fault *fault,
     laspidru_size *frame_len);
 
@@ -470,16 +477,14 @@ laspidru_u32 laspidru_output_copy(laspidru_handle *output, laspidru_size start,
    BAD_ENCODING; BAD_LENGTH or NOT_UTF8 of the first such edit; IN_USE of the handle that is to be filled. Then it checks
    the handle that is to be full: EMPTY, OTHER_KIND. Then come:
 
-   batch_edit, document_copy, document_line, frame, output_copy, text: OUT_OF_RANGE
-   body: NO_MESSAGE, OUT_OF_RANGE
-   client_close: WRONG_PHASE; OUT_OF_MEMORY, or NOT_OPEN, or TOO_LONG of the message
-   client_edit: WRONG_PHASE; OUT_OF_MEMORY, or NOT_OPEN, STALE_VERSION, TOO_MANY_CHANGES, INSIDE_CHARACTER,
+   batch_edit, code_text, document_copy, document_line, output_copy, session_frame: OUT_OF_RANGE
+   client_did_change: WRONG_PHASE; OUT_OF_MEMORY, or NOT_OPEN, STALE_VERSION, TOO_MANY_CHANGES, INSIDE_CHARACTER,
       REVERSED_RANGE, TOO_LONG, also of a message that is too long
+   client_did_close: WRONG_PHASE; OUT_OF_MEMORY, or NOT_OPEN, or TOO_LONG of the message
+   client_did_open: WRONG_PHASE; OUT_OF_MEMORY, or ALREADY_OPEN, TOO_MANY_DOCUMENTS, TOO_LONG, also of a message that is
+      too long
    client_exit, client_shutdown, client_start: WRONG_PHASE; OUT_OF_MEMORY
    client_new: IN_USE, BAD_MAX_BODY, BAD_MAX_TEXT, BAD_MAX_DOCS, BAD_MAX_CHANGES; OUT_OF_MEMORY
-   client_open: WRONG_PHASE; OUT_OF_MEMORY, or ALREADY_OPEN, TOO_MANY_DOCUMENTS, TOO_LONG, also of a message that is too
-      long
-   deliver: ENDED of a server, WRONG_PHASE of a client; OUT_OF_MEMORY, after which the body may be passed again
    document_apply_edits: those of document_batch_of_edits without IN_USE, and TOO_LONG where the text that would be left
       is too long
    document_batch_of_edits: TOO_LONG; OUT_OF_MEMORY, or the fault; that is INSIDE_CHARACTER or REVERSED_RANGE of the
@@ -487,9 +492,10 @@ laspidru_u32 laspidru_output_copy(laspidru_handle *output, laspidru_size start,
    document_canonical: those of document_change, with IN_USE of batch before EMPTY
    document_change: TOO_LONG; OUT_OF_MEMORY, or INSIDE_CHARACTER, REVERSED_RANGE or TOO_LONG if there is no text after
       the batch
+   document_new: IN_USE, TOO_LONG, NOT_UTF8; OUT_OF_MEMORY
    document_offset: INSIDE_CHARACTER
-   document_open: IN_USE, TOO_LONG, NOT_UTF8; OUT_OF_MEMORY
    document_position: INSIDE_CHARACTER, also for an offset between CR and LF or past the end
+   framer_body, session_body: NO_MESSAGE, OUT_OF_RANGE
    framer_feed: FAILED; OUT_OF_MEMORY, or BAD_FRAME
    framer_new: IN_USE, BAD_MAX_BODY; OUT_OF_MEMORY
    log_compare: IN_USE; NOT_UTF8 of the URI or the saved text; BAD_ENCODING, BAD_MAX_BODY, BAD_MAX_TEXT, BAD_MAX_DOCS,
@@ -498,15 +504,16 @@ laspidru_u32 laspidru_output_copy(laspidru_handle *output, laspidru_size start,
       BAD_MAX_DOCS, BAD_MAX_CHANGES; OUT_OF_MEMORY, or the fault: CUT, BAD_FRAME, BAD_LOG, of normalise also
       BODY_TOO_LONG
    message_uri: OUT_OF_MEMORY; NO_DOCUMENT of any other body, OUT_OF_RANGE
-   open_batch_of_edits: NOT_OPEN, TOO_LONG; OUT_OF_MEMORY, or the fault, as of document_batch_of_edits
-   open_canonical_message: OUT_OF_MEMORY, or NOT_OPEN, STALE_VERSION, TOO_MANY_CHANGES, INSIDE_CHARACTER,
-      REVERSED_RANGE, TOO_LONG, also of a message that is too long
-   open_line, open_text: NOT_OPEN, OUT_OF_RANGE
-   open_offset: NOT_OPEN, INSIDE_CHARACTER
-   open_position: NOT_OPEN; INSIDE_CHARACTER, also for an offset between CR and LF or past the end
-   open_state: NOT_OPEN
    server_new: IN_USE, BAD_ENCODING, BAD_MAX_BODY, BAD_MAX_TEXT, BAD_MAX_DOCS, BAD_MAX_CHANGES; OUT_OF_MEMORY
-   take: ENDED of a server, WRONG_PHASE of a client; FAILED; OUT_OF_MEMORY, or BAD_FRAME
+   session_deliver: ENDED of a server, WRONG_PHASE of a client; OUT_OF_MEMORY, after which the body may be passed again
+   session_document_batch_of_edits: NOT_OPEN, TOO_LONG; OUT_OF_MEMORY, or the fault, as of document_batch_of_edits
+   session_document_canonical_message: OUT_OF_MEMORY, or NOT_OPEN, STALE_VERSION, TOO_MANY_CHANGES, INSIDE_CHARACTER,
+      REVERSED_RANGE, TOO_LONG, also of a message that is too long
+   session_document_line, session_document_text: NOT_OPEN, OUT_OF_RANGE
+   session_document_offset: NOT_OPEN, INSIDE_CHARACTER
+   session_document_position: NOT_OPEN; INSIDE_CHARACTER, also for an offset between CR and LF or past the end
+   session_document_state: NOT_OPEN
+   session_feed: ENDED of a server, WRONG_PHASE of a client; FAILED; OUT_OF_MEMORY, or BAD_FRAME
 */
 
 #ifdef __cplusplus

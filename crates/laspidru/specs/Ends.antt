@@ -1,6 +1,6 @@
 -- What either end of a session does with a body, and what is asked of it and of its documents.
 use Rattle.std.specs.Prelude.{◌≡◌, if◌then◌else◌, ◌⊎◌}
-use Rattle.laspidru.specs.Prelude.{ℕ, List, length, option_map, Option, Some, None, Result, Ok, Err, ok_or, FramerData, Encoding, Utf8, Utf16, Utf32, StoreData, entry_at, as_sent, Step, step, Delivery, delivery_of, is_listening, Answer, ENDED, NOT_OPEN, OK, OTHER_KIND, WRONG_PHASE, Object, End, Framer, Party, Server, Client, true, OUT_OF_MEMORY, Taken, and_then, unless, EndData, Stream}
+use Rattle.laspidru.specs.Prelude.{ℕ, List, length, option_map, Option, Some, None, Result, Ok, Err, ok_or, Encoding, Utf8, Utf16, Utf32, StoreData, entry_at, as_sent, Step, step, Delivery, delivery_of, is_listening, Answer, ENDED, NOT_OPEN, OK, OTHER_KIND, WRONG_PHASE, Object, End, Party, Server, Client, true, OUT_OF_MEMORY, Taken, and_then, unless, EndData, Stream}
 use Rattle.lsp_message.specs.Message.{reading}
 use Rattle.lsp_message.specs.Params.{DocumentItem}
 use Rattle.lsp_server.specs.declared.phase.Phase.{Phase}
@@ -128,12 +128,6 @@ IsTaken old piece code new taken before after =
     ⊎ IsOneTaken old piece code new taken after
 
 -- ---- what is asked of it
-
--- The framer of an object, or that of its end's stream.
-abbrev pub as_framing : Object → Result FramerData ℕ
-as_framing (Framer framing) = Ok framing
-as_framing (End held) = Ok held.stream.framing
-as_framing other = Err OTHER_KIND
 
 -- The open documents of an end, and its limits.
 abbrev pub store_in : Party → StoreData

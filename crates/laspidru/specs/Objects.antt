@@ -24,7 +24,7 @@ in_handle read None = Err EMPTY
 abbrev pub uri_asked : List ℕ → Result (List ℕ) ℕ
 uri_asked uri = if is_utf8 uri then Ok uri else Err NOT_UTF8
 
--- A text to be opened, if it isn't too long and is UTF-8.
+-- The text of a new document, if it isn't too long and is UTF-8.
 abbrev pub text_asked : List ℕ → Result (List ℕ) ℕ
 text_asked text =
     if nat_lt MAX_OLD_TEXT (length text) then Err TOO_LONG else uri_asked text

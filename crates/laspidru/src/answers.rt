@@ -18,8 +18,8 @@ use lsp_store::StoreFault;
 use std::alloc::Global;
 
 /// The set-up of a server: its limits, the number of its encoding, and its kind of synchronisation.
-/// With `is_fixed` the server insists on the encoding, else it prefers it. With `is_full` it asks
-/// for whole texts. With `lenient` its limits are lenient.
+/// With `is_fixed` the server insists on the encoding, else it prefers it. With `is_full` it
+/// asks for whole texts, else for ranges. With `lenient` its limits are lenient.
 #[repr(C)]
 #[derive(Clone, Copy, Debug, PartialEq, Eq)]
 pub struct Settings {

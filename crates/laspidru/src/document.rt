@@ -23,17 +23,17 @@ use lsp_text::Encoding;
 use std::alloc::{AllocError, Global};
 
 /// Makes a document of a copy of a text.
-fn opened(alloc: Global, text: &str) -> Result<IndexedText, AllocError>
+fn document_of(alloc: Global, text: &str) -> Result<IndexedText, AllocError>
     requires { length text.now ≤ MAX_OLD_TEXT }
     ensures { IfOk result (λ document. document ≡ text.now) }
 {
     IndexedText::new(alloc, text.to_string(alloc)?)
 }
 
-/// Opens a document in an empty handle, with a copy of the text. Codes, in this order: IN_USE,
+/// Makes a document in an empty handle, of a copy of the text. Codes, in this order: IN_USE,
 /// TOO_LONG, NOT_UTF8; OUT_OF_MEMORY. Costs a copy of the text and two passes over it.
 #[unsafe(no_mangle)]
-pub extern "C" fn laspidru_document_open(alloc: Global, handle: &mut Handle, text: &[u8]) -> u32
+pub extern "C" fn laspidru_document_new(alloc: Global, handle: &mut Handle, text: &[u8]) -> u32
     ensures answer { let asked = unless (in_use handle.old.value) (text_asked text.now) in
         IsAnswerOrNoMemory asked result
         (λ text. (result ≡ OK) × (handle.new.value ≡ Some (Document text))) }
@@ -44,7 +44,7 @@ pub extern "C" fn laspidru_document_open(alloc: Global, handle: &mut Handle, tex
         return TOO_LONG;
     }
     let text = or_return!(checked_text(text));
-    let Ok(document) = opened(alloc, text) else {
+    let Ok(document) = document_of(alloc, text) else {
         return OUT_OF_MEMORY;
     };
     handle.fill(alloc, Object::Document(document))
@@ -52,7 +52,7 @@ pub extern "C" fn laspidru_document_open(alloc: Global, handle: &mut Handle, tex
 
 /// Frees the object in a handle. An empty handle stays empty. There is no code.
 #[unsafe(no_mangle)]
-pub extern "C" fn laspidru_close(alloc: Global, handle: &mut Handle)
+pub extern "C" fn laspidru_handle_free(alloc: Global, handle: &mut Handle)
     ensures { handle.new.value ≡ None }
 {
     drop(handle.take(alloc));

@@ -20,7 +20,7 @@ use std::alloc::Global;
 /// for byte. Codes, in this order: NOT_UTF8 of the URI, EMPTY, OTHER_KIND, NOT_OPEN. Costs a hash
 /// look-up.
 #[unsafe(no_mangle)]
-pub extern "C" fn laspidru_open_state(
+pub extern "C" fn laspidru_session_document_state(
     alloc: Global,
     handle: &mut Handle,
     uri: &[u8],
@@ -45,7 +45,7 @@ pub extern "C" fn laspidru_open_state(
 /// returns how many. Codes, in this order: NOT_UTF8 of the URI, EMPTY, OTHER_KIND, NOT_OPEN,
 /// OUT_OF_RANGE. Costs a hash look-up and the copy.
 #[unsafe(no_mangle)]
-pub extern "C" fn laspidru_open_text(
+pub extern "C" fn laspidru_session_document_text(
     alloc: Global,
     handle: &mut Handle,
     uri: &[u8],

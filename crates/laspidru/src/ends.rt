@@ -4,7 +4,7 @@ ghost use Rattle.std.specs.Prelude.{◌≡◌, ◌≢◌, IsOkAnd, None, Ok, Som
 ghost use Rattle.laspidru.specs.Codes.{IsAnswer, IsAnswerOrNoMemory, IsRefusedOr, OnRefused};
 ghost use Rattle.laspidru.specs.Codes.{and_then};
 ghost use Rattle.laspidru.specs.Ends.{IsHandled, IsHandledBy, IsState, IsTaken, agreed_encoding};
-ghost use Rattle.laspidru.specs.Ends.{as_end, as_framing, closed, handling_of, listening};
+ghost use Rattle.laspidru.specs.Ends.{as_end, closed, handling_of, listening};
 ghost use Rattle.laspidru.specs.Ends.{party_phase, store_in};
 ghost use Rattle.laspidru.specs.Framers.{IsBodyAnswer};
 ghost use Rattle.laspidru.specs.Objects.{IsCopy, in_handle, rest_asked};
@@ -13,7 +13,6 @@ use crate::answers::{Answer, State, answer_of, reply_of};
 use crate::bytes::copy_from;
 use crate::codes::{ENDED, OK, OUT_OF_MEMORY, WRONG_PHASE};
 use crate::end::End;
-use crate::framer::copy_body;
 use crate::handle::{Handle, with_object};
 use crate::object::Object;
 use crate::party::Party;
@@ -132,7 +131,7 @@ fn handled(
 /// `Client::deliver`.
 #[tactic(auto, using(crate::proofs::Bodies::handled_in))]
 #[unsafe(no_mangle)]
-pub extern "C" fn laspidru_deliver(
+pub extern "C" fn laspidru_session_deliver(
     alloc: Global,
     handle: &mut Handle,
     body: &[u8],
@@ -151,7 +150,7 @@ pub extern "C" fn laspidru_deliver(
 
 /// Takes bytes of a piece, and handles the message that is whole then.
 #[tactic(auto, using(crate::proofs::Bodies::untaken, crate::proofs::Bodies::none_taken, crate::proofs::Bodies::waits, crate::proofs::Bodies::one_taken))]
-fn take(alloc: Global, held: &mut End, piece: &[u8], taken: &mut Taken, out: &mut Answer) -> u32
+fn feed(alloc: Global, held: &mut End, piece: &[u8], taken: &mut Taken, out: &mut Answer) -> u32
     requires { closed held.old.party ≡ None }
     ensures { IsTaken held.old piece.now result held.new taken.new out.old out.new }
 {
@@ -172,15 +171,16 @@ fn take(alloc: Global, held: &mut End, piece: &[u8], taken: &mut Taken, out: &mu
 /// Takes bytes of the next piece of an end's stream: all of them, or those up to the end of one
 /// message, and handles that message (LSP 3.17, Base Protocol). `taken` is what
 /// `laspidru_framer_feed` writes. Once the message is whole, `out` is the answer of
-/// `laspidru_deliver`; before, it stays as it is. The body can be copied until the next call.
+/// `laspidru_session_deliver`; before, it stays as it is. The body can be copied until the next
+/// call.
 ///
 /// Codes, in this order: EMPTY, OTHER_KIND; ENDED of a server, WRONG_PHASE of a client. These
 /// change nothing. Then FAILED; OUT_OF_MEMORY, or BAD_FRAME. After OUT_OF_MEMORY a message may be
 /// whole and not handled: the next call handles it. Costs a pass over the bytes taken, their copy,
-/// and `laspidru_deliver`.
+/// and `laspidru_session_deliver`.
 #[tactic(auto, using(crate::proofs::Bodies::taken_in, crate::proofs::Bodies::unrefused))]
 #[unsafe(no_mangle)]
-pub extern "C" fn laspidru_take(
+pub extern "C" fn laspidru_session_feed(
     alloc: Global,
     handle: &mut Handle,
     piece: &[u8],
@@ -195,7 +195,7 @@ pub extern "C" fn laspidru_take(
 {
     with_object!(handle, alloc, mut Object::End(held) => match closed_code(&held.party) {
         Some(code) => code,
-        None => take(alloc, held, piece, taken, out),
+        None => feed(alloc, held, piece, taken, out),
     })
 }
 
@@ -207,36 +207,32 @@ fn end_body(held: &End, start: usize, out: &mut [u8], copied: &mut usize) -> u32
     held.stream.copy_body(start, out, copied)
 }
 
-/// Copies the bytes of the body of the message that an end took last, or that a framer has
-/// buffered, from `start` on, as many as `out` has room for, and returns how many. The next call of
-/// `laspidru_take` or `laspidru_framer_next` releases it. Codes, in this order: EMPTY, OTHER_KIND,
-/// NO_MESSAGE, OUT_OF_RANGE. Costs the copy.
+/// Copies the bytes of the body of the message that an end took last from `start` on, as many as
+/// `out` has room for, and returns how many. The next call of `laspidru_session_feed` releases it.
+/// Codes, in this order: EMPTY, OTHER_KIND, NO_MESSAGE, OUT_OF_RANGE. Costs the copy.
 #[unsafe(no_mangle)]
-pub extern "C" fn laspidru_body(
+pub extern "C" fn laspidru_session_body(
     alloc: Global,
     handle: &mut Handle,
     start: usize,
     out: &mut [u8],
     copied: &mut usize,
 ) -> u32
-    ensures answer { IsRefusedOr (in_handle as_framing handle.old.value) result
-        (λ framing. IsBodyAnswer framing start result out.old out.new copied.new) }
+    ensures answer { IsRefusedOr (in_handle as_end handle.old.value) result
+        (λ held. IsBodyAnswer held.stream.framing start result out.old out.new copied.new) }
     ensures handle { handle.new.value ≡ handle.old.value }
     ensures unchanged { result ≢ OK → (out.new ≡ out.old) × (copied.new ≡ copied.old) }
 {
-    with_object!(
-        handle,
-        alloc,
-        Object::Framer(framer) => copy_body(framer, start, out, copied),
-        Object::End(held) => end_body(held, start, out, copied),
-    )
+    with_object!(handle, alloc, Object::End(held) => {
+        end_body(held, start, out, copied)
+    })
 }
 
 /// Copies the bytes of the frame to send from `start` on, as many as `out` has room for, and
 /// returns how many. The frame is that of the last message or call that was accepted; if that sends
 /// none it has no bytes. Codes, in this order: EMPTY, OTHER_KIND, OUT_OF_RANGE. Costs the copy.
 #[unsafe(no_mangle)]
-pub extern "C" fn laspidru_frame(
+pub extern "C" fn laspidru_session_frame(
     alloc: Global,
     handle: &mut Handle,
     start: usize,

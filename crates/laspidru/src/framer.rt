@@ -69,6 +69,27 @@ pub(crate) fn copy_body(framer: &Framer, start: usize, out: &mut [u8], copied: &
     copy_from(body, start, out, copied)
 }
 
+/// Copies the bytes of the buffered message's body from `start` on, as many as `out` has room for,
+/// and returns how many. Codes, in this order: EMPTY, OTHER_KIND, NO_MESSAGE, OUT_OF_RANGE. Costs
+/// the copy.
+#[unsafe(no_mangle)]
+pub extern "C" fn laspidru_framer_body(
+    alloc: Global,
+    handle: &mut Handle,
+    start: usize,
+    out: &mut [u8],
+    copied: &mut usize,
+) -> u32
+    ensures answer { IsRefusedOr (in_handle as_framer handle.old.value) result
+        (λ framing. IsBodyAnswer framing start result out.old out.new copied.new) }
+    ensures handle { handle.new.value ≡ handle.old.value }
+    ensures unchanged { result ≢ OK → (out.new ≡ out.old) × (copied.new ≡ copied.old) }
+{
+    with_object!(handle, alloc, Object::Framer(framer) => {
+        copy_body(framer, start, out, copied)
+    })
+}
+
 /// Releases the buffered message, so that the next one is taken. Does nothing if no whole message
 /// is buffered. Codes, in this order: EMPTY, OTHER_KIND. Takes no memory.
 #[unsafe(no_mangle)]

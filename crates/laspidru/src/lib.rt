@@ -1,8 +1,8 @@
 //! Laspidru for C: documents, canonical batches, framers, servers, clients and the output of
 //! commands on logs in handles, with `include/laspidru.h`.
 //!
-//! Each function but `laspidru_close` and `laspidru_version` checks the bytes, numbers and handles
-//! that C passes, and returns a code. Pointers, lengths and bools are the caller's
+//! Each function but `laspidru_handle_free` and `laspidru_version` checks the bytes, numbers and
+//! handles that C passes, and returns a code. Pointers, lengths and bools are the caller's
 //! (`include/CODES.md`). If the code isn't [`OK`], nothing has changed, with the exceptions that
 //! are listed there.
 //!

@@ -12,8 +12,8 @@ use lsp_frame::{FrameFault, Framer};
 #[repr(C)]
 #[derive(Clone, Copy, Debug, PartialEq, Eq)]
 pub struct Taken {
-    /// OK, or OUT_OF_MEMORY of `laspidru_take`, where a message is whole and waits: how many
-    /// bytes of the piece were taken.
+    /// OK, or OUT_OF_MEMORY of `laspidru_session_feed`, where a message is whole and waits: how
+    /// many bytes of the piece were taken.
     pub bytes: usize,
     /// The same codes: how many bytes the body has, once the message is whole.
     pub body_len: usize,

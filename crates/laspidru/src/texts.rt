@@ -83,7 +83,12 @@ fn text_of(code: u32) -> Option<&'static str>
 /// Copies the name of a code and what it means from `start` on, as many bytes as `out` has room
 /// for, and returns how many. Codes: OUT_OF_RANGE. Costs the copy.
 #[unsafe(no_mangle)]
-pub extern "C" fn laspidru_text(code: u32, start: usize, out: &mut [u8], copied: &mut usize) -> u32
+pub extern "C" fn laspidru_code_text(
+    code: u32,
+    start: usize,
+    out: &mut [u8],
+    copied: &mut usize,
+) -> u32
     ensures answer { IsAnswer (rest_asked start (text_asked_of code)) result
         (IsCopy out.old out.new copied.new) }
     ensures unchanged { result ≢ OK → (out.new ≡ out.old) × (copied.new ≡ copied.old) }

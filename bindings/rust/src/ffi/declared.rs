@@ -86,9 +86,9 @@ pub const NORMALISE: u32 = 4;
 pub const CONVERT: u32 = 5;
 extern "C" {
     pub fn laspidru_version() -> u32;
-    pub fn laspidru_text(code: u32, start: usize, out: *mut u8, out_len: usize, copied: *mut usize) -> u32;
-    pub fn laspidru_document_open(document: *mut Raw, text: *const u8, text_len: usize) -> u32;
-    pub fn laspidru_close(handle: *mut Raw);
+    pub fn laspidru_code_text(code: u32, start: usize, out: *mut u8, out_len: usize, copied: *mut usize) -> u32;
+    pub fn laspidru_document_new(document: *mut Raw, text: *const u8, text_len: usize) -> u32;
+    pub fn laspidru_handle_free(handle: *mut Raw);
     pub fn laspidru_document_change(document: *mut Raw, encoding: u32, edits: *const Edit, edits_len: usize, texts: *const u8,
         texts_len: usize, fault: *mut Fault) -> u32;
     pub fn laspidru_document_size(document: *mut Raw, length: *mut Length) -> u32;
@@ -107,38 +107,40 @@ extern "C" {
         copied: *mut usize) -> u32;
     pub fn laspidru_framer_new(framer: *mut Raw, max_body: usize) -> u32;
     pub fn laspidru_framer_feed(framer: *mut Raw, piece: *const u8, piece_len: usize, taken: *mut Taken) -> u32;
+    pub fn laspidru_framer_body(framer: *mut Raw, start: usize, out: *mut u8, out_len: usize, copied: *mut usize) -> u32;
     pub fn laspidru_framer_next(framer: *mut Raw) -> u32;
     pub fn laspidru_framer_at_rest(framer: *mut Raw, at_rest: *mut bool) -> u32;
     pub fn laspidru_server_new(server: *mut Raw, settings: *const Settings) -> u32;
     pub fn laspidru_client_new(client: *mut Raw, settings: *const ClientSettings) -> u32;
     pub fn laspidru_client_start(client: *mut Raw, frame_len: *mut usize) -> u32;
-    pub fn laspidru_client_open(client: *mut Raw, uri: *const u8, uri_len: usize, language: *const u8, language_len: usize,
+    pub fn laspidru_client_did_open(client: *mut Raw, uri: *const u8, uri_len: usize, language: *const u8, language_len: usize,
         version: i32, text: *const u8, text_len: usize, frame_len: *mut usize) -> u32;
-    pub fn laspidru_client_edit(client: *mut Raw, uri: *const u8, uri_len: usize, version: i32, edits: *const Edit,
+    pub fn laspidru_client_did_change(client: *mut Raw, uri: *const u8, uri_len: usize, version: i32, edits: *const Edit,
         edits_len: usize, texts: *const u8, texts_len: usize, fault: *mut Fault, frame_len: *mut usize) -> u32;
-    pub fn laspidru_client_close(client: *mut Raw, uri: *const u8, uri_len: usize, frame_len: *mut usize) -> u32;
+    pub fn laspidru_client_did_close(client: *mut Raw, uri: *const u8, uri_len: usize, frame_len: *mut usize) -> u32;
     pub fn laspidru_client_shutdown(client: *mut Raw, frame_len: *mut usize) -> u32;
     pub fn laspidru_client_exit(client: *mut Raw, frame_len: *mut usize) -> u32;
-    pub fn laspidru_take(end: *mut Raw, piece: *const u8, piece_len: usize, taken: *mut Taken, answer: *mut Answer) -> u32;
-    pub fn laspidru_body(end_or_framer: *mut Raw, start: usize, out: *mut u8, out_len: usize, copied: *mut usize) -> u32;
-    pub fn laspidru_deliver(end: *mut Raw, body: *const u8, body_len: usize, answer: *mut Answer) -> u32;
-    pub fn laspidru_frame(end: *mut Raw, start: usize, out: *mut u8, out_len: usize, copied: *mut usize) -> u32;
-    pub fn laspidru_session_state(end: *mut Raw, state: *mut State) -> u32;
+    pub fn laspidru_session_feed(session: *mut Raw, piece: *const u8, piece_len: usize, taken: *mut Taken,
+        answer: *mut Answer) -> u32;
+    pub fn laspidru_session_body(session: *mut Raw, start: usize, out: *mut u8, out_len: usize, copied: *mut usize) -> u32;
+    pub fn laspidru_session_deliver(session: *mut Raw, body: *const u8, body_len: usize, answer: *mut Answer) -> u32;
+    pub fn laspidru_session_frame(session: *mut Raw, start: usize, out: *mut u8, out_len: usize, copied: *mut usize) -> u32;
+    pub fn laspidru_session_state(session: *mut Raw, state: *mut State) -> u32;
     pub fn laspidru_message_uri(body: *const u8, body_len: usize, start: usize, out: *mut u8, out_len: usize,
         copied: *mut usize) -> u32;
-    pub fn laspidru_open_state(end: *mut Raw, uri: *const u8, uri_len: usize, document: *mut Opened) -> u32;
-    pub fn laspidru_open_text(end: *mut Raw, uri: *const u8, uri_len: usize, start: usize, out: *mut u8, out_len: usize,
-        copied: *mut usize) -> u32;
-    pub fn laspidru_open_offset(end: *mut Raw, uri: *const u8, uri_len: usize, encoding: u32, position: Position,
+    pub fn laspidru_session_document_state(session: *mut Raw, uri: *const u8, uri_len: usize, document: *mut Opened) -> u32;
+    pub fn laspidru_session_document_text(session: *mut Raw, uri: *const u8, uri_len: usize, start: usize, out: *mut u8,
+        out_len: usize, copied: *mut usize) -> u32;
+    pub fn laspidru_session_document_offset(session: *mut Raw, uri: *const u8, uri_len: usize, encoding: u32, position: Position,
         offset: *mut usize) -> u32;
-    pub fn laspidru_open_position(end: *mut Raw, uri: *const u8, uri_len: usize, encoding: u32, offset: usize,
+    pub fn laspidru_session_document_position(session: *mut Raw, uri: *const u8, uri_len: usize, encoding: u32, offset: usize,
         position: *mut Position) -> u32;
-    pub fn laspidru_open_line(end: *mut Raw, uri: *const u8, uri_len: usize, line: u32, range: *mut Line) -> u32;
-    pub fn laspidru_open_batch_of_edits(end: *mut Raw, uri: *const u8, uri_len: usize, encoding: u32, edits: *const Edit,
-        edits_len: usize, texts: *const u8, texts_len: usize, batch: *mut Raw, fault: *mut EditsFault) -> u32;
-    pub fn laspidru_open_canonical_message(end: *mut Raw, uri: *const u8, uri_len: usize, version: i32, encoding: u32,
-        edits: *const Edit, edits_len: usize, texts: *const u8, texts_len: usize, output: *mut Raw, fault: *mut Fault,
-        frame_len: *mut usize) -> u32;
+    pub fn laspidru_session_document_line(session: *mut Raw, uri: *const u8, uri_len: usize, line: u32, range: *mut Line) -> u32;
+    pub fn laspidru_session_document_batch_of_edits(session: *mut Raw, uri: *const u8, uri_len: usize, encoding: u32,
+        edits: *const Edit, edits_len: usize, texts: *const u8, texts_len: usize, batch: *mut Raw, fault: *mut EditsFault) -> u32;
+    pub fn laspidru_session_document_canonical_message(session: *mut Raw, uri: *const u8, uri_len: usize, version: i32,
+        encoding: u32, edits: *const Edit, edits_len: usize, texts: *const u8, texts_len: usize, output: *mut Raw,
+        fault: *mut Fault, frame_len: *mut usize) -> u32;
     pub fn laspidru_log_run(output: *mut Raw, command: u32, settings: *const LogSettings, uri: *const u8, uri_len: usize,
         log: *const u8, log_len: usize, ending: *mut Ending) -> u32;
     pub fn laspidru_log_compare(output: *mut Raw, settings: *const LogSettings, uri: *const u8, uri_len: usize, saved: *const u8,

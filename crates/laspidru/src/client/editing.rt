@@ -20,7 +20,7 @@ use std::alloc::Global;
 /// OUT_OF_MEMORY, or ALREADY_OPEN, TOO_MANY_DOCUMENTS, TOO_LONG, also of a message that is too
 /// long. Costs [`Client::open`].
 #[unsafe(no_mangle)]
-pub extern "C" fn laspidru_client_open(
+pub extern "C" fn laspidru_client_did_open(
     alloc: Global,
     handle: &mut Handle,
     uri: &[u8],
@@ -52,7 +52,7 @@ pub extern "C" fn laspidru_client_open(
 /// codes of a faulty change `fault` says which change it is. Costs a pass over the texts, their
 /// copy, and [`Client::edit`].
 #[unsafe(no_mangle)]
-pub extern "C" fn laspidru_client_edit(
+pub extern "C" fn laspidru_client_did_change(
     alloc: Global,
     handle: &mut Handle,
     uri: &[u8],
@@ -86,7 +86,7 @@ pub extern "C" fn laspidru_client_edit(
 /// WRONG_PHASE; then OUT_OF_MEMORY, or NOT_OPEN, or TOO_LONG of the message. Costs
 /// [`Client::close`].
 #[unsafe(no_mangle)]
-pub extern "C" fn laspidru_client_close(
+pub extern "C" fn laspidru_client_did_close(
     alloc: Global,
     handle: &mut Handle,
     uri: &[u8],

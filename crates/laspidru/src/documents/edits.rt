@@ -24,7 +24,7 @@ use std::alloc::Global;
 /// such edit; IN_USE of `batch`; EMPTY, OTHER_KIND, NOT_OPEN, TOO_LONG; OUT_OF_MEMORY, or the
 /// fault, as of `laspidru_document_batch_of_edits`. Costs the same, and a hash look-up.
 #[unsafe(no_mangle)]
-pub extern "C" fn laspidru_open_batch_of_edits(
+pub extern "C" fn laspidru_session_document_batch_of_edits(
     alloc: Global,
     handle: &mut Handle,
     uri: &[u8],

@@ -71,7 +71,7 @@ fn put_message(
 /// that is too long. With the two codes of a faulty change `fault` says which change it is. Costs a
 /// pass over the texts, their copy, and `Store::canonical_message`.
 #[unsafe(no_mangle)]
-pub extern "C" fn laspidru_open_canonical_message(
+pub extern "C" fn laspidru_session_document_canonical_message(
     alloc: Global,
     handle: &mut Handle,
     uri: &[u8],

@@ -20,7 +20,7 @@ use std::alloc::Global;
 /// of the URI, BAD_ENCODING, EMPTY, OTHER_KIND, NOT_OPEN, INSIDE_CHARACTER. Costs a hash look-up,
 /// and then the same.
 #[unsafe(no_mangle)]
-pub extern "C" fn laspidru_open_offset(
+pub extern "C" fn laspidru_session_document_offset(
     alloc: Global,
     handle: &mut Handle,
     uri: &[u8],
@@ -48,7 +48,7 @@ pub extern "C" fn laspidru_open_offset(
 /// EMPTY, OTHER_KIND, NOT_OPEN; INSIDE_CHARACTER, also for an offset between CR and LF or past the
 /// end. Costs a hash look-up, and then the same.
 #[unsafe(no_mangle)]
-pub extern "C" fn laspidru_open_position(
+pub extern "C" fn laspidru_session_document_position(
     alloc: Global,
     handle: &mut Handle,
     uri: &[u8],
@@ -74,7 +74,7 @@ pub extern "C" fn laspidru_open_position(
 /// without its line end. URIs are compared byte for byte. Codes, in this order: NOT_UTF8 of the
 /// URI, EMPTY, OTHER_KIND, NOT_OPEN, OUT_OF_RANGE. Costs a hash look-up and three searches.
 #[unsafe(no_mangle)]
-pub extern "C" fn laspidru_open_line(
+pub extern "C" fn laspidru_session_document_line(
     alloc: Global,
     handle: &mut Handle,
     uri: &[u8],
