@@ -131,7 +131,7 @@ static void begin(const char *line) {
     int utf8, utf32, preferred, full;
     laspidru_size text, docs, changes;
     if (sscanf(line, "session %d %d %d %d %zu %zu %zu", &utf8, &utf32, &preferred, &full, &text, &docs, &changes) != 7) demand(99);
-    laspidru_settings settings = {.max_body = 16777216, .max_text = text, .max_docs = docs, .max_changes = changes, .encoding = preferred, .is_full = full};
+    laspidru_settings settings = {.max_body = 16777216, .max_text = text, .max_docs = docs, .max_changes = changes, .encoding = preferred, .whole_texts = full};
     laspidru_client_settings offers = {.max_body = 16777216, .max_text = text, .max_docs = docs, .max_changes = changes, .utf8 = utf8, .utf32 = utf32};
     demand(laspidru_server_new(&server, &settings));
     demand(laspidru_client_new(&client, &offers));

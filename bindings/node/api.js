@@ -501,8 +501,8 @@ class End {
 
 /** A server's end of a session, without input and output of its own. */
 class Server extends End {
-  constructor({ encoding = 'utf-16', isFixed = false, isFull = false, lenient = false, ...limits } = {}) {
-    const numbers = [...limitsOf(limits), unitsOf(encoding), isFixed ? 1 : 0, isFull ? 1 : 0, lenient ? 1 : 0];
+  constructor({ encoding = 'utf-16', isFixed = false, wholeTexts = false, lenient = false, ...limits } = {}) {
+    const numbers = [...limitsOf(limits), unitsOf(encoding), isFixed ? 1 : 0, wholeTexts ? 1 : 0, lenient ? 1 : 0];
     super(addon.newServer(Uint32Array.from(numbers)), SERVER_KINDS, numbers[0]);
   }
 }

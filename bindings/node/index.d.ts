@@ -221,10 +221,10 @@ export interface Server extends End<ServerEvent> {}
 export class Server {
   /**
    * `encoding`, by default utf-16, is taken where the client offers it, else utf-16. With `isFixed` it is taken whatever is offered. LSP
-   * 3.17 allows one that was offered, or utf-16: fix another only for logs, or where you write the editor too. `isFull` asks for whole
+   * 3.17 allows one that was offered, or utf-16: fix another only for logs, or where you write the editor too. `wholeTexts` asks for whole
    * texts.
    */
-  constructor(options?: Limits & { encoding?: Encoding; isFixed?: boolean; isFull?: boolean });
+  constructor(options?: Limits & { encoding?: Encoding; isFixed?: boolean; wholeTexts?: boolean });
 }
 
 export interface Client extends End<ClientEvent> {}

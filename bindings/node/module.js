@@ -12,7 +12,7 @@ const AT = {
   edits_fault: { edit: 0, other: 8, at_end: 16, size: 24 },
   line: { start: 0, end: 8, size: 16 },
   length: { bytes: 0, lines: 8, size: 16 },
-  settings: { max_body: 0, max_text: 8, max_docs: 16, max_changes: 24, encoding: 32, is_fixed: 36, is_full: 37, lenient: 38, size: 40 },
+  settings: { max_body: 0, max_text: 8, max_docs: 16, max_changes: 24, encoding: 32, is_fixed: 36, whole_texts: 37, lenient: 38, size: 40 },
   answer: { kind: 0, reason: 4, status: 8, error: 12, reply_len: 16, size: 24 },
   taken: { bytes: 0, body_len: 8, offset: 16, frame: 24, is_whole: 28, size: 32 },
   client_settings: { max_body: 0, max_text: 8, max_docs: 16, max_changes: 24, utf8: 32, utf32: 33, lenient: 34, size: 40 },
@@ -27,7 +27,7 @@ const OK = 0;
 const REPLIED = 0;
 const ROOM = 65536;
 const REPORTED_STEP = 65536; // the collector hears of a document's size after changes of so many bytes
-const SERVER = ['encoding', 'is_fixed', 'is_full', 'lenient'];
+const SERVER = ['encoding', 'is_fixed', 'whole_texts', 'lenient'];
 const CLIENT = ['utf8', 'utf32', 'lenient'];
 const LOG = ['encoding', 'lenient', 'squash', 'documents', 'texts', 'bodies', 'has_uri', 'brief', 'all'];
 const SIMD = Uint8Array.of(0, 97, 115, 109, 1, 0, 0, 0, 1, 5, 1, 96, 0, 1, 123, 3, 2, 1, 0, 10, 10, 1, 8, 0, 65, 0, 253, 15, 253, 98, 11);

@@ -21,10 +21,10 @@ class Session {
   toServer = [];
   toClient = [];
 
-  constructor([utf8, utf32, preferred, isFull, maxText, maxDocs, maxChanges]) {
+  constructor([utf8, utf32, preferred, wholeTexts, maxText, maxDocs, maxChanges]) {
     const limits = { maxText, maxDocs, maxChanges };
     this.client = new Client({ utf8: Boolean(utf8), utf32: Boolean(utf32), ...limits });
-    this.server = new Server({ encoding: `utf-${preferred}`, isFull: Boolean(isFull), ...limits });
+    this.server = new Server({ encoding: `utf-${preferred}`, wholeTexts: Boolean(wholeTexts), ...limits });
   }
 
   call(word, ...values) {

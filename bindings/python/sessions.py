@@ -21,7 +21,7 @@ class Session:
     def __init__(self, utf8, utf32, preferred, full, max_text, max_docs, max_changes):
         limits = {"max_text": max_text, "max_docs": max_docs, "max_changes": max_changes}
         self.client = Client(utf8=bool(utf8), utf32=bool(utf32), **limits)
-        self.server = Server(NAMES[preferred], is_full=bool(full), **limits)
+        self.server = Server(NAMES[preferred], whole_texts=bool(full), **limits)
         self.to_server, self.to_client = [], []
 
     def call(self, word, *arguments):

@@ -52,7 +52,7 @@ def random_change(choices):
 def random_session(choices):
     """What both ends are, how the bytes of the start are cut, and up to 30 steps: pieces that arrive, and calls of an editor."""
     options, start, *steps = choices
-    ends = {"encoding": options.of(ENCODINGS), "is_full": options.is_one_in(5), "utf8": options.is_one_in(2), "utf32": options.is_one_in(2)}
+    ends = {"encoding": options.of(ENCODINGS), "whole_texts": options.is_one_in(5), "utf8": options.is_one_in(2), "utf32": options.is_one_in(2)}
     return ends, [1 + start.below(40) for _ in range(20)], [random_step(it) for it in steps if it.is_one_in(2)]
 
 
@@ -69,8 +69,8 @@ def random_step(choices):
 class Pair:
     """Both ends, and the bytes between them."""
 
-    def __init__(self, encoding, is_full, utf8, utf32):
-        self.server, self.client = Server(encoding, is_full=is_full), Client(utf8=utf8, utf32=utf32)
+    def __init__(self, encoding, whole_texts, utf8, utf32):
+        self.server, self.client = Server(encoding, whole_texts=whole_texts), Client(utf8=utf8, utf32=utf32)
         self.to_server, self.to_client, self.kinds = b"", b"", []
 
     def serve(self, count, at_once):

@@ -63,7 +63,7 @@ static void test_defaults(void) {
     laspidru_client_settings client = LASPIDRU_CLIENT_SETTINGS_DEFAULT;
     laspidru_log_settings log = LASPIDRU_LOG_SETTINGS_DEFAULT;
     CHECK(server.max_body == 16777216 && server.max_text == 16777216 && server.max_docs == 1024 && server.max_changes == 65536);
-    CHECK(server.encoding == LASPIDRU_UTF16 && !server.is_fixed && !server.is_full && !server.lenient);
+    CHECK(server.encoding == LASPIDRU_UTF16 && !server.is_fixed && !server.whole_texts && !server.lenient);
     CHECK(client.max_body == 16777216 && client.max_text == 16777216 && client.max_docs == 1024 && client.max_changes == 65536);
     CHECK(!client.utf8 && !client.utf32 && !client.lenient);
     CHECK(log.max_body == 16777216 && log.max_text == 16777216 && log.max_docs == 1024 && log.max_changes == 65536);
@@ -105,7 +105,7 @@ static void test_settings_of_servers(void) {
     CHECK(is_state(&server, LASPIDRU_PHASE_READY, 0, LASPIDRU_UTF8, 0) && sends_with(&server, "\"change\":2"));
     laspidru_handle_free(&server);
     how = settings;
-    how.is_full = 1;
+    how.whole_texts = 1;
     begin(&server, &how);
     CHECK(is_state(&server, LASPIDRU_PHASE_READY, 0, LASPIDRU_UTF16, 0) && sends_with(&server, "\"change\":1"));
     laspidru_handle_free(&server);

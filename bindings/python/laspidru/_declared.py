@@ -17,7 +17,7 @@ typedef struct { size_t change; bool at_end; } laspidru_fault;
 typedef struct { size_t edit, other; bool at_end; } laspidru_edits_fault;
 typedef struct { size_t start, end; } laspidru_line;
 typedef struct { size_t bytes, lines; } laspidru_length;
-typedef struct { size_t max_body, max_text, max_docs, max_changes; uint32_t encoding; bool is_fixed, is_full, lenient;
+typedef struct { size_t max_body, max_text, max_docs, max_changes; uint32_t encoding; bool is_fixed, whole_texts, lenient;
     } laspidru_settings;
 typedef struct { uint32_t kind, reason, status; int32_t error; size_t reply_len; } laspidru_answer;
 typedef struct { size_t bytes, body_len; uint64_t offset; uint32_t frame; bool is_whole; } laspidru_taken;

@@ -320,15 +320,15 @@ class _End:
 class Server(_End):
     """A server's end of a session: bytes or bodies go in, and it keeps the open documents. The defaults are those of
     `lspsync serve`. `encoding` is taken where the client offers it, else UTF-16; with `is_fixed` it is taken whatever is offered. LSP
-    3.17 allows one that was offered, or UTF-16: fix another only for logs, or where you write the editor too. `is_full` asks for
+    3.17 allows one that was offered, or UTF-16: fix another only for logs, or where you write the editor too. `whole_texts` asks for
     whole texts. With `lenient` a change of any version is taken, and an open document may be opened again."""
 
     _kinds = {NUMBERS[it.upper()]: it for it in ("replied", "changed", "dropped", "ignored", "refused", "exited")}
 
-    def __init__(self, encoding: str = "utf-16", *, is_fixed: bool = False, is_full: bool = False, max_body: int = 16777216,
+    def __init__(self, encoding: str = "utf-16", *, is_fixed: bool = False, whole_texts: bool = False, max_body: int = 16777216,
                  max_text: int = 16777216, max_docs: int = 1024, max_changes: int = 65536, lenient: bool = False) -> None:
         numbers = limits(max_body, max_text, max_docs, max_changes)
-        settings = Settings(*numbers, encoding_number(encoding), is_fixed, is_full, lenient)
+        settings = Settings(*numbers, encoding_number(encoding), is_fixed, whole_texts, lenient)
         super().__init__()
         demand(LIBRARY.laspidru_server_new(byref(self._handle), byref(settings)))
 

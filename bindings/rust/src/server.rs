@@ -126,7 +126,7 @@ impl Server {
             max_changes: settings.limits.max_changes,
             encoding: encoding as u32,
             is_fixed,
-            is_full: settings.sync == ChangeForm::Full,
+            whole_texts: settings.sync == ChangeForm::Full,
             lenient: settings.limits.lenient,
         };
         let handle = ffi::Handle::empty();

@@ -164,7 +164,7 @@ typedef struct laspidru_length {
 
 /* How a server is set up. `encoding` is the one that it prefers, and takes where the client offers it, else UTF-16; where
    `is_fixed`, the one that it takes whatever is offered. LSP 3.17 allows one that was offered, or UTF-16: fix another only for
-   logs, or where you write the editor too. Where `is_full` it asks for whole texts, else for ranges. */
+   logs, or where you write the editor too. Where `whole_texts` it asks for whole texts, else for ranges. */
 typedef struct laspidru_settings {
     laspidru_size max_body;    /* 4,096 to 1,073,741,824 bytes of a message of its stream; session_deliver takes any body */
     laspidru_size max_text;    /* up to 1,073,741,824 bytes */
@@ -172,7 +172,7 @@ typedef struct laspidru_settings {
     laspidru_size max_changes; /* 1 to 1,048,576 in a message */
     laspidru_u32 encoding;
     laspidru_bool is_fixed;
-    laspidru_bool is_full;
+    laspidru_bool whole_texts;
     laspidru_bool lenient; /* whether a change of any version is taken, and an open document may be opened again */
 } laspidru_settings;
 

@@ -42,7 +42,7 @@ config_asked settings = and_then (encoding_at settings.encoding) (λ encoding.
     settings.max_changes settings.lenient) (λ limits. Ok (record {
       limits = limits;
       choice = if settings.is_fixed then Fixed encoding else Negotiated encoding;
-      sync = if settings.is_full then Full else Incremental;
+      sync = if settings.whole_texts then Full else Incremental;
     })))
 
 -- ---- the answer that C gets

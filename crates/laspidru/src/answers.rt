@@ -18,7 +18,7 @@ use lsp_store::StoreFault;
 use std::alloc::Global;
 
 /// The set-up of a server: its limits, the number of its encoding, and its kind of synchronisation.
-/// With `is_fixed` the server insists on the encoding, else it prefers it. With `is_full` it
+/// With `is_fixed` the server insists on the encoding, else it prefers it. With `whole_texts` it
 /// asks for whole texts, else for ranges. With `lenient` its limits are lenient.
 #[repr(C)]
 #[derive(Clone, Copy, Debug, PartialEq, Eq)]
@@ -29,7 +29,7 @@ pub struct Settings {
     pub max_changes: usize,
     pub encoding: u32,
     pub is_fixed: bool,
-    pub is_full: bool,
+    pub whole_texts: bool,
     pub lenient: bool,
 }
 
@@ -121,7 +121,7 @@ pub(crate) fn config_of(settings: &Settings) -> Result<Config, u32>
     } else {
         EncodingChoice::Negotiated { prefer: encoding }
     };
-    let sync = if settings.is_full {
+    let sync = if settings.whole_texts {
         ChangeForm::Full
     } else {
         ChangeForm::Incremental

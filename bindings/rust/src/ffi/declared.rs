@@ -12,7 +12,7 @@ use std::ffi::c_void;
 #[repr(C)] #[derive(Clone, Copy, Debug, Default)] pub struct Line { pub start: usize, pub end: usize }
 #[repr(C)] #[derive(Clone, Copy, Debug, Default)] pub struct Length { pub bytes: usize, pub lines: usize }
 #[repr(C)] #[derive(Clone, Copy, Debug, Default)] pub struct Settings { pub max_body: usize, pub max_text: usize,
-    pub max_docs: usize, pub max_changes: usize, pub encoding: u32, pub is_fixed: bool, pub is_full: bool, pub lenient: bool }
+    pub max_docs: usize, pub max_changes: usize, pub encoding: u32, pub is_fixed: bool, pub whole_texts: bool, pub lenient: bool }
 #[repr(C)] #[derive(Clone, Copy, Debug, Default)] pub struct Answer { pub kind: u32, pub reason: u32, pub status: u32,
     pub error: i32, pub reply_len: usize }
 #[repr(C)] #[derive(Clone, Copy, Debug, Default)] pub struct Taken { pub bytes: usize, pub body_len: usize, pub offset: u64,
