@@ -174,6 +174,8 @@ entry_in uri held = ok_or (entry_at (store_in held.party).table uri) NOT_OPEN
 abbrev pub entry_asked : List ℕ → Result EndData ℕ → Result DocumentItem ℕ
 entry_asked uri held = and_then (uri_asked uri) (λ named. and_then held (entry_in named))
 
--- The text of a document.
-abbrev pub entry_text : Result DocumentItem ℕ → Result (List ℕ) ℕ
-entry_text document = and_then document (λ entry. Ok entry.text)
+-- What is asked of a text, here of the open document's. The code of the URI comes before all others.
+abbrev pub asked_of_open : {X : Type 0} → List ℕ → Result EndData ℕ
+    → (Result (List ℕ) ℕ → Result X ℕ) → Result X ℕ
+asked_of_open uri held asked = and_then (uri_asked uri)
+    (λ named. asked (and_then (and_then held (entry_in named)) (λ entry. Ok entry.text)))

@@ -1,4 +1,4 @@
--- What edits mean on an end's open documents: text edits, and the canonical message of a batch.
+-- The canonical message of a batch on an open document, and the document that a message is about.
 use Rattle.std.specs.Prelude.{◌≡◌}
 use Rattle.laspidru.specs.Prelude.{ℕ, ℤ, List, length, Option, Some, None, Result, Ok, Err, Encoding, units_in, StoreData, OK, Object, FaultAt, ok_or, NO_DOCUMENT, and_then, EndData}
 use Rattle.lsp_edit.specs.Batch as batch
@@ -7,18 +7,12 @@ use Rattle.lsp_store.specs.Message.{canonical_frame, message_refusal}
 use Rattle.lsp_store.specs.Table.{Refusal}
 use Rattle.laspidru.specs.declared.structs.Edit.{Edit}
 use Rattle.laspidru.specs.Clients.{IsStoreReport}
-use Rattle.laspidru.specs.Edits.{Replacement, edits_asked, Asked, edits_encoding, edits_of}
-use Rattle.laspidru.specs.Ends.{entry_in, entry_text, store_in}
+use Rattle.laspidru.specs.Edits.{edits_encoding, edits_of}
+use Rattle.laspidru.specs.Ends.{store_in}
 use Rattle.laspidru.specs.Logs.{as_output}
 use Rattle.laspidru.specs.Objects.{in_handle, uri_asked}
 use Rattle.laspidru.specs.Servers.{store_code}
 use Rattle.lsp_message.specs.Incoming.{IncomingData, did_open, did_change, did_close}
-
--- Text edits as C passes them, on the open document of a URI.
-abbrev pub edits_named : List ℕ → ℕ → List Edit → List ℕ → Result EndData ℕ
-    → Result (Asked Replacement) ℕ
-edits_named uri number edits texts held = and_then (uri_asked uri) (λ named.
-    edits_asked number edits texts (entry_text (and_then held (entry_in named))))
 
 -- A batch on the open document of a URI, under a version.
 pub record MessageAsked : Type 0 where

@@ -1,4 +1,4 @@
-//! The functions on documents. `positions` has those on positions and lines.
+//! The functions on documents.
 
 ghost use Rattle.std.specs.Prelude.{◌≡◌, ◌≢◌, ◌≤◌, ◌+◌, IfOk, None, Some, length};
 ghost use Rattle.std.specs.Str.{chars};
@@ -9,8 +9,6 @@ ghost use Rattle.laspidru.specs.inside.Passed.{changes_on};
 ghost use Rattle.laspidru.specs.Codes.{IsAnswer, IsAnswerOrNoMemory, unless};
 ghost use Rattle.laspidru.specs.Objects.{IsCopy, as_document, in_handle, in_use};
 ghost use Rattle.laspidru.specs.Objects.{rest_asked, text_asked};
-
-mod positions;
 
 use crate::bytes::{checked_text, copy_text};
 use crate::changes::{Passed, encoding_of, report};

@@ -2,12 +2,11 @@
 
 ghost use Rattle.std.specs.Prelude.{◌≡◌, ◌≢◌, length};
 ghost use Rattle.laspidru.specs.Codes.{IsAnswer};
-ghost use Rattle.laspidru.specs.Ends.{as_end, entry_asked, entry_text};
+ghost use Rattle.laspidru.specs.Ends.{as_end, asked_of_open, entry_asked};
 ghost use Rattle.laspidru.specs.Objects.{IsCopy, in_handle, rest_asked};
 
 mod edits;
 mod message;
-mod positions;
 
 use crate::answers::Opened;
 use crate::bytes::{checked_text, copy_text};
@@ -53,8 +52,8 @@ pub extern "C" fn laspidru_session_document_text(
     out: &mut [u8],
     copied: &mut usize,
 ) -> u32
-    ensures answer { let document = entry_asked uri.now (in_handle as_end handle.old.value) in
-        IsAnswer (rest_asked start (entry_text document)) result
+    ensures answer { let held = in_handle as_end handle.old.value in
+        IsAnswer (asked_of_open uri.now held (rest_asked start)) result
         (IsCopy out.old out.new copied.new) }
     ensures handle { handle.new.value ≡ handle.old.value }
     ensures unchanged { result ≢ OK → (out.new ≡ out.old) × (copied.new ≡ copied.old) }

@@ -6,20 +6,22 @@
 //! (`include/CODES.md`). If the code isn't [`OK`], nothing has changed, with the exceptions that
 //! are listed there.
 //!
-//! - `document`: the functions on documents in handles, with those on positions and lines
-//!   (`positions`); `batch`: those on canonical batches; `edits`: those on text edits; `framer`:
-//!   those on framers; `log`: those on logs, with the one that compares (`compare`); `texts`: the
-//!   version, what codes mean, and the document of a message.
+//! - `document`: the functions on documents in handles; `batch`: those on canonical batches;
+//!   `edits`: those on text edits; `framer`: those on framers; `log`: those on logs, with the one
+//!   that compares (`compare`); `texts`: the version, what codes mean, and the document of a
+//!   message.
+//! - `positions`: the functions on positions and lines of a document, and of an open document of an
+//!   end.
 //! - `server`, `client`: the functions on one end alone, of a client with its lifecycle
 //!   (`lifecycle`), its calls on documents (`editing`), and what both are over (`call`).
 //! - `ends`: the functions on either end; `documents`: those on its open documents, with those on
-//!   positions and lines (`positions`), text edits (`edits`) and canonical messages (`message`).
+//!   text edits (`edits`) and canonical messages (`message`).
 //! - `handle`: a handle that C holds, over the pointer of a box (`raw_box`); `object`: the object
 //!   in it; `end`: an end in it, with its last frame and its `stream`; `party`: which end it is.
 //! - `codes`: the codes that the functions return, and `laws` their numbers; `structs`: the plain
 //!   structs that C passes and gets.
 //! - `changes`: edits that C passes, and the report of a change's fault; `bytes`: bytes that C
-//!   passes or gets; `positions`: positions, byte offsets and lines of a text.
+//!   passes or gets.
 //! - `answers`: a server's settings, and what C gets of an end; `reports`: a client's; `taken`:
 //!   what is taken of a stream; `endings`: the settings of a command on a log, and its ending.
 //! - `command`: the commands over bytes; `log_reader`: a log in memory, as a command reads it;

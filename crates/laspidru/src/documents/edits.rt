@@ -2,9 +2,8 @@
 
 ghost use Rattle.std.specs.Prelude.{◌≡◌, ◌≢◌};
 ghost use Rattle.laspidru.specs.Codes.{IsAnswerOrNoMemory, unless};
-ghost use Rattle.laspidru.specs.Edits.{AreBatched, IsUnlessFaulty};
-ghost use Rattle.laspidru.specs.Ends.{as_end};
-ghost use Rattle.laspidru.specs.Messages.{edits_named};
+ghost use Rattle.laspidru.specs.Edits.{AreBatched, IsUnlessFaulty, edits_asked};
+ghost use Rattle.laspidru.specs.Ends.{as_end, asked_of_open};
 ghost use Rattle.laspidru.specs.Objects.{in_handle, in_use};
 
 use crate::bytes::checked_text;
@@ -36,7 +35,8 @@ pub extern "C" fn laspidru_session_document_batch_of_edits(
 ) -> u32
     ensures answer { let held =
         unless (in_use batch.old.value) (in_handle as_end handle.old.value) in
-        IsAnswerOrNoMemory (edits_named uri.now encoding edits.now texts.now held) result
+        IsAnswerOrNoMemory
+        (asked_of_open uri.now held (edits_asked encoding edits.now texts.now)) result
         (λ asked. AreBatched asked result batch.new.value fault.new) }
     ensures handle { handle.new.value ≡ handle.old.value }
     ensures unchanged { result ≢ OK → batch.new.value ≡ batch.old.value }
