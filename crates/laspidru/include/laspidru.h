@@ -91,7 +91,7 @@ enum {
     LASPIDRU_BAD_SERVER = 7 /* the session can't continue; the documents stay */
 };
 
-/* Phases of a session. A server's are NEW, READY, CLOSED and DONE. */
+/* Phases of a session. A server's are NEW, READY, CLOSED and DONE: New, Running, Down and Ended of docs/PROTOCOL.md. */
 enum {
     LASPIDRU_PHASE_NEW = 0,     /* before initialize */
     LASPIDRU_PHASE_ASKED = 1,   /* initialize was sent */
