@@ -2,7 +2,6 @@
 import collections
 import functools
 import os
-import re
 
 from reading.antt import is_called
 from reading.repository import Repository
@@ -11,53 +10,7 @@ from .language import Translation, equations_of, tokens_of
 from .library import CONSTRUCTORS, FUNCTIONS, SUMS
 from .values import EMPTY, CannotRun, Case, Function, List, Record, apply, case, equal, joined
 
-# A clause, or a branch of `if`, of a definition: something that a run reaches, or not
-Row = collections.namedtuple("Row", "definition kind line")
-keeping = functools.lru_cache(1 << 17)  # so many values are kept of each function at most
-
-
-class Source:
-    """Where a term stands, which is a file or the command line: what its names mean there, and what it needs beside the term."""
-
-    def __init__(self, definitions, module, definition=None):
-        self.definitions, self.module, self.definition, self.count = definitions, module, definition, 0
-        self.constant = definitions.constant
-
-    def fresh(self):
-        self.count += 1
-        return f"v{self.count}"
-
-    def row(self, kind, line):
-        self.definitions.rows.append(Row(self.definition, kind, line))
-        return f"reach({len(self.definitions.rows) - 1})"
-
-    def meaning(self, word):
-        """What a dotted name begins with: its kind, what it is, and the fields that follow."""
-        first, *rest = parts = word.replace("::", ".").split(".")
-        if self.module is None:
-            found = [(self.definitions.named("::".join(parts[:count])), parts[count:]) for count in range(len(parts), 0, -1)]
-            found, rest = next((it for it in found if it[0]), (None, rest))
-        else:
-            found = self.definitions.meaning(self.module, first)
-            if found is None and rest and first in self.module.scope.modules:
-                found, rest = self.definitions.imported(self.module.scope.modules[first], rest[0]), rest[1:]
-        if found is None:
-            raise CannotRun(f"{word}: no definition has this name")
-        return (*found, rest)
-
-    def is_constructor(self, word):
-        try:
-            return self.meaning(word)[0] == "constructor"
-        except CannotRun:
-            return False
-
-    def called(self, kind, meant):
-        if kind == "definition":
-            self.definitions.callers[meant].add(self.definition)
-            return self.definitions.arity(meant), self.definitions.name(meant)
-        if meant not in FUNCTIONS:
-            raise CannotRun(f"{meant} of the kit's library isn't written anew")
-        return FUNCTIONS[meant][0], f"lib_{meant}"
+KEPT = 1 << 17  # so many values are kept of each function at most
 
 
 class Specifications(Repository):
@@ -75,30 +28,22 @@ class Definitions:
     def __init__(self, top):
         self.repository = Specifications(top)
         self.names, self.equations, self.rows, self.reached = {}, functools.cache(equations_of), [], set()
-        self.kept, self.made, self.callers = [], {}, collections.defaultdict(set)
+        self.kept, self.callers = [], collections.defaultdict(set)
+        self.shared = self.keep(lambda make, *args: make(*args))
         self.space = {it.__name__: it for it in (apply, Case, case, equal, Function, joined, List, Record, CannotRun)}
         late = functools.cache(lambda name: lambda *args: self.space[name](*args))
         self.space.update(EMPTY=EMPTY, reach=self.reached.add, late=late)
         for name, (_, function) in FUNCTIONS.items():
-            self.space[f"lib_{name}"] = function
-        for name in ("lib_chars", "lib_encode_utf8_all", "lib_read"):
-            self.keep(name)
+            self.space[f"lib_{name}"] = self.keep(function) if name in ("chars", "encode_utf8_all", "read") else function
 
-    def keep(self, name):
-        """What a function computes is kept: texts are shared, so most is asked again and again."""
-        self.space[name] = keeping(self.space[name])
-        self.kept.append(self.space[name])
-
-    def shared(self, key, make):
-        """What was made once for a key."""
-        if key not in self.made:
-            self.made[key] = make()
-        return self.made[key]
+    def keep(self, function):
+        """A function that keeps what it computes: texts are shared, so most is asked again and again."""
+        self.kept.append(functools.lru_cache(KEPT)(function))
+        return self.kept[-1]
 
     def forget(self):
         for it in self.kept:
             it.cache_clear()
-        self.made.clear()
         SUMS.clear()
 
     # ---- names
@@ -141,7 +86,7 @@ class Definitions:
         equations = self.equations(definition)
         if not equations:
             raise CannotRun(f"{definition.path()} has no equations")
-        return len(Translation(equations[0][0], Source(self, definition.module)).patterns())
+        return len(Translation(self, definition.module).patterns(equations[0][0]))
 
     def constant(self, value):
         name = f"constant_{len(self.space)}"
@@ -151,40 +96,33 @@ class Definitions:
     def name(self, definition):
         """The name of a definition's function in `space`."""
         if definition not in self.names:
-            self.names[definition] = f"d{len(self.names)}_{re.sub(r'[^A-Za-z0-9_]', '', definition.name)}"
+            self.names[definition] = f"d{len(self.names)}"
             self.set_equations(definition, self.equations(definition))
         return self.names[definition]
 
     def set_equations(self, definition, equations):
         """Lets a definition have these equations from now on. They are translated when it is first called."""
-        name = self.name(definition)
-
-        def first(*args):
-            if self.space[name] is first:
-                self.translate(definition, equations)
-            return self.space[name](*args)
-        self.space[name] = first
+        self.space[self.name(definition)] = lambda *args: self.translate(definition, equations)(*args)
 
     def translate(self, definition, equations):
-        """Makes the function of a definition. What can't be run in it is an error where it is reached."""
+        """Makes the function of a definition, and returns it. What can't be run in it is an error where it is reached."""
         name = self.name(definition)
         lines = [f"def {name}({', '.join(f'a{at}' for at in range(self.arity(definition)))}):"]
         for left, right in equations:
             lines += self.equation(definition, left, right)
         lines.append(f"    raise CannotRun('no equation of {definition.path()} fits')")
         exec(compile("\n".join(lines), definition.path(), "exec"), self.space)
-        self.keep(name)
+        self.space[name] = self.keep(self.space[name])
+        return self.space[name]
 
     def equation(self, definition, left, right):
-        source = Source(self, definition.module, definition)
-        patterns = Translation(left, source)
-        lines, indent = [], "    "
-        for line in (line for it in patterns.patterns() for line in it):
+        translation, lines, indent = Translation(self, definition.module, definition), [], "    "
+        for line in (line for it in translation.patterns(left) for line in it):
             lines.append(indent + line)
             indent += "    " if line.startswith("if ") else ""
-        lines.append(indent + source.row("clause", (left or right)[0].line))
+        lines.append(indent + translation.row("clause", (left or right)[0].line))
         try:
-            return [*lines, f"{indent}return {Translation(right, source, patterns.scope).whole()}"]
+            return [*lines, f"{indent}return {translation.whole(right)}"]
         except CannotRun as why:
             return [*lines, f"{indent}raise CannotRun({f'{definition.path()}: {why}'!r})"]
 
@@ -208,4 +146,4 @@ class Definitions:
     def value(self, text, files=()):
         """The value of a term, in which each name stands for what is called so anywhere."""
         tokens = tokens_of(enumerate(text.split("\n"), 1))
-        return eval(Translation(tokens, Source(self, None), files).whole(), self.space)
+        return eval(Translation(self, None, scope=files).whole(tokens), self.space)

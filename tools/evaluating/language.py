@@ -1,4 +1,6 @@
 """The language of definitions: a term becomes an expression of Python, and the patterns of an equation lines before it."""
+import collections
+import itertools
 import re
 
 from .library import FUNCTIONS
@@ -21,16 +23,18 @@ TESTS = {
     "true": ("{} is True", None), "false": ("{} is False", None), "[]": ("{0}.high == {0}.low", None), "zero": ("{} == 0", None),
     "suc": ("{} > 0", "{} - 1"), "pos": ("{} >= 0", "{}"), "negsuc": ("{} < 0", "-{} - 1"),
 }
+# A clause, or a branch of `if`, of a definition: something that a run reaches, or not
+Row = collections.namedtuple("Row", "definition kind line")
 
 
 class Token(str):
     """A word, a sign or a text: its kind, its line and column, whether the line begins with it, and whether it touches the one before."""
-    __slots__ = ("kind", "line", "column", "is_first", "touches")
+    kind, line, column, is_first, touches = "end", 0, 0, False, False
 
     @staticmethod
-    def at(text, kind="end", line=0, column=0, is_first=False, touches=False):
+    def at(text, **place):
         found = Token(text)
-        found.kind, found.line, found.column, found.is_first, found.touches = kind, line, column, is_first, touches
+        vars(found).update(place)
         return found
 
 
@@ -43,7 +47,7 @@ def tokens_of(rows):
             word, column = match[0], match.start()
             has_dot = match.lastgroup == "word" and len(word) > 1 and word[-1] == "."
             for part in () if match.lastgroup == "comment" else (word[:-1], ".") if has_dot else (word,):
-                tokens.append(Token.at(part, match.lastgroup, number, column, is_first, column == end))
+                tokens.append(Token.at(part, kind=match.lastgroup, line=number, column=column, is_first=is_first, touches=column == end))
                 is_first = False
             end = match.end()
     return tokens
@@ -51,35 +55,33 @@ def tokens_of(rows):
 
 def equations_of(definition):
     """The equations of a definition, each as the tokens on both sides of `=`. A record holds, as a relation, where all its fields do."""
-    rows = list(zip(definition.numbers, definition.counted))
     if definition.kind == "record":
         head, *fields = re.split(r"\n  pub \S+ :", "\n".join(definition.counted))
         names = " ".join(re.findall(r"[({]([^(){}:]+) :", head))
         right = " × ".join(f"({it})" for it in fields).replace("\n", " ")
         return [(tokens_of([(definition.line, names)]), tokens_of([(definition.line, right)]))]
-    groups = []
-    for number, row in rows[1:]:
-        if row.startswith("module "):
-            break
-        if row[0] not in " }":
-            groups.append([])
-        if groups:
-            groups[-1].append((number, row))
-    found = []
-    for tokens in map(tokens_of, groups):
-        at = tokens.index("=")
-        found.append(([it for it in tokens[:at] if it != definition.name.strip("◌")], tokens[at + 1:]))
-    return found
+    rows, found = list(zip(definition.numbers, definition.counted)), []
+    for token in tokens_of(itertools.takewhile(lambda it: not it[1].startswith("module "), rows[1:])):
+        if token.is_first and token.column == 0 and token != "}":
+            found.append([])
+        if found:
+            found[-1].append(token)
+    name, ends = definition.name.strip("◌"), [it.index("=") for it in found]
+    return [([it for it in tokens[:at] if it != name], tokens[at + 1:]) for tokens, at in zip(found, ends)]
 
 
 class Translation:
-    """What a run of tokens is in Python. `scope` has the names that are bound, each with Python's name for it."""
+    """What tokens of a file or of the command line are in Python. `scope` has the names that are bound, each with Python's name for it."""
 
-    def __init__(self, tokens, source, scope=()):
-        self.tokens, self.index, self.source, self.scope = [*tokens, Token.at("")], 0, source, dict(scope)
+    def __init__(self, definitions, module, definition=None, scope=()):
+        self.definitions, self.module, self.definition, self.scope = definitions, module, definition, dict(scope)
+        self.fresh = map("v{}".format, itertools.count()).__next__
         self.column = -1  # that of the lines of a `do`
 
     # ---- tokens
+
+    def read(self, tokens):
+        self.tokens, self.index = [*tokens, Token()], 0
 
     @property
     def seen(self):
@@ -100,7 +102,8 @@ class Translation:
             depth += (word in ("(", "{")) - (word in (")", "}"))
         self.next()
 
-    def whole(self):
+    def whole(self, tokens):
+        self.read(tokens)
         found = self.term()
         if self.seen:
             raise CannotRun(f"{self.seen} can't come there")
@@ -137,11 +140,11 @@ class Translation:
             if has_type:
                 self.pass_to(")")
         self.next()
-        locals_ = [self.source.fresh() for _ in names]
+        locals_ = [self.fresh() for _ in names]
         return f"Function({len(names)}, lambda {', '.join(locals_)}: {self.within(dict(zip(names, locals_)), self.term)})"
 
     def let(self, _):
-        name, local = self.next(), self.source.fresh()
+        name, local = self.next(), self.fresh()
         self.pass_to("=")
         value = self.term()
         self.next("in")
@@ -150,9 +153,9 @@ class Translation:
     def branch(self, word):
         test = self.term()
         self.next("then")
-        first = f"{self.source.row('then', word.line)} or {self.term()}"
+        first = f"{self.row('then', word.line)} or {self.term()}"
         self.next("else")
-        return f"(({first}) if {test} else ({self.source.row('else', word.line)} or {self.term()}))"
+        return f"(({first}) if {test} else ({self.row('else', word.line)} or {self.term()}))"
 
     def steps(self, _):
         """`do`: each line names what was found, and the last one is the result."""
@@ -164,10 +167,10 @@ class Translation:
     def step(self):
         if self.tokens[self.index + 1] != "←":
             return self.term()
-        name, _, local = self.next(), self.next("←"), self.source.fresh()
+        name, _, local = self.next(), self.next("←"), self.fresh()
         found = self.term()
         after = self.within({name: local}, self.step)
-        return self.head(Token.at("◌>>=◌"))([found, f"Function(1, lambda {local}: {after})"])
+        return self.head(Token("◌>>=◌"))([found, f"Function(1, lambda {local}: {after})"])
 
     def within(self, names, read):
         before = self.scope
@@ -185,7 +188,7 @@ class Translation:
     def plain_atom(self):
         word = self.next()
         if word.kind == "text":
-            return self.source.constant(codes_of(re.sub(r"\\(.)", lambda it: ESCAPES.get(it[1], it[1]), word[1:-1])))
+            return self.definitions.constant(codes_of(re.sub(r"\\(.)", lambda it: ESCAPES.get(it[1], it[1]), word[1:-1])))
         if word == "record":
             return self.record()
         if word == "(":
@@ -220,6 +223,32 @@ class Translation:
     def fields(names):
         return "".join(f"[{it}]" if it.isdigit() else f".x_{it}" for it in names)
 
+    def row(self, kind, line):
+        self.definitions.rows.append(Row(self.definition, kind, line))
+        return f"reach({len(self.definitions.rows) - 1})"
+
+    def meaning(self, word):
+        """What a dotted name begins with: its kind, what it is, and the fields that follow."""
+        first, *rest = parts = word.replace("::", ".").split(".")
+        if self.module is None:
+            found = [(self.definitions.named("::".join(parts[:count])), parts[count:]) for count in range(len(parts), 0, -1)]
+            found, rest = next((it for it in found if it[0]), (None, rest))
+        else:
+            found = self.definitions.meaning(self.module, first)
+            if found is None and rest and first in self.module.scope.modules:
+                found, rest = self.definitions.imported(self.module.scope.modules[first], rest[0]), rest[1:]
+        if found is None:
+            raise CannotRun(f"{word}: no definition has this name")
+        return (*found, rest)
+
+    def called(self, kind, meant):
+        if kind == "definition":
+            self.definitions.callers[meant].add(self.definition)
+            return self.definitions.arity(meant), self.definitions.name(meant)
+        if meant not in FUNCTIONS:
+            raise CannotRun(f"{meant} of the kit's library isn't written anew")
+        return FUNCTIONS[meant][0], f"lib_{meant}"
+
     def head(self, word):
         """What a name is: an expression, or what makes one of the arguments that follow it."""
         first, *rest = word.split(".")
@@ -227,12 +256,12 @@ class Translation:
             return self.scope[first] + self.fields(rest)
         if word in PLAIN:
             return PLAIN[word]
-        kind, meant, rest = self.source.meaning(word)
+        kind, meant, rest = self.meaning(word)
         if kind == "constructor" and meant not in FUNCTIONS:
             return PLAIN.get(meant) or (lambda args: f"Case({meant!r}, ({', '.join(args)},))" if args else f"case({meant!r})")
         if kind == "type":
             raise CannotRun(f"{word} is a type, in line {word.line}")
-        arity, name = self.source.called(kind, meant)
+        arity, name = self.called(kind, meant)
         return f"{name}(){self.fields(rest)}" if rest else lambda args: self.call(arity, name, args)
 
     @staticmethod
@@ -244,8 +273,9 @@ class Translation:
 
     # ---- patterns: lines of Python, which are tests, and names for parts of a value
 
-    def patterns(self):
+    def patterns(self, tokens):
         """Returns the lines for each pattern of an equation: the first is of `a0`, the next of `a1`, and so on."""
+        self.read(tokens)
         found = []
         while self.seen:
             found.append(self.pattern_atom(f"a{len(found)}"))
@@ -253,37 +283,39 @@ class Translation:
 
     def pattern(self, value):
         """A pattern in parentheses: a constructor with its parts, or a first entry and a rest."""
-        first = self.source.fresh()
-        lines = self.constructor_pattern(self.next(), first) if self.is_constructor(self.seen) else self.pattern_atom(first)
+        first = self.fresh()
+        lines = self.pattern_atom(first, True)
         if self.seen != "∷":
             return [f"{first} = {value}", *lines]
         self.next()
-        rest = self.source.fresh()
+        rest = self.fresh()
         return [f"if {value}.high > {value}.low:", f"{first} = {value}.entries[{value}.high - 1]", *lines,
                 f"{rest} = List({value}.entries, {value}.low, {value}.high - 1)", *self.pattern(rest)]
 
-    def pattern_atom(self, value):
+    def pattern_atom(self, value, has_parts=False):
+        """A name, a constructor, or patterns in parentheses."""
         word = self.next()
-        if self.is_constructor(word):
-            return self.constructor_pattern(word, value, False)
+        if tag := self.tag_of(word):
+            test, argument = TESTS.get(tag, (f"{{}}.tag == {tag!r}", "{}.args[{}]"))
+            lines, at = [f"if {test.format(value)}:"], 0
+            while has_parts and self.seen not in ("", ")", ",", "∷"):
+                local = self.fresh()
+                lines += [f"{local} = {argument.format(value, at)}", *self.pattern_atom(local)]
+                at += 1
+            return lines
         if word != "(":
             self.scope[word] = value
             return []
         names, lines = [], []
         while not names or self.next() == ",":
-            names.append(self.source.fresh())
+            names.append(self.fresh())
             lines += self.pattern(names[-1])
         return [f"{', '.join(names)} = {value}", *lines]
 
-    def is_constructor(self, word):
-        return word in PLAIN or word != "(" and self.source.is_constructor(word)
-
-    def constructor_pattern(self, word, value, has_parts=True):
-        tag = word if word in PLAIN else self.source.meaning(word)[1]
-        test, argument = TESTS.get(tag, (f"{{}}.tag == {tag!r}", None))
-        lines, at = [f"if {test.format(value)}:"], 0
-        while has_parts and self.seen not in ("", ")", ",", "∷"):
-            local = self.source.fresh()
-            lines += [f"{local} = " + (argument.format(value) if argument else f"{value}.args[{at}]"), *self.pattern_atom(local)]
-            at += 1
-        return lines
+    def tag_of(self, word):
+        """The constructor that a word names, if it does."""
+        try:
+            kind, meant, _ = ("constructor", word, []) if word in PLAIN else self.meaning(word)
+        except CannotRun:
+            return None
+        return meant if kind == "constructor" else None

@@ -3,9 +3,10 @@ import functools
 import itertools
 import json
 import math
+import operator
 import re
 
-from .values import NONE, CannotRun, apply, bytes_of, case, codes_of, equal, joined, list_of, some, text_of
+from .values import NONE, CannotRun, apply, case, codes_of, equal, joined, list_of, some, text_of, utf8
 
 # ---- lists
 
@@ -28,7 +29,7 @@ def split(test, items):
 
 def matches(hay, needle, start):
     """Where a list of bytes has another from an index on. Occurrences that overlap one before aren't counted."""
-    text, part, found = bytes_of(hay), bytes_of(needle), []
+    text, part, found = bytes(hay), bytes(needle), []
     while (start := text.find(part, start)) >= 0:
         found.append(start)
         start += max(1, len(part))
@@ -50,35 +51,21 @@ def sum_by(function, items):
 # ---- characters
 
 
-def decoded(data):
-    try:
-        return bytes_of(data).decode()
-    except UnicodeDecodeError:
-        return None
-
-
 def chars(data):
-    if (text := decoded(data)) is None:
-        raise CannotRun("`chars` of bytes that aren't UTF-8")
-    return codes_of(text)
+    return codes_of(bytes(data).decode())
 
 
 def percent_decode(data):
     """Bytes with the byte for each `%` and two hex digits."""
-    return list_of(re.sub(rb"%([0-9A-Fa-f]{2})", lambda found: bytes.fromhex(found[1].decode()), bytes_of(data)))
+    return list_of(re.sub(rb"%([0-9A-Fa-f]{2})", lambda found: bytes.fromhex(found[1].decode()), bytes(data)))
 
 
 def quoted(data):
     """A JSON string of bytes of UTF-8, with the fewest escapes."""
-    text = json.dumps(bytes_of(data).decode("utf-8", "surrogateescape"), ensure_ascii=False)
-    return list_of(text.encode("utf-8", "surrogateescape"))
+    return utf8(json.dumps(bytes(data).decode("utf-8", "surrogateescape"), ensure_ascii=False))
 
 
-# ---- JSON: Python's reader finds the values, and these are what the kit's reader calls them
-
-
-class Members(list):
-    """The members of an object, in the order of the text."""
+# ---- JSON: Python's reader finds the values, objects as tuples, and these are what the kit's reader calls them
 
 
 def number_read(text):
@@ -97,9 +84,9 @@ def value_of(read):
         return case("null")
     if isinstance(read, bool):
         return case("boolean", read)
-    if isinstance(read, Members):
-        found = case("no_members")
+    if isinstance(read, tuple):
         # (of members of one name the last one counts; they are in the order of their names' bytes)
+        found = case("no_members")
         for name, it in sorted({name.encode(): it for name, it in read}.items(), reverse=True):
             found = case("member", list_of(name), value_of(it), found)
         return case("object", found)
@@ -107,10 +94,7 @@ def value_of(read):
 
 
 def items_of(values):
-    found = case("no_items")
-    for it in reversed(list(values)):
-        found = case("item", it, found)
-    return found
+    return functools.reduce(lambda rest, it: case("item", it, rest), reversed(list(values)), case("no_items"))
 
 
 def depth(text):
@@ -120,10 +104,10 @@ def depth(text):
 
 def json_read(data):
     """The value of a body that is UTF-8, if it is JSON."""
-    text = bytes_of(data).decode()
+    text = bytes(data).decode()
     try:
         hooks = {"parse_int": number_read, "parse_float": number_read, "parse_constant": number_read}
-        return NONE if depth(text) > 127 else some(value_of(json.loads(text, object_pairs_hook=Members, **hooks)))
+        return NONE if depth(text) > 127 else some(value_of(json.loads(text, object_pairs_hook=tuple, **hooks)))
     except ValueError:
         return NONE
 
@@ -167,8 +151,7 @@ def if_some(option, function, default):
 LIBRARY = {
     "Numbers": {
         "suc": (1, lambda n: n + 1), "pos": (1, lambda n: n), "negsuc": (1, lambda n: -n - 1), "min": (2, min), "max": (2, max),
-        "nat_lt": (2, lambda a, b: a < b), "nat_le": (2, lambda a, b: a <= b), "nat_eq": (2, lambda a, b: a == b),
-        "int_lt": (2, lambda a, b: a < b), "int_le": (2, lambda a, b: a <= b), "int_eq": (2, lambda a, b: a == b),
+        **{f"{kind}_{name}": (2, getattr(operator, name)) for kind in ("nat", "int") for name in ("lt", "le", "eq")},
         "not": (1, lambda b: not b), "decimal": (1, lambda n: list_of(b"%d" % n)), "signed_decimal": (1, lambda n: list_of(b"%d" % n)),
     },
     "Lists": {
@@ -201,8 +184,8 @@ LIBRARY = {
     "Characters and bytes": {
         "codes": (1, lambda text: text), "chars": (1, chars), "encode_utf8_all": (1, lambda xs: list_of(text_of(xs).encode())),
         "encode_utf8": (1, lambda c: list_of(chr(c).encode())), "len_utf8": (1, lambda c: 1 + (c > 0x7f) + (c > 0x7ff) + (c > 0xffff)),
-        "is_utf8": (1, lambda data: decoded(data) is not None), "bytes_eq": (2, equal),
-        "str_eq_ignore_ascii_case": (2, lambda a, b: bytes_of(a).lower() == bytes_of(b).lower()),
+        "is_utf8": (1, lambda data: bytes(data).decode(errors="replace").encode() == bytes(data)), "bytes_eq": (2, equal),
+        "str_eq_ignore_ascii_case": (2, lambda a, b: bytes(a).lower() == bytes(b).lower()),
         "string_bytes": (1, lambda text: text), "quoted": (1, quoted), "percent_decode": (1, percent_decode),
     },
     "JSON": {

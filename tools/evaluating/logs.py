@@ -2,14 +2,14 @@
 import collections
 import re
 
-from .values import EMPTY, NONE, CannotRun, apply, bytes_of, case, list_of, record, some
+from .values import EMPTY, NONE, CannotRun, apply, case, list_of, record, some, utf8
 
 # The bytes of a header, and of what more bytes may make one
 LINE = rb"[!-9;-~]+:[\t -~]*\r\n"
 HEADER = re.compile(rb"(?:%s)*\r\n" % LINE)
 BEGINS = re.compile(rb"(?:%s)*(?:\r|[!-9;-~]+(?::[\t -~]*\r?)?)?" % LINE)
 LONGEST = 8192
-ENCODINGS = {"utf-8": "Utf8", "utf-16": "Utf16", "utf-32": "Utf32"}
+ENCODINGS = {"utf-8": case("Utf8"), "utf-16": case("Utf16"), "utf-32": case("Utf32")}
 MARKS = {b">": "Client", b"<": "Server"}
 # What is written, the status, and the first lines on standard error
 Output = collections.namedtuple("Output", "out status error")
@@ -28,7 +28,7 @@ class Frames:
         if found:
             rows = [it.partition(b":") for it in found[0].split(b"\r\n")[:-2]]
             lines = list_of(record(name=list_of(name), value=list_of(value)) for name, _, value in rows)
-            if bytes_of(run("header_of", lines)) != found[0] or not run("AreLines", lines):
+            if bytes(run("header_of", lines)) != found[0] or not run("AreLines", lines):
                 raise CannotRun("a header was split wrongly")
             judged = run("judge_header", self.max_body, lines)
             if judged.tag == "Ok":
@@ -50,7 +50,7 @@ class Frames:
         end = sum(header) if header else 0
         if not header or end > len(self.data):
             return None
-        return end, *(self.run.shared(it, lambda: list_of(it)) for it in (self.data[start:end], self.data[header[0]:end]))
+        return end, *(self.run.shared(list_of, self.data[at:end]) for at in (start, header[0]))
 
     def all_from(self, start):
         """Yields each frame and its body."""
@@ -60,22 +60,22 @@ class Frames:
 
 
 class Log:
-    """A log: its version, its records, and the fault that ends them, if there is one."""
+    """A log: its version, its records, and the fault that ends them, if there is one. Commands share it that read by one rule."""
 
-    def __init__(self, run, data, rules):
-        line = bytes_of(run("version_line"))
-        is_two = rules.x_versions and data.startswith(line)
+    def __init__(self, run, data, max_body, has_versions, refuses_two):
+        line = bytes(run("version_line"))
+        is_two = has_versions and data.startswith(line)
         self.run, self.data, self.version = run, data, case("Two" if is_two else "One")
         self.records, self.taken, self.at, self.fault = [], EMPTY, len(line) if is_two else 0, None
-        if is_two and rules.x_refuses_two:
+        if is_two and refuses_two:
             self.fault = case("BadLog", 0)
             return
-        self.frames = Frames(run, data, rules.x_max_body)
+        self.frames = Frames(run, data, max_body)
         while self.at < len(data) and self.fault is None:
             self.take_record(is_two)
         self.taken = list_of(self.records)
         together = run("together", self.version, self.taken, list_of(data[self.at:]))
-        if bytes_of(run("line_of", self.version)) + bytes_of(together) != data:
+        if bytes(run("line_of", self.version)) + bytes(together) != data:
             raise CannotRun("a log was split wrongly")
 
     def take_record(self, is_two):
@@ -96,13 +96,8 @@ class Log:
         return self.run("is_line_due", self.version, list_of(self.records[:1]))
 
 
-def log_in(run, data, rules):
-    """The log that bytes are. Commands that read by one rule share its bodies, and what was computed of them."""
-    return run.shared((data, rules.x_max_body, rules.x_versions, rules.x_refuses_two), lambda: Log(run, data, rules))
-
-
 LIMITS = ("body", "text", "docs", "changes")
-FORMS = {"full": "Full", "incremental": "Incremental"}
+FORMS = {"full": case("Full"), "incremental": case("Incremental")}
 # The options of all commands with a value; then each command's own, without one and with one. `--lenient` all have.
 COMMON = {"encoding": ENCODINGS, **{f"max-{it}": None for it in LIMITS}}
 COMMANDS = {
@@ -113,19 +108,17 @@ COMMANDS = {
 
 
 def options_of(words, flags, valued):
-    """The options in the words of a command line, and the other words."""
-    found, names, rest = {}, [], iter(words)
+    """The options that the words of a command line are."""
+    found, rest = {}, iter(words)
     for word in rest:
-        name, has_value, value = word[2:].partition("=")
-        if word[:2] != "--":
-            names.append(word)
-        elif name in flags and not has_value:
+        name, has_value, value = word[2:].partition("=") if word[:2] == "--" else ("", "", "")
+        if name in flags and not has_value:
             found[name] = True
         elif name in valued and (has_value or (value := next(rest, None)) is not None) and (valued[name] is None or value in valued[name]):
             found[name] = value
         else:
             raise CannotRun(f"the program has no option {word}, or not this value of it")
-    return found, names
+    return found
 
 
 def limits_of(run, options, default, prefix="max-"):
@@ -135,30 +128,21 @@ def limits_of(run, options, default, prefix="max-"):
     return limits
 
 
-def encoding_of(name):
-    return case(ENCODINGS[name])
-
-
-def utf8(text):
-    return list_of(text.encode("utf-8", "surrogateescape"))
-
-
 def call_of(run, command, options, saved):
     """The call of a command line, as the definitions of the program name it. `compare` takes the text of the saved file."""
-    def has(*names):
-        return any(it in options for it in names)
+    has = options.__contains__
     limits = limits_of(run, options, run("default_limits").changed(x_lenient=has("lenient")))
-    encoding = encoding_of(options.get("encoding", "utf-16"))
+    encoding = ENCODINGS[options.get("encoding", "utf-16")]
     settings = run("default_settings").changed(x_limits=limits, x_encoding=encoding, x_squash=has("squash"))
     uri, at = (some(read(options[it])) if has(it) else NONE for it, read in (("uri", utf8), ("at", int)))
     if command == "serve":
-        sync = case(FORMS[options.get("sync", "incremental")])
+        sync = FORMS[options.get("sync", "incremental")]
         return case("Serve", run("default_config").changed(x_limits=limits, x_choice=case("Negotiated", encoding), x_sync=sync))
     calls = {
-        "check": ("Explain", settings, record(brief=has("brief"), all=has("all")), has("live")) if has("explain", "brief", "all") else (
-            "Check", settings, has("live")),
+        "check": ("Explain", settings, record(brief=has("brief"), all=has("all")), has("live"))
+        if {"explain", "brief", "all"} & options.keys() else ("Check", settings, has("live")),
         "trace": ("Trace", settings, record(texts=has("texts"), bodies=has("bodies")), has("live")),
-        "replay": ("ReplayPart", settings, record(at=at, uri=uri)) if has("at", "uri") else ("Replay", settings),
+        "replay": ("ReplayPart", settings, record(at=at, uri=uri)) if has("at") or has("uri") else ("Replay", settings),
         "compare": ("Compare", settings, record(ending=utf8(options.get("uri", "")), text=list_of(saved or b""))),
         "normalise": ("Normalise", settings, record(whole=has("whole"), documents=has("documents"), live=has("live"))),
         "convert": ("Convert", settings),
@@ -172,29 +156,30 @@ def run_log(run, words, data, saved=None, name=None):
     if command not in COMMANDS:
         raise CannotRun(f"lspsync has no command {command}")
     flags, valued = COMMANDS[command]
-    options, _ = options_of(rest, {"lenient", *flags.split()}, {**COMMON, **valued})
+    options = options_of(rest, {"lenient", *flags.split()}, {**COMMON, **valued})
     asked = call_of(run, command, options, saved)
     if command == "normalise" and "squash" in options and ("whole" in options or "live" in options):  # (`is_contrary`)
-        return Output(b"", 2, bytes_of(run("error_line", NONE, run("contrary_text"))))
+        return Output(b"", 2, bytes(run("error_line", NONE, run("contrary_text"))))
     result, out = run_engine(run, run("engine_of", asked), data)
     name, end = NONE if name is None else some(utf8(name)), result.args[0]
     if result.tag == "Err":
         text, cause = run("fault_text", end), run("fault_cause", end)
         line = run("blame_lines", name.args[0], text, cause.args[0], NONE) if name.args and cause.args else run("error_line", NONE, text)
-        return Output(out, run("status_of", end), bytes_of(line))
-    line = b"".join(bytes_of(run("error_line", name, run("missing_text", it))) for it in end.x_missing.args)
+        return Output(out, run("status_of", end), bytes(line))
+    line = b"".join(bytes(run("error_line", name, run("missing_text", it))) for it in end.x_missing.args)
     if name.args and end.x_missing.args and end.x_missing.args[0].tag == "Document":
         listed, words = run_engine(run, run("openings_engine", asked.args[0], utf8(options["uri"])), data)
-        line += words if listed.tag == "Ok" else bytes_of(run("error_line", name, run("unlisted_text")))
+        line += words if listed.tag == "Ok" else bytes(run("error_line", name, run("unlisted_text")))
     return Output(out, end.x_status, line)
 
 
 def run_engine(run, engine, data):
     """The result of an engine over bytes, and what it writes."""
-    log = log_in(run, data, engine.x_log_rules)
+    rules = engine.x_log_rules
+    log = run.shared(Log, run, data, rules.x_max_body, rules.x_versions, rules.x_refuses_two)
     output = apply(engine.x_run_output, log.taken)
     if output.x_stop.args:
-        return output.x_stop.args[0], bytes_of(output.x_out)
+        return output.x_stop.args[0], bytes(output.x_out)
     if log.fault:
-        return case("Err", log.fault), bytes_of(output.x_out)
-    return case("Ok", output.x_outcome), bytes_of(output.x_out) + bytes_of(apply(output.x_last, log.is_line_due()))
+        return case("Err", log.fault), bytes(output.x_out)
+    return case("Ok", output.x_outcome), bytes(output.x_out) + bytes(apply(output.x_last, log.is_line_due()))

@@ -2,9 +2,9 @@
 hands any body to the client."""
 import json
 
-from .logs import ENCODINGS, FORMS, LIMITS, Frames, Output, encoding_of, limits_of, options_of, utf8
-from .values import bytes_of, case, joined, list_of, record, some
-from .vectors import json_value
+from .logs import ENCODINGS, FORMS, LIMITS, Frames, Output, limits_of, options_of
+from .values import case, joined, list_of, record, utf8
+from .vectors import json_option
 
 SIMULATE = {"utf-8", "utf-32", "lenient"}, {
     "prefer": ENCODINGS, "fixed": ENCODINGS, "sync": FORMS, **{f"{of}max-{it}": None for of in ("", "server-") for it in LIMITS}}
@@ -14,17 +14,16 @@ CALLS = {"start": "starts", "shutdown": "shuts_down", "exit": "exits"}
 
 def setting_of(run, options):
     own = limits_of(run, options, run("default_limits").changed(x_lenient="lenient" in options))
-    choice = case("Negotiated", encoding_of(options.get("prefer", "utf-16")))
-    if "fixed" in options:
-        choice = case("Fixed", encoding_of(options["fixed"]))
-    config = record(limits=limits_of(run, options, own, "server-max-"), choice=choice, sync=case(FORMS[options.get("sync", "incremental")]))
+    kind, name = ("Fixed", options["fixed"]) if "fixed" in options else ("Negotiated", options.get("prefer", "utf-16"))
+    limits, sync = limits_of(run, options, own, "server-max-"), FORMS[options.get("sync", "incremental")]
+    config = record(limits=limits, choice=case(kind, ENCODINGS[name]), sync=sync)
     return record(limits=own, offers=record(utf8="utf-8" in options, utf32="utf-32" in options), config=config)
 
 
 def order_of(run, event):
     """The call on documents that an event is: its members are those of the message's parameters."""
     name = event["event"]
-    read = run(f"Params::{'change' if name == 'edit' else name}_of", some(json_value(event)))
+    read = run(f"Params::{'change' if name == 'edit' else name}_of", json_option(event))
     if not read.args:
         return None
     it = read.args[0]
@@ -55,7 +54,7 @@ class Pair:
         waiting = getattr(self.state, queue)
         if not waiting:
             return case("Nothing")
-        (_, body), = Frames(self.run, bytes_of(waiting.at(0)), max_body).all_from(0)
+        (_, body), = Frames(self.run, bytes(waiting.at(0)), max_body).all_from(0)
         self.state = self.state.changed(**{queue: waiting.dropped(1)})
         return hear(body)
 
@@ -91,7 +90,7 @@ class Pair:
 
 def run_events(run, words, data):
     """What the program writes of events, its status, and its line on standard error."""
-    setting = setting_of(run, options_of(words, *SIMULATE)[0])
+    setting = setting_of(run, options_of(words, *SIMULATE))
     kind = None if run("are_within", setting.x_limits, setting.x_config.x_limits) else "LimitsTooSmall"
     kind = kind if run("can_choose_utf16", setting.x_config.x_choice) else "NotUtf16"
     fault, out, pair = kind and case("Pair", case(kind)), b"", Pair(run, setting)
@@ -100,7 +99,7 @@ def run_events(run, words, data):
         if what is None:
             fault = case("BadEvent", number)
             break
-        out += bytes_of(run("step_line", number, what))
+        out += bytes(run("step_line", number, what))
     if fault:
-        return Output(out, run("run_fault_status", fault), bytes_of(run("Run::line", run("run_fault_text", fault))))
-    return Output(out + bytes_of(run("end_lines", pair.state)), 0, b"")
+        return Output(out, run("run_fault_status", fault), bytes(run("Run::line", run("run_fault_text", fault))))
+    return Output(out + bytes(run("end_lines", pair.state)), 0, b"")

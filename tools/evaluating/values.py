@@ -1,9 +1,11 @@
 """Values of definitions. Numbers and truth values are Python's, a pair is a tuple, and a text is the list of its characters' numbers."""
+import dataclasses
 import functools
 import json
+from typing import Callable
 
 
-class CannotRun(Exception):
+class CannotRun(ValueError):
     """Why a definition can't be run."""
 
 
@@ -68,10 +70,7 @@ def case(tag, *args):
 
 
 NONE = case("None")
-
-
-def some(value):
-    return Case("Some", (value,))
+some = functools.partial(case, "Some")
 
 
 class Record:
@@ -88,18 +87,12 @@ def record(**fields):
     return Record(**{f"x_{name}": value for name, value in fields.items()})
 
 
+@dataclasses.dataclass(unsafe_hash=True)
 class Function:
     """A function that takes so many arguments, and some of them. Two are equal if they are the same one with the same of them."""
-    __slots__ = ("arity", "run", "given")
-
-    def __init__(self, arity, run, given=()):
-        self.arity, self.run, self.given = arity, run, given
-
-    def __eq__(self, other):
-        return isinstance(other, Function) and self.run is other.run and self.given == other.given
-
-    def __hash__(self):
-        return hash((self.run, self.given))
+    arity: int
+    run: Callable
+    given: tuple = ()
 
 
 def apply(function, *args):
@@ -138,11 +131,8 @@ def codes_of(text):
     return list_of(map(ord, text))
 
 
-def bytes_of(codes):
-    try:
-        return bytes(codes)
-    except ValueError:
-        raise CannotRun("a number over 255 is no byte") from None
+def utf8(text):
+    return list_of(text.encode("utf-8", "surrogateescape"))
 
 
 # ---- how a value is written

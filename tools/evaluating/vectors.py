@@ -3,8 +3,8 @@ import collections
 import json
 
 from .library import json_read
-from .logs import Frames, encoding_of, run_log
-from .values import CannotRun, bytes_of, codes_of, list_of, record, some, text_of
+from .logs import ENCODINGS, Frames, run_log
+from .values import CannotRun, codes_of, list_of, record, text_of
 
 # What the cause of a refusal is called in a vector, and by `check`; and that of a fault of a frame
 CAUSES = {"E1": "inside-character", "E2": "reversed-range", "S1": "already-open", "S4": "not-open", "S5": "stale-version",
@@ -14,9 +14,9 @@ FAULTS = {"F1": "bad-header", "F2": "header-too-long", "F3": "missing-length", "
 ENDS = {"InsideStart": "start", "InsideStop": "end"}
 
 
-def json_value(value):
-    """A value of Python as the definitions see it in a body."""
-    return json_read(json.dumps(value).encode()).args[0]
+def json_option(value):
+    """A value of Python as the definitions see a member of a body that is there."""
+    return json_read(json.dumps(value).encode())
 
 
 def refusal(name, number, why):
@@ -26,20 +26,20 @@ def refusal(name, number, why):
 
 def left_by(run, units, old, items):
     """The text, and the canonical batch as a message has it. That does the same in each encoding, or it isn't returned."""
-    for name in ("utf-8", "utf-16", "utf-32"):
-        other = run("units_in", encoding_of(name))
+    for name, encoding in ENCODINGS.items():
+        other = run("units_in", encoding)
         again = run("meaning", other, old, run("Canonical::canonical", other, old, items))
         if again.tag == "Err" or not run("DoTheSame", again.args[0], items):
             return {"canonical": f"does something else in {name}"}
     body = run("body_of", run("change_message", codes_of("file:///a"), 2, run("Canonical::canonical", units, old, items)))
-    return {"text": text_of(run("Items::text_of", old, items)), "canonical": json.loads(bytes_of(body))["params"]["contentChanges"]}
+    return {"text": text_of(run("Items::text_of", old, items)), "canonical": json.loads(bytes(body))["params"]["contentChanges"]}
 
 
 def of_changes(run, vector):
     """The changes are read as those of a `textDocument/didChange`."""
-    units, old = run("units_in", encoding_of(vector["encoding"])), codes_of(vector["text"])
+    units, old = run("units_in", ENCODINGS[vector["encoding"]]), codes_of(vector["text"])
     params = {"textDocument": {"uri": "file:///a", "version": 1}, "contentChanges": vector["changes"]}
-    read = run("Params::change_of", some(json_value(params)))
+    read = run("Params::change_of", json_option(params))
     if not read.args:
         return {"refused": "invalid-params"}
     meant = run("meaning", units, old, list_of(run("content_change_from_data", it) for it in read.args[0].x_changes))
@@ -48,8 +48,8 @@ def of_changes(run, vector):
 
 def of_edits(run, vector):
     """Which edits overlap a relation says: here it is decided for each two. Any two of these may be named."""
-    units, old = run("units_in", encoding_of(vector["encoding"])), codes_of(vector["text"])
-    ranges = [run("range_in", some(json_value(it["range"]))) for it in vector["edits"]]
+    units, old = run("units_in", ENCODINGS[vector["encoding"]]), codes_of(vector["text"])
+    ranges = [run("range_in", json_option(it["range"])) for it in vector["edits"]]
     if not all(it.args for it in ranges):
         return {"refused": "invalid-params"}
     edits = [record(range=ends.args[0], new_text=list_of(it["newText"].encode())) for ends, it in zip(ranges, vector["edits"])]
@@ -83,8 +83,8 @@ def of_session(run, vector):
 
 def of_frames(run, vector):
     frames = Frames(run, vector["bytes"].encode("latin-1"), run("default_limits").x_max_body)
-    bodies = [bytes_of(body).decode("latin-1") for _, body in frames.all_from(0)]
-    fault = frames.fault and {"why": FAULTS[bytes_of(run("frame_fault_code", frames.fault)).decode()], "offset": frames.fault.args[0]}
+    bodies = [bytes(body).decode("latin-1") for _, body in frames.all_from(0)]
+    fault = frames.fault and {"why": FAULTS[bytes(run("frame_fault_code", frames.fault)).decode()], "offset": frames.fault.args[0]}
     return {"bodies": bodies, "fault": fault}
 
 

@@ -62,7 +62,7 @@ class Mutants:
         equations = [(left, list(right)) for left, right in self.run.equations(mutant.definition)]
         right = equations[mutant.number][1]
         word = right[mutant.index]
-        right[mutant.index] = Token.at(mutant.word, word.kind, word.line, word.column, word.is_first, word.touches)
+        right[mutant.index] = Token.at(mutant.word, **vars(word))
         return equations
 
 
