@@ -10,9 +10,6 @@ Each log begins with initialize, initialized and the documents that are opened. 
   replace-all  many changes a message, a word of each line, from the last line to the first, as editors send it
   whole        the whole text of a document, with one character more in the middle
   opens        documents that are opened and closed again
-  closes       documents that are all opened, and then all closed in an order: the log ends there
-  reopens      documents that are all opened; then each is closed and opened again, in turn
-  one-of-many  keystrokes in the last of many documents
   foreign      requests and notifications of 10 KB that aren't about texts, and one keystroke in twenty messages
   tiny         notifications of 30 bytes
 """
@@ -188,39 +185,8 @@ def opens(options, chance):
         yield closed(uri)
 
 
-def uris(options):
-    return ["file:///home/user/project/src/%d.rs" % number for number in range(options.documents)]
-
-
 def closed(uri):
     return message("textDocument/didClose", {"textDocument": {"uri": uri}})
-
-
-def closes(options, chance):
-    order = uris(options)
-    yield from (opened(uri, "") for uri in order)
-    if options.order == "last":
-        order.reverse()
-    elif options.order == "random":
-        order.sort(key=lambda uri: chance())
-    yield from map(closed, order)
-
-
-def reopens(options, chance):
-    pairs = [(opened(uri, ""), closed(uri)) for uri in uris(options)]
-    yield from (opening for opening, _ in pairs)
-    while True:
-        for opening, closing in pairs:
-            yield closing
-            yield opening
-
-
-def one_of_many(options, chance):
-    typist = Typist(chance, "file:///home/user/project/src/main.rs", options.lines)
-    yield from (opened(uri, "") for uri in uris(options)[1:])
-    yield typist.open()
-    while True:
-        yield typist.message(typist.change())
 
 
 def diagnostic(number):
@@ -286,9 +252,6 @@ KINDS = {
     "replace-all": replace_all,
     "whole": whole,
     "opens": opens,
-    "closes": closes,
-    "reopens": reopens,
-    "one-of-many": one_of_many,
     "foreign": foreign,
     "tiny": tiny,
 }
@@ -317,7 +280,6 @@ def parsed(words):
     parser.add_argument("--documents", type=number, default=1_000, help="how many documents (1,000)")
     parser.add_argument("--changes", type=number, default=10_000, help="changes of a batch (10,000)")
     parser.add_argument("--text", type=number, default=1_000_000, help="bytes of a whole text (1M)")
-    parser.add_argument("--order", choices=["first", "last", "random"], default="first", help="which document closes next (first)")
     parser.add_argument("--seed", type=number, default=1)
     return parser.parse_args(words)
 

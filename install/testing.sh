@@ -31,6 +31,11 @@ part_with() {
     if command -v "$1" >/dev/null; then part "${@:2}"; else skip "$2" "no $1"; fi
 }
 
+# part_if LACKING NAME COMMAND ..: a part where nothing is lacking
+part_if() {
+    if [ -z "$1" ]; then part "${@:2}"; else skip "$2" "$1"; fi
+}
+
 fails() {
     if "$@"; then
         echo "this should have failed: $*" | tee -a "$made/output"

@@ -138,32 +138,3 @@ def print_users(pages, public):
         print(f"| {user} | {len(calls)} | {len(definitions)} | {sum(crates.values())} | {by_crate} |")
     promised = sum(len(it.ensures()) for it in public)
     print(f"\n{len(public)} public calls: {promised} clauses `ensures`, {sum(len(it.clauses) for it in public) - promised} `requires`")
-
-
-def print_files(pages, reached, own):
-    """Prints for each file of specs/ the lines that contracts of user's calls speak of, and those of all others."""
-    users = set(pages.closure_of_calls(pages.user_calls()).definitions)
-    print("| crate | files, with the lines of definitions that contracts for users speak of | lines | other public contracts "
-          "| laws | for proofs alone |")
-    print("|---|---|---|---|---|---|")
-    sums = [0, 0, 0, 0]
-    crates = collections.defaultdict(list)
-    for one in own:
-        crates[one.crate].append(one)
-    for crate, held in sorted(crates.items()):
-        files = collections.Counter()
-        row = [0, 0, 0, 0]
-        for one in held:
-            kind = 2 if one.is_law else 0 if one in users else 1 if one in reached else 3
-            row[kind] += one.size
-            files[short(one.module.name)] += one.size * (kind == 0)
-        named = ", ".join(f"`{name}` {lines}" for name, lines in sorted(files.items()) if lines)
-        sums = [a + b for a, b in zip(sums, row)]
-        print(f"| `{crate}` | {named} | {' | '.join(str(it) for it in row)} |")
-    print("| **all** | | " + " | ".join(f"**{it}**" for it in sums) + " |")
-
-
-def print_private(reached, own):
-    """Prints the definitions that no public contract speaks of, and that are not in specs/inside/."""
-    for path in sorted(it.path() for it in own if it not in reached and not it.is_inside):
-        print(path)
