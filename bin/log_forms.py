@@ -100,26 +100,28 @@ def with_version(value):
     return value
 
 
-class Lines:
-    """Counts the lines of a text up to offsets that grow."""
-
-    def __init__(self, text):
-        self.text, self.at, self.line = text, 0, 1
-
-    def number(self, at):
-        self.line += self.text.count("\n", self.at, at)
-        self.at = at
-        return self.line
-
-
 class Form:
-    """A form of log. `begins` finds the first line of one, and `remedy` says how it comes to have messages."""
+    """A form of log. `begins` finds its first line, `HEAD` each message, and `remedy` says how it comes to have messages."""
 
-    name = begins = remedy = None
+    name = begins = HEAD = remedy = None
 
     def messages(self, text):
         """Gives the messages of a text. Raises Fault at the first line that can't be read."""
+        head, line, before, at = self.head_in(text), 1, 0, 0
+        while found := head.search(text, at):
+            line, before = line + text.count("\n", before, found.start()), found.start()
+            at = (yield from self.read(found, line)) or found.end()
+        self.leave()
+
+    def head_in(self, _text):
+        return self.HEAD
+
+    def read(self, found, line):
+        """Gives the messages at a head. Returns where the next head is searched, if it isn't right after this one."""
         raise NotImplementedError
+
+    def leave(self):
+        """Ends what spans several heads."""
 
     def doubts(self, _messages):
         """Returns what can't be known of messages in this form."""
@@ -308,21 +310,18 @@ class Neovim(Form):
     name = "Neovim's lsp.log, in ~/.local/state/nvim or ~/.cache/nvim"
     remedy = "it has them after vim.lsp.set_log_level('debug')"
     begins = re.compile(r"^\[(?:START|TRACE|DEBUG|INFO|WARN|ERROR)\]\[\d{4}-\d\d-\d\d \d\d:\d\d:\d\d\]", BY_LINE)
-    LINE = re.compile(r'^\[(?:(START)|[A-Z]+)\]\[[^]\n]*\](?: \S+\t"rpc\.(send|receive)"\t)?', BY_LINE)
+    HEAD = re.compile(r'^\[(?:(START)|[A-Z]+)\]\[[^]\n]*\](?: \S+\t"rpc\.(send|receive)"\t)?', BY_LINE)
 
     def __init__(self):
         self.is_rounded = False
 
-    def messages(self, text):
-        lines = Lines(text)
-        for found in self.LINE.finditer(text):
-            line = lines.number(found.start())
-            if found[1]:
-                yield ended(line)
-            if found[2]:
-                reader = Lua(text, found.end(), line)
-                yield written(line, EDITOR if found[2] == "send" else SERVER, reader.message())
-                self.is_rounded = self.is_rounded or reader.is_rounded
+    def read(self, found, line):
+        if found[1]:
+            yield ended(line)
+        if found[2]:
+            reader = Lua(found.string, found.end(), line)
+            yield written(line, EDITOR if found[2] == "send" else SERVER, reader.message())
+            self.is_rounded = self.is_rounded or reader.is_rounded
 
     def doubts(self, messages):
         if self.is_rounded:
@@ -339,22 +338,17 @@ class Eglot(Form):
                       r"|^\[jsonrpc\] e\[[\d:.]+\] +(-->|<--) [^\s\[]*(?:\[[^]\n]*\])?[^\n{]*", BY_LINE)
     SENDERS = {"client": EDITOR, "-->": EDITOR, "server": SERVER, "<--": SERVER}
 
-    def messages(self, text):
-        lines, at = Lines(text), 0
-        while True:
-            found = self.HEAD.search(text, at)
-            if not found:
-                return
-            line, sender = lines.number(found.start()), self.SENDERS[found[1] or found[2]]
-            if text[found.end():found.end() + 1] == "{":
-                message = message_at(text, found.end(), line, sender)
-                at = found.end() + len(message.body)
-            else:
-                reader = Lisp(text, found.end(), line)
-                if text[reader.at:reader.at + 1] in ("", "["):  # (`short`)
-                    raise Fault("line %d: the message isn't in it: %s" % (line, self.remedy))
-                message, at = written(line, sender, reader.message()), reader.at
+    def read(self, found, line):
+        text, at, sender = found.string, found.end(), self.SENDERS[found[1] or found[2]]
+        if text[at:at + 1] == "{":
+            message = message_at(text, at, line, sender)
             yield message
+            return at + len(message.body)
+        reader = Lisp(text, at, line)
+        if text[reader.at:reader.at + 1] in ("", "["):  # (`short`)
+            raise Fault("line %d: the message isn't in it: %s" % (line, self.remedy))
+        yield written(line, sender, reader.message())
+        return reader.at
 
     def doubts(self, messages):
         if any(it.sender == SERVER and ":null" in it.body.replace('"result":null', "") for it in messages):
@@ -384,25 +378,23 @@ class Trace(Form):
         self.left_out = 0
         self.senders = {"Sending": EDITOR, "Received": SERVER}
 
-    def messages(self, text):
-        lines, at = Lines(text), 0
+    def head_in(self, text):
         if self.AT_SERVER.search(text):  # (only an editor sends that)
             self.senders = {"Sending": SERVER, "Received": EDITOR}
-        while True:
-            found = self.HEAD.search(text, at)
-            if not found:
-                return
-            at = found.end()
-            if not found[1]:
-                self.left_out += 1
-                continue
-            line = lines.number(found.start())
-            data, json_text = self.DATA.match(text, at), None
-            if data:
-                _, json_text, at = json_at(text, data.end(), line)
-            elif text.find("\n", at) < 0:  # (a line follows, of data or an empty one)
-                raise Fault("line %d: the message isn't whole" % line)
-            yield self.message(line, found, data and data[1], json_text)
+        return self.HEAD
+
+    def read(self, found, line):
+        text, at = found.string, found.end()
+        if not found[1]:
+            self.left_out += 1
+            return at
+        data, json_text = self.DATA.match(text, at), None
+        if data:
+            _, json_text, at = json_at(text, data.end(), line)
+        elif text.find("\n", at) < 0:  # (a line follows, of data or an empty one)
+            raise Fault("line %d: the message isn't whole" % line)
+        yield self.message(line, found, data and data[1], json_text)
+        return at
 
     def message(self, line, found, kind, json_text):
         way, what, method, number, rest = found.groups()[:5]
@@ -446,18 +438,15 @@ class TraceJson(Form):
     BARE = re.compile(r"^(?=\{)", BY_LINE)
     IS_ARRAY, IN_ARRAY = re.compile(r"\s*\[\s*\{", re.ASCII), re.compile(r"[\[,]\s*(?=\{)", re.ASCII)
 
-    def messages(self, text):
-        lines, at = Lines(text), 0
-        head = self.IN_ARRAY if self.IS_ARRAY.match(text) else self.HEAD if self.HEAD.search(text) else self.BARE
-        while True:
-            found = head.search(text, at)
-            if not found:
-                return
-            line = lines.number(found.start())
-            value, body, at = json_at(text, found.end(), line)
-            kind = value.get("type")
-            if isinstance(kind, str) and kind.startswith(("send-", "receive-")) and isinstance(value.get("message"), dict):
-                yield Message(line, EDITOR if kind.startswith("send-") else SERVER, value["message"], members_of(body)["message"])
+    def head_in(self, text):
+        return self.IN_ARRAY if self.IS_ARRAY.match(text) else self.HEAD if self.HEAD.search(text) else self.BARE
+
+    def read(self, found, line):
+        value, body, end = json_at(found.string, found.end(), line)
+        kind = value.get("type")
+        if isinstance(kind, str) and kind.startswith(("send-", "receive-")) and isinstance(value.get("message"), dict):
+            yield Message(line, EDITOR if kind.startswith("send-") else SERVER, value["message"], members_of(body)["message"])
+        return end
 
 
 class Clangd(Form):
@@ -466,11 +455,8 @@ class Clangd(Form):
     begins = re.compile(r"^[VIE]\[\d\d:\d\d:\d\d\.\d{3}\] ", BY_LINE)
     HEAD = re.compile(r"^V\[\d\d:\d\d:\d\d\.\d{3}\] (<<<|>>>) ", BY_LINE)
 
-    def messages(self, text):
-        lines = Lines(text)
-        for found in self.HEAD.finditer(text):
-            line = lines.number(found.start())
-            yield message_at(text, found.end(), line, EDITOR if found[1] == "<<<" else SERVER)
+    def read(self, found, line):
+        yield message_at(found.string, found.end(), line, EDITOR if found[1] == "<<<" else SERVER)
 
 
 class Vim(Form):
@@ -482,28 +468,26 @@ class Vim(Form):
     FRAME = re.compile(rb"(?:Content-Type:[^\r\n]*\r\n)?Content-Length: *(\d{1,15})\r\n(?:Content-Type:[^\r\n]*\r\n)?\r\n", re.IGNORECASE)
 
     def __init__(self):
-        self.not_whole = 0
+        self.not_whole, self.waiting = 0, {}
 
-    def messages(self, text):
-        lines, waiting = Lines(text), {}
-        for found in self.HEAD.finditer(text):
-            line = lines.number(found.start())
-            if found[1]:
-                self.not_whole += sum(map(len, waiting.values()))
-                waiting.clear()
-                yield ended(line)
-                continue
-            end = self.END.search(text, found.end())
-            if not end:
-                raise Fault("line %d: what was %s isn't whole" % (line, "sent" if found[2] == "SEND" else "received"))
-            key = found[2], found[3]
-            waiting[key] = waiting.get(key, b"") + text[found.end():end.start()].encode("utf-8", "surrogateescape")
-            while True:
-                body, waiting[key] = self.frame(waiting[key])
-                if body is None:
-                    break
-                yield message_at(body, 0, line, EDITOR if found[2] == "SEND" else SERVER, found[3])
-        self.not_whole += sum(map(len, waiting.values()))
+    def read(self, found, line):
+        if found[1]:
+            self.leave()
+            yield ended(line)
+            return
+        end = self.END.search(found.string, found.end())
+        if not end:
+            raise Fault("line %d: what was %s isn't whole" % (line, "sent" if found[2] == "SEND" else "received"))
+        key = found[2], found[3]
+        rest = self.waiting.get(key, b"") + found.string[found.end():end.start()].encode("utf-8", "surrogateescape")
+        body, self.waiting[key] = self.frame(rest)
+        while body is not None:
+            yield message_at(body, 0, line, EDITOR if found[2] == "SEND" else SERVER, found[3])
+            body, self.waiting[key] = self.frame(self.waiting[key])
+
+    def leave(self):
+        self.not_whole += sum(map(len, self.waiting.values()))
+        self.waiting.clear()
 
     def frame(self, data):
         """Returns the body of the first frame, or None, and what comes after it. A channel without frames is of no language server."""
@@ -524,25 +508,22 @@ class Devtools(Form):
     name = "lsp-devtools' lines of JSON (lsp-devtools record --to-file)"
     remedy = "each line has `source` and a message"
     begins = re.compile(r'^\{(?=[^\n]*"source": ?"(?:client|server)")', BY_LINE)
+    HEAD = re.compile(r"[^ \t\r\n][^\n]*")
     SENDERS = {"client": EDITOR, "server": SERVER}
     MEMBERS = ("id", "method", "params", "result", "error")
 
-    def messages(self, text):
-        for line, words in enumerate(text.split("\n"), 1):
-            start = skip_blanks(words, 0)
-            if start == len(words):
-                continue
-            value, body, _ = json_at(words, start, line)
-            if not isinstance(value, dict) or value.get("source") not in self.SENDERS:
-                raise Fault("line %d: there is no `source`" % line)
-            sender, stream, members = self.SENDERS[value["source"]], value.get("session"), members_of(body)
-            if isinstance(value.get("message"), dict):
-                yield Message(line, sender, value["message"], members["message"], stream)
-            else:
-                found = {it: members[it] for it in self.MEMBERS if value.get(it) is not None}
-                if "method" not in found and "error" not in found:
-                    found.setdefault("result", "null")
-                yield message_at('{"jsonrpc":"2.0"%s}' % "".join(',"%s":%s' % it for it in found.items()), 0, line, sender, stream)
+    def read(self, found, line):
+        value, body, _ = json_at(found[0], 0, line)
+        if not isinstance(value, dict) or value.get("source") not in self.SENDERS:
+            raise Fault("line %d: there is no `source`" % line)
+        sender, stream, members = self.SENDERS[value["source"]], value.get("session"), members_of(body)
+        if isinstance(value.get("message"), dict):
+            yield Message(line, sender, value["message"], members["message"], stream)
+        else:
+            own = {it: members[it] for it in self.MEMBERS if value.get(it) is not None}
+            if "method" not in own and "error" not in own:
+                own.setdefault("result", "null")
+            yield message_at('{"jsonrpc":"2.0"%s}' % "".join(',"%s":%s' % it for it in own.items()), 0, line, sender, stream)
 
 
 class Helix(Form):
@@ -551,13 +532,10 @@ class Helix(Form):
     begins = re.compile(r"^\d{4}-\d\d-\d\dT\d\d:\d\d:\d\d\.\d+ helix_\S+ \[[A-Z]+\] ", BY_LINE)
     HEAD = re.compile(r"^\S+ helix_lsp::transport \[INFO\] ([^\n{]*)(->|<-) (?=\{)", BY_LINE)
 
-    def messages(self, text):
-        lines = Lines(text)
-        for found in self.HEAD.finditer(text):
-            line = lines.number(found.start())
-            message = message_at(text, found.end(), line, EDITOR if found[2] == "->" else SERVER, found[1])
-            if "jsonrpc" in message.value:  # (a result comes again, without its message)
-                yield message
+    def read(self, found, line):
+        message = message_at(found.string, found.end(), line, EDITOR if found[2] == "->" else SERVER, found[1])
+        if "jsonrpc" in message.value:  # (a result comes again, without its message)
+            yield message
 
 
 class Pylsp(Form):
@@ -566,19 +544,16 @@ class Pylsp(Form):
     begins = re.compile(r"^\d{4}-\d\d-\d\d \d\d:\d\d:\d\d,\d{3} \S+ - [A-Z]+ - pylsp", BY_LINE)
     HEAD = re.compile(r"^[\d: ,-]+ \S+ - DEBUG - pylsp_jsonrpc\.endpoint - Handling \w+ from client (\{[^\n]*)", BY_LINE)
 
-    def messages(self, text):
-        lines = Lines(text)
-        for found in self.HEAD.finditer(text):
-            line = lines.number(found.start())
-            try:
-                with warnings.catch_warnings():
-                    warnings.simplefilter("ignore")  # (of an escape that there isn't)
-                    value = ast.literal_eval(found[1].rstrip("\r"))
-            except (ValueError, SyntaxError, MemoryError, RecursionError):
-                value = None
-            if not isinstance(value, dict):
-                raise Fault("line %d: the message isn't whole" % line)
-            yield written(line, EDITOR, value)
+    def read(self, found, line):
+        try:
+            with warnings.catch_warnings():
+                warnings.simplefilter("ignore")  # (of an escape that there isn't)
+                value = ast.literal_eval(found[1].rstrip("\r"))
+        except (ValueError, SyntaxError, MemoryError, RecursionError):
+            value = None
+        if not isinstance(value, dict):
+            raise Fault("line %d: the message isn't whole" % line)
+        yield written(line, EDITOR, value)
 
     def doubts(self, _messages):
         yield "the server's messages are left out: pylsp writes only some of them"
@@ -591,12 +566,10 @@ class LineFeeds(Form):
     HEAD = re.compile(r"([<>]?)(?:content-type:[^\n]*\n)?content-length: *\d+\n(?:content-type:[^\n]*\n)?\n\s*(?=\{)",
                       re.ASCII | re.IGNORECASE)
 
-    def messages(self, text):
-        lines, at = Lines(text), 0
-        while found := self.HEAD.search(text, at):
-            message = message_at(text, found.end(), lines.number(found.start()), SERVER if found[1] == "<" else EDITOR)
-            at = found.end() + len(message.body)
-            yield message
+    def read(self, found, line):
+        message = message_at(found.string, found.end(), line, SERVER if found[1] == "<" else EDITOR)
+        yield message
+        return found.end() + len(message.body)
 
 
 def members_of(body):
