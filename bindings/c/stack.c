@@ -6,23 +6,7 @@
 #include <pthread.h>
 
 static void *run_parts(void *none) {
-    test_documents();
-    test_change();
-    test_edits();
-    test_server();
-    test_framer();
-    test_client_lifecycle();
-    test_client_documents();
-    test_bad_servers();
-    test_both_ends();
-    test_positions_of_ends();
-    test_server_take();
-    test_server_take_in_order();
-    test_client_take();
-    test_server_batch_of_edits();
-    test_server_message();
-    test_texts();
-    test_message_uri();
+    test_small();
     return none;
 }
 

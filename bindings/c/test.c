@@ -50,17 +50,12 @@ static const char sample[] = "a\r\nb\xf0\x9f\x98\x80";
 #include "test/members.h"
 #include "test/memory.h"
 
-int main(void) {
+/* Those that need little of the stack (stack.c) */
+static void test_small(void) {
     test_documents();
     test_change();
     test_edits();
     test_server();
-    test_logs();
-    test_log_options();
-    test_log_listing();
-    test_compare();
-    test_compare_refused();
-    test_log_faults();
     test_framer();
     test_client_lifecycle();
     test_client_documents();
@@ -74,6 +69,16 @@ int main(void) {
     test_server_message();
     test_texts();
     test_message_uri();
+}
+
+int main(void) {
+    test_small();
+    test_logs();
+    test_log_options();
+    test_log_listing();
+    test_compare();
+    test_compare_refused();
+    test_log_faults();
     test_defaults();
     test_settings_of_servers();
     test_settings_of_clients();

@@ -76,22 +76,6 @@ def shrunk(parts, make, fails):
     return smallest
 
 
-def each_of(count, sizes, make, check, seed=1):
-    """Calls CHECK with COUNT random cases. What it raises is that of the smallest case like the first that fails, which is printed."""
-    def fails(case):
-        try:
-            check(case)
-        except Exception:
-            return True
-        return False
-
-    for parts in random_parts(count, sizes, seed):
-        if fails(make(choices_of(parts))):
-            case = shrunk(parts, make, fails)
-            print(f"the smallest case: {case!r}")
-            check(case)
-
-
 def smallest_of(count, sizes, make, differing, seed=1):
     """Returns the smallest case like the first of COUNT random ones that differs, or None. DIFFERING returns the numbers of those."""
     found = differing(make(choices_of(parts)) for parts in random_parts(count, sizes, seed))

@@ -1,18 +1,11 @@
 """The test of both ends in Python."""
-import itertools
 import json
-import os
 import threading
 import unittest
 
 import laspidru
 from laspidru import Client, Document, FrameFault, Framer, LaspidruError, Server
-from test_choices import each_of
 from test_laspidru import at, change
-
-URIS = ["file:///a", "file:///b", ""]
-ENCODINGS = ["utf-16", "utf-8", "utf-32"]
-LETTERS = ["a", "\r", "\n", "\r\n", "\u00e9", "\u2028", "\U0001F600"]
 
 
 def frame(body):
@@ -39,108 +32,12 @@ def outcome(call, *arguments):
         return error.code
 
 
-def random_place(choices):
-    return at(choices.below(4), choices.below(6))
-
-
-def random_change(choices):
-    if choices.is_one_in(10):
-        return {"text": choices.text(LETTERS, 4)}
-    return change(random_place(choices), random_place(choices), choices.text(LETTERS, 4))
-
-
-def random_session(choices):
-    """What both ends are, how the bytes of the start are cut, and up to 30 steps: pieces that arrive, and calls of an editor."""
-    options, start, *steps = choices
-    ends = {"encoding": options.of(ENCODINGS), "whole_texts": options.is_one_in(5), "utf8": options.is_one_in(2), "utf32": options.is_one_in(2)}
-    return ends, [1 + start.below(40) for _ in range(20)], [random_step(it) for it in steps if it.is_one_in(2)]
-
-
-def random_step(choices):
-    kind = choices.of(["serve", "hear", "edit", "edit", "edit", "edit", "edit", "edit", "open", "close"])
-    if kind in ("serve", "hear"):
-        return kind, choices.below(300), choices.is_one_in(2)
-    uri, ahead = choices.of(URIS), choices.below(4)
-    if kind == "edit":
-        return kind, uri, ahead, [random_change(choices) for _ in range(choices.below(4))]
-    return kind, uri, ahead, choices.text(LETTERS, 12) if kind == "open" else None
-
-
-class Pair:
-    """Both ends, and the bytes between them."""
-
-    def __init__(self, encoding, whole_texts, utf8, utf32):
-        self.server, self.client = Server(encoding, whole_texts=whole_texts), Client(utf8=utf8, utf32=utf32)
-        self.to_server, self.to_client, self.kinds = b"", b"", []
-
-    def serve(self, count, at_once):
-        piece, self.to_server = self.to_server[:count], self.to_server[count:]
-        for event in (self.server.receive if at_once else self.server.messages)(piece):
-            self.kinds.append(event.kind)
-            self.to_client += event.frame
-
-    def hear(self, count, _):
-        piece, self.to_client = self.to_client[:count], self.to_client[count:]
-        for event in self.client.receive(piece):
-            self.kinds.append(event.kind)
-            self.to_server += event.frame
-
-    def carry_all(self):
-        while self.to_server or self.to_client:
-            self.serve(len(self.to_server), True)
-            self.hear(len(self.to_client), True)
-
-    def documents(self, end):
-        return [(end.version(uri), end.text(uri)) for uri in URIS] + [end.document_count]
-
-    def call(self, kind, uri, ahead, more):
-        """A call of an editor; a refused one leaves all as it was."""
-        before, version = self.documents(self.client), (self.client.version(uri) or 0) + ahead
-        try:
-            if kind == "open":
-                self.to_server += self.client.open(uri, "c", version, more)
-            elif kind == "close":
-                self.to_server += self.client.close(uri)
-            else:
-                self.to_server += self.client.edit(uri, version, more)
-        except LaspidruError:
-            assert self.documents(self.client) == before
-
-    def step(self, kind, *arguments):
-        {"serve": self.serve, "hear": self.hear}.get(kind, lambda *call: self.call(kind, *call))(*arguments)
-
-
 class Tests(unittest.TestCase):
     def refuses(self, code, call, *arguments):
         with self.assertRaises(LaspidruError) as raised:
             call(*arguments)
         self.assertEqual(raised.exception.code, code)
         return raised.exception
-
-    def test_random_sessions(self):
-        """Sessions with late deliveries, in three encodings; as many as LASPIDRU_SESSIONS says."""
-        count = int(os.environ.get("LASPIDRU_SESSIONS", "200"))
-        each_of(count, [4, 20, *[40] * 30], random_session, self.session_is_right, 3)
-
-    def session_is_right(self, session):
-        ends, cuts, steps = session
-        pair = Pair(**ends)
-        pair.to_server += pair.client.start()
-        for cut in itertools.cycle(cuts):
-            if pair.client.phase == "ready":
-                break
-            pair.serve(cut, True)
-            pair.hear(cut, True)
-        for step in steps:
-            pair.step(*step)
-        pair.carry_all()
-        self.assertEqual(pair.documents(pair.client), pair.documents(pair.server))
-        pair.to_server += pair.client.shutdown()
-        pair.carry_all()
-        pair.to_server += pair.client.exit()
-        pair.carry_all()
-        self.assertEqual((pair.client.phase, pair.kinds[-1]), ("done", "exited"))
-        self.assertFalse({"refused", "dropped", "bad-server"} & set(pair.kinds))
 
     def ready(self):
         client = Client(utf8=True)

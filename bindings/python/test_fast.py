@@ -1,9 +1,10 @@
-"""The test of the extension of the binding for Python: what it reads is what ctypes reads, and it leaves the rest to that."""
+"""The test of the extension of the binding for Python: what it reads is what ctypes reads, and it leaves the rest to that. The other tests
+run with it too."""
 import types
 import unittest
 from unittest import mock
 
-from laspidru import Document, LaspidruError, _library
+from laspidru import _library
 
 AT = {"line": 1, "character": 2}
 RANGE = {"start": AT, "end": {"line": 4294967295, "character": 0}}
@@ -79,19 +80,6 @@ class ExtensionTest(unittest.TestCase):
 
         changes[:] = [Shrinks(), Shrinks()]
         self.assertIsNone(_library.FAST.read(changes))
-
-    def test_changes_and_refusals(self):
-        document = Document("a\nb\n")
-        document.change([{"range": {"start": {"line": 1, "character": 0}, "end": {"line": 1, "character": 1}}, "text": "X"}])
-        self.assertEqual(document.text, "a\nX\n")
-        reversed_ = {"start": {"line": 1, "character": 1}, "end": {"line": 1, "character": 0}}
-        with self.assertRaises(LaspidruError) as raised:
-            document.change([{"text": "b\nc"}, {"range": reversed_, "text": ""}, {"text": "d"}])
-        self.assertEqual((document.text, raised.exception.code, raised.exception.change), ("a\nX\n", "REVERSED_RANGE", 1))
-        document.close()
-        with self.assertRaises(LaspidruError) as raised:
-            document.change([{"text": "b"}])
-        self.assertEqual(raised.exception.code, "EMPTY")
 
     def test_wrong_arguments(self):
         for arguments in ((), (1,), (1, 16, b"", "text"), ("1", 16, b"", b"")):

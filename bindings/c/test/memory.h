@@ -1,5 +1,16 @@
 /* The test in which each request for memory is refused in turn. test.c includes it. */
 
+/* Makes a call again as long as memory is refused. What it leaves each time is checked, and then it succeeds. */
+#define AGAIN(call, stayed)                                                                                             \
+    do {                                                                                                                \
+        laspidru_u32 code_;                                                                                             \
+        while ((code_ = (call)) == LASPIDRU_OUT_OF_MEMORY) {                                                            \
+            CHECK(stayed);                                                                                              \
+            refusals++;                                                                                                 \
+        }                                                                                                               \
+        CHECK(code_ == LASPIDRU_OK);                                                                                    \
+    } while (0)
+
 /* One run with a request refused. Each call that is refused leaves what was, and the same call then succeeds. */
 static int run_refused(void) {
     static const laspidru_edit edits[2] = {{{0, 1}, {0, 1}, 2, 0}, {{1, 0}, {1, 1}, 6, 0}};
@@ -7,37 +18,17 @@ static int run_refused(void) {
     laspidru_handle document = {0}, batch = {0};
     laspidru_fault fault = {0, 0};
     laspidru_edits_fault edits_fault = {0, 0, 0};
-    laspidru_u32 code;
     int refusals = 0;
-    while ((code = new_document(&document, "ab\ncd")) == LASPIDRU_OUT_OF_MEMORY) {
-        CHECK(!document.is_full);
-        refusals++;
-    }
-    CHECK(code == LASPIDRU_OK);
-    while ((code = laspidru_document_canonical(&document, LASPIDRU_UTF16, edits, 2, bytes(texts), 8, &batch, &fault)) ==
-           LASPIDRU_OUT_OF_MEMORY) {
-        CHECK(!batch.is_full && has_text(&document, "ab\ncd"));
-        refusals++;
-    }
-    CHECK(code == LASPIDRU_OK);
-    while ((code = laspidru_document_change(&document, LASPIDRU_UTF16, edits, 2, bytes(texts), 8, &fault)) ==
-           LASPIDRU_OUT_OF_MEMORY) {
-        CHECK(has_text(&document, "ab\ncd"));
-        refusals++;
-    }
-    CHECK(code == LASPIDRU_OK && has_text(&document, "a\r\nlonger\ncd"));
+    AGAIN(new_document(&document, "ab\ncd"), !document.is_full);
+    AGAIN(laspidru_document_canonical(&document, LASPIDRU_UTF16, edits, 2, bytes(texts), 8, &batch, &fault),
+          !batch.is_full && has_text(&document, "ab\ncd"));
+    AGAIN(laspidru_document_change(&document, LASPIDRU_UTF16, edits, 2, bytes(texts), 8, &fault), has_text(&document, "ab\ncd"));
+    CHECK(has_text(&document, "a\r\nlonger\ncd"));
     laspidru_handle_free(&batch);
-    while ((code = laspidru_document_batch_of_edits(&document, LASPIDRU_UTF16, edits, 2, bytes(texts), 8, &batch, &edits_fault)) ==
-           LASPIDRU_OUT_OF_MEMORY) {
-        CHECK(!batch.is_full && has_text(&document, "a\r\nlonger\ncd"));
-        refusals++;
-    }
-    CHECK(code == LASPIDRU_OK);
-    while ((code = apply(&document, edits, 2, texts, &edits_fault)) == LASPIDRU_OUT_OF_MEMORY) {
-        CHECK(has_text(&document, "a\r\nlonger\ncd"));
-        refusals++;
-    }
-    CHECK(code == LASPIDRU_OK && has_text(&document, "a\r\n\r\nlongeronger\ncd"));
+    AGAIN(laspidru_document_batch_of_edits(&document, LASPIDRU_UTF16, edits, 2, bytes(texts), 8, &batch, &edits_fault),
+          !batch.is_full && has_text(&document, "a\r\nlonger\ncd"));
+    AGAIN(apply(&document, edits, 2, texts, &edits_fault), has_text(&document, "a\r\nlonger\ncd"));
+    CHECK(has_text(&document, "a\r\n\r\nlongeronger\ncd"));
     laspidru_handle_free(&batch);
     laspidru_handle_free(&document);
     CHECK(heap_blocks() == 0);
@@ -50,23 +41,15 @@ static int run_refused_server(void) {
     laspidru_handle server = {0};
     laspidru_answer answer = {9, 9, 9, 9, 9};
     laspidru_state state;
-    laspidru_u32 code;
     laspidru_size i;
     int refusals = 0;
-    while ((code = laspidru_server_new(&server, &settings)) == LASPIDRU_OUT_OF_MEMORY) {
-        CHECK(!server.is_full);
-        refusals++;
-    }
-    CHECK(code == LASPIDRU_OK);
+    AGAIN(laspidru_server_new(&server, &settings), !server.is_full);
     for (i = 0; i < sizeof bodies / sizeof bodies[0]; i++) {
         laspidru_answer before = answer;
-        while ((code = hand(&server, bodies[i], &answer)) == LASPIDRU_OUT_OF_MEMORY) {
-            CHECK(answer.kind == before.kind && answer.reply_len == before.reply_len);
-            CHECK(laspidru_session_state(&server, &state) == LASPIDRU_OK && state.documents == (i > 1));
-            CHECK(i != 2 || holds(&server, 1, "ab\ncd"));
-            refusals++;
-        }
-        CHECK(code == LASPIDRU_OK && answer.kind != LASPIDRU_REFUSED && answer.kind != LASPIDRU_DROPPED);
+        AGAIN(hand(&server, bodies[i], &answer),
+              answer.kind == before.kind && answer.reply_len == before.reply_len && (i != 2 || holds(&server, 1, "ab\ncd")) &&
+                  laspidru_session_state(&server, &state) == LASPIDRU_OK && state.documents == (i > 1));
+        CHECK(answer.kind != LASPIDRU_REFUSED && answer.kind != LASPIDRU_DROPPED);
     }
     CHECK(holds(&server, 7, "ab\nXYd"));
     laspidru_handle_free(&server);
@@ -84,24 +67,19 @@ static int run_refused_logs(void) {
     static part log;
     laspidru_handle output = {0};
     laspidru_ending ending = {9, 9, 9, 9, 9, 9, 9};
-    laspidru_u32 code, command;
+    laspidru_u32 command;
     int refusals = 0;
     log = log_of(session);
     for (command = LASPIDRU_CHECK; command <= LASPIDRU_CONVERT; command++) {
         laspidru_ending before = ending;
-        while ((code = run_log(&output, command, &all_settings, log, &ending)) == LASPIDRU_OUT_OF_MEMORY) {
-            CHECK(!output.is_full && ending.status == before.status && ending.output_len == before.output_len);
-            refusals++;
-        }
-        CHECK(code == LASPIDRU_OK && ending.status == 0 && ending.missing == 0);
+        AGAIN(run_log(&output, command, &all_settings, log, &ending),
+              !output.is_full && ending.status == before.status && ending.output_len == before.output_len);
+        CHECK(ending.status == 0 && ending.missing == 0);
         laspidru_handle_free(&output);
     }
     ending.status = 9;
-    while ((code = compare_log(&output, &all_settings, "/a", "ab\ncd", log, &ending)) == LASPIDRU_OUT_OF_MEMORY) {
-        CHECK(!output.is_full && ending.status == 9);
-        refusals++;
-    }
-    CHECK(code == LASPIDRU_OK && ending.status == 1 && ending.missing == 0);
+    AGAIN(compare_log(&output, &all_settings, "/a", "ab\ncd", log, &ending), !output.is_full && ending.status == 9);
+    CHECK(ending.status == 1 && ending.missing == 0);
     laspidru_handle_free(&output);
     CHECK(heap_blocks() == 0);
     return refusals;
@@ -113,14 +91,8 @@ static int run_refused_framer(void) {
     laspidru_handle framer = {0};
     laspidru_taken taken = {9, 9, 9, 9, 0};
     int refusals = 0;
-    while (laspidru_framer_new(&framer, 4096) == LASPIDRU_OUT_OF_MEMORY) {
-        CHECK(!framer.is_full);
-        refusals++;
-    }
-    while (laspidru_framer_feed(&framer, bytes(stream), strlen(stream), &taken) == LASPIDRU_OUT_OF_MEMORY) {
-        CHECK(taken.bytes == 9 && is_at_rest(&framer, 1));
-        refusals++;
-    }
+    AGAIN(laspidru_framer_new(&framer, 4096), !framer.is_full);
+    AGAIN(laspidru_framer_feed(&framer, bytes(stream), strlen(stream), &taken), taken.bytes == 9 && is_at_rest(&framer, 1));
     CHECK(is_taken(taken, strlen(stream), 1, 5) && is_body(&framer, "abcde"));
     laspidru_handle_free(&framer);
     CHECK(heap_blocks() == 0);
@@ -136,27 +108,21 @@ static int run_refused_client(void) {
     laspidru_fault fault = {9, 1};
     laspidru_size len = 9;
     int refusals = 0;
-#define AGAIN(call, phase, documents)                                                                                   \
-    while ((call) == LASPIDRU_OUT_OF_MEMORY) {                                                                          \
-        CHECK(is_state(&client, (phase), 0, (phase) < LASPIDRU_PHASE_READY ? 0 : LASPIDRU_UTF8, (documents)) && len == 9);     \
-        refusals++;                                                                                                     \
-    }                                                                                                                   \
+#define AGAIN_IN(call, phase, documents)                                                                                \
+    AGAIN(call, is_state(&client, (phase), 0, (phase) < LASPIDRU_PHASE_READY ? 0 : LASPIDRU_UTF8, (documents)) && len == 9);   \
     len = 9
-    while (laspidru_client_new(&client, &client_settings) == LASPIDRU_OUT_OF_MEMORY) {
-        CHECK(!client.is_full);
-        refusals++;
-    }
-    AGAIN(laspidru_client_start(&client, &len), LASPIDRU_PHASE_NEW, 0);
-    AGAIN(hand(&client, capabilities, &answer), LASPIDRU_PHASE_ASKED, 0);
-    AGAIN(did_open(&client, uri_a, 1, "ab\ncd", &len), LASPIDRU_PHASE_READY, 0);
+    AGAIN(laspidru_client_new(&client, &client_settings), !client.is_full);
+    AGAIN_IN(laspidru_client_start(&client, &len), LASPIDRU_PHASE_NEW, 0);
+    AGAIN_IN(hand(&client, capabilities, &answer), LASPIDRU_PHASE_ASKED, 0);
+    AGAIN_IN(did_open(&client, uri_a, 1, "ab\ncd", &len), LASPIDRU_PHASE_READY, 0);
     CHECK(holds(&client, 1, "ab\ncd"));
-    AGAIN(did_change(&client, 2, edits, 2, "\r\nlonger", &fault, &len), LASPIDRU_PHASE_READY, 1);
+    AGAIN_IN(did_change(&client, 2, edits, 2, "\r\nlonger", &fault, &len), LASPIDRU_PHASE_READY, 1);
     CHECK(holds(&client, 2, "a\r\nlonger\ncd") && fault.change == 9);
-    AGAIN(laspidru_client_did_close(&client, bytes(uri_a), 9, &len), LASPIDRU_PHASE_READY, 1);
-    AGAIN(laspidru_client_shutdown(&client, &len), LASPIDRU_PHASE_READY, 0);
-    AGAIN(hand(&client, answered, &answer), LASPIDRU_PHASE_CLOSING, 0);
-    AGAIN(laspidru_client_exit(&client, &len), LASPIDRU_PHASE_CLOSED, 0);
-#undef AGAIN
+    AGAIN_IN(laspidru_client_did_close(&client, bytes(uri_a), 9, &len), LASPIDRU_PHASE_READY, 1);
+    AGAIN_IN(laspidru_client_shutdown(&client, &len), LASPIDRU_PHASE_READY, 0);
+    AGAIN_IN(hand(&client, answered, &answer), LASPIDRU_PHASE_CLOSING, 0);
+    AGAIN_IN(laspidru_client_exit(&client, &len), LASPIDRU_PHASE_CLOSED, 0);
+#undef AGAIN_IN
     CHECK(is_state(&client, LASPIDRU_PHASE_DONE, 0, LASPIDRU_UTF8, 0));
     laspidru_handle_free(&client);
     CHECK(heap_blocks() == 0);
@@ -191,8 +157,7 @@ static int run_refused_take(void) {
     laspidru_answer answer = {9, 9, 9, 9, 9};
     laspidru_size i, len;
     int refusals = 0;
-    while (laspidru_server_new(&server, &settings) == LASPIDRU_OUT_OF_MEMORY)
-        refusals++;
+    AGAIN(laspidru_server_new(&server, &settings), !server.is_full);
     for (i = 0; i < sizeof bodies / sizeof bodies[0]; i++) {
         const char *const one[] = {bodies[i], 0};
         refusals += take_again(&server, one, &answer);
@@ -200,10 +165,8 @@ static int run_refused_take(void) {
     }
     CHECK(holds(&server, 7, "ab\nXYd"));
     laspidru_handle_free(&server);
-    while (laspidru_client_new(&client, &client_settings) == LASPIDRU_OUT_OF_MEMORY)
-        refusals++;
-    while (laspidru_client_start(&client, &len) == LASPIDRU_OUT_OF_MEMORY)
-        refusals++;
+    AGAIN(laspidru_client_new(&client, &client_settings), !client.is_full);
+    AGAIN(laspidru_client_start(&client, &len), client.is_full);
     refusals += take_again(&client, from_server, &answer);
     CHECK(is_state(&client, LASPIDRU_PHASE_READY, 0, LASPIDRU_UTF8, 0));
     laspidru_handle_free(&client);
@@ -218,26 +181,18 @@ static int run_refused_served(void) {
     laspidru_edits_fault edits_fault = {9, 9, 0};
     laspidru_fault fault = {9, 0};
     laspidru_answer answer = {9, 9, 9, 9, 9};
-    laspidru_u32 code;
     laspidru_size len = 9;
     int refusals = 0;
-    while (laspidru_server_new(&server, &settings) == LASPIDRU_OUT_OF_MEMORY)
-        refusals++;
-    while (hand(&server, initialize, &answer) == LASPIDRU_OUT_OF_MEMORY)
-        refusals++;
-    while (hand(&server, open_a, &answer) == LASPIDRU_OUT_OF_MEMORY)
-        refusals++;
-    while ((code = served_edits(&server, edits, 2, texts, &made, &edits_fault)) == LASPIDRU_OUT_OF_MEMORY) {
-        CHECK(!made.is_full && is_about(edits_fault, 9, 9, 0) && holds(&server, 1, "ab\ncd"));
-        refusals++;
-    }
-    CHECK(code == LASPIDRU_OK && made.is_full);
+    AGAIN(laspidru_server_new(&server, &settings), !server.is_full);
+    AGAIN(hand(&server, initialize, &answer), answer.kind == 9);
+    AGAIN(hand(&server, open_a, &answer), answer.kind == LASPIDRU_REPLIED);
+    AGAIN(served_edits(&server, edits, 2, texts, &made, &edits_fault),
+          !made.is_full && is_about(edits_fault, 9, 9, 0) && holds(&server, 1, "ab\ncd"));
+    CHECK(made.is_full);
     laspidru_handle_free(&made);
-    while ((code = served_message(&server, 7, edits, 2, texts, &made, &fault, &len)) == LASPIDRU_OUT_OF_MEMORY) {
-        CHECK(!made.is_full && len == 9 && fault.change == 9 && holds(&server, 1, "ab\ncd"));
-        refusals++;
-    }
-    CHECK(code == LASPIDRU_OK && made.is_full && len != 9);
+    AGAIN(served_message(&server, 7, edits, 2, texts, &made, &fault, &len),
+          !made.is_full && len == 9 && fault.change == 9 && holds(&server, 1, "ab\ncd"));
+    CHECK(made.is_full && len != 9);
     laspidru_handle_free(&made);
     laspidru_handle_free(&server);
     CHECK(heap_blocks() == 0);

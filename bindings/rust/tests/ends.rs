@@ -3,54 +3,6 @@
 use laspidru::client::{Client, Delivered, Phase, Reason};
 use laspidru::server::{Answer, EncodingChoice, Server};
 use laspidru::{client, server, BadLimit, Change, Document, Encoding, Error, Framer, Limits, Position, Range, Refusal};
-use std::collections::VecDeque;
-
-/// Both ends, and the bytes between them.
-struct Pair {
-    client: Client,
-    server: Server,
-    to_server: VecDeque<u8>,
-    to_client: VecDeque<u8>,
-}
-
-impl Pair {
-    fn send(&mut self, frame: Vec<u8>) {
-        self.to_server.extend(frame);
-    }
-
-    /// The server reads so many bytes.
-    fn serve(&mut self, count: usize) {
-        let piece: Vec<u8> = self.to_server.drain(..count.min(self.to_server.len())).collect();
-        self.server.receive(&piece);
-        while let Some((_, answer)) = self.server.next_message().unwrap() {
-            match answer {
-                Answer::Reply { frame, code: None } => self.to_client.extend(frame),
-                Answer::Changed | Answer::Ignored | Answer::Exit(0) => {}
-                answer => panic!("the server answers {answer:?}"),
-            }
-        }
-    }
-
-    /// The client reads so many bytes.
-    fn hear(&mut self, count: usize) {
-        let piece: Vec<u8> = self.to_client.drain(..count.min(self.to_client.len())).collect();
-        self.client.receive(&piece);
-        while let Some((_, delivered)) = self.client.next_message().unwrap() {
-            match delivered {
-                Delivered::Send(frame) => self.to_server.extend(frame),
-                Delivered::Noted => {}
-                delivered => panic!("the client has {delivered:?}"),
-            }
-        }
-    }
-
-    fn carry_all(&mut self) {
-        while !(self.to_server.is_empty() && self.to_client.is_empty()) {
-            self.serve(self.to_server.len());
-            self.hear(self.to_client.len());
-        }
-    }
-}
 
 fn ready() -> Client {
     let mut client = Client::new(&client::Settings { utf8: true, ..Default::default() }).unwrap();
@@ -61,54 +13,52 @@ fn ready() -> Client {
 }
 
 /// Both ends, with this text open, in this encoding.
-fn opened(text: &str, encoding: Encoding) -> Pair {
+fn opened(text: &str, encoding: Encoding) -> (Client, Server) {
     let choice = EncodingChoice::Negotiated { prefer: encoding };
-    let server = Server::new(&server::Settings { choice, ..Default::default() }).unwrap();
-    let client = Client::new(&client::Settings { utf8: true, utf32: true, ..Default::default() }).unwrap();
-    let mut pair = Pair { client, server, to_server: VecDeque::new(), to_client: VecDeque::new() };
-    let start = pair.client.start().unwrap();
-    pair.send(start);
-    pair.carry_all();
-    let open = pair.client.open("a", "c", 1, text).unwrap();
-    pair.send(open);
-    pair.carry_all();
-    pair
+    let mut server = Server::new(&server::Settings { choice, ..Default::default() }).unwrap();
+    let mut client = Client::new(&client::Settings { utf8: true, utf32: true, ..Default::default() }).unwrap();
+    server.receive(&client.start().unwrap());
+    let Some((_, Answer::Reply { frame, code: None })) = server.next_message().unwrap() else { panic!("no reply") };
+    client.receive(&frame);
+    let Some((_, Delivered::Send(frame))) = client.next_message().unwrap() else { panic!("nothing to send") };
+    server.receive(&frame);
+    server.receive(&client.open("a", "c", 1, text).unwrap());
+    let answers: Vec<_> = std::iter::from_fn(|| server.next_message().unwrap()).map(|(_, answer)| answer).collect();
+    assert_eq!(answers, [Answer::Ignored, Answer::Changed]);
+    (client, server)
 }
 
 #[test]
 fn positions_are_those_of_a_document() {
     let text = "a\r\nb\u{1F600}";
     for encoding in [Encoding::Utf8, Encoding::Utf16, Encoding::Utf32] {
-        let (pair, document) = (opened(text, encoding), Document::new(text, encoding).unwrap());
-        assert_eq!((pair.client.encoding(), pair.server.encoding()), (Some(encoding), Some(encoding)));
+        let ((client, server), document) = (opened(text, encoding), Document::new(text, encoding).unwrap());
+        assert_eq!((client.encoding(), server.encoding()), (Some(encoding), Some(encoding)));
         for line in 0..4 {
             let wanted = document.line(line);
-            assert_eq!((pair.client.line("a", line), pair.server.line("a", line)), (wanted.clone(), wanted));
+            assert_eq!((client.line("a", line), server.line("a", line)), (wanted.clone(), wanted));
             for character in 0..8 {
                 let position = Position { line, character };
                 let wanted = document.offset(position).map(Some);
-                assert_eq!((pair.client.offset("a", position), pair.server.offset("a", position)), (wanted, wanted));
+                assert_eq!((client.offset("a", position), server.offset("a", position)), (wanted, wanted));
             }
         }
         for offset in 0..11 {
             let wanted = document.position(offset).map(Some);
-            assert_eq!((pair.client.position("a", offset), pair.server.position("a", offset)), (wanted, wanted));
+            assert_eq!((client.position("a", offset), server.position("a", offset)), (wanted, wanted));
         }
     }
 }
 
 #[test]
 fn positions_that_there_are_not() {
-    let pair = opened("\u{1F600}", Encoding::Utf16);
+    let (client, server) = opened("\u{1F600}", Encoding::Utf16);
     let inside = Position { line: 0, character: 1 };
-    assert_eq!(
-        (pair.server.offset("a", inside), pair.client.offset("a", inside)),
-        (Err(Error::NoPosition), Err(Error::NoPosition))
-    );
-    assert_eq!((pair.server.position("a", 5), pair.client.position("a", 1)), (Err(Error::NoPosition), Err(Error::NoPosition)));
-    assert_eq!((pair.server.line("a", 1), pair.server.line("b", 0), pair.client.line("", 0)), (None, None, None));
-    assert_eq!((pair.server.offset("b", inside), pair.client.offset("b", inside)), (Ok(None), Ok(None)));
-    assert_eq!((pair.server.position("b", 0), pair.client.position("b", 0)), (Ok(None), Ok(None)));
+    assert_eq!((server.offset("a", inside), client.offset("a", inside)), (Err(Error::NoPosition), Err(Error::NoPosition)));
+    assert_eq!((server.position("a", 5), client.position("a", 1)), (Err(Error::NoPosition), Err(Error::NoPosition)));
+    assert_eq!((server.line("a", 1), server.line("b", 0), client.line("", 0)), (None, None, None));
+    assert_eq!((server.offset("b", inside), client.offset("b", inside)), (Ok(None), Ok(None)));
+    assert_eq!((server.position("b", 0), client.position("b", 0)), (Ok(None), Ok(None)));
 }
 
 #[test]
