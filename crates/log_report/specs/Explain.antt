@@ -107,7 +107,7 @@ first_advice phase refusals suspicious = if is_new phase then
     else
     codes "Refused messages change nothing. `lspsync replay --at N`: the texts after message N.\n"
 
--- The line after it, by whether a record is refused with S1, or with S5 and changes.
+-- The line after it, by whether a record is refused that lenient limits wouldn't refuse.
 abbrev pub lenient_advice : Bool → List ℕ
 lenient_advice strict_refusal = if strict_refusal then
     codes "Many servers don't refuse what is S1 or S5 here. `--lenient` doesn't either.\n"

@@ -1,7 +1,7 @@
 -- The words of a line need no escape in a JSON string.
 use Rattle.log_report.proofs.Prelude.{Bool, ◌==◌, [], ◌++◌, Option, Some, None, refl, codes, list_all-append, LimitsData, Position, Range, EditFault, ErrorCode, ParseError, ChangeData, fault_code, StoreFault, AnswerData, reply, refused, exits, Sent, one_more, Sender, Client, Server, Note, code_word, verdict_word, note_words, past_words, side_words, edit_reason, end_words, error_reason, idle_words, is_idle, position_words, range_sent, reason_words, hint_words, Hint, store_reason, version_words, Verdict, answered, side_word}
 use Rattle.log_report.specs.Lacks.{lack_words}
-use Rattle.log_report.specs.declared.facts.Hint.TheVariants.{Lacks, Renamed}
+use Rattle.log_report.specs.declared.facts.Hint.TheVariants.{Lacks, Renamed, Swapped}
 use Rattle.log_report.specs.declared.lacks.Lack.{Lack}
 use Rattle.log_report.specs.declared.lacks.Lack.TheVariants.{Change, Changes, Language, Text, Uri, Version}
 use Rattle.lsp_edit.specs.declared.fault.EditFault.TheVariants.{InsideCharacter, ReversedRange, NoMemory as NoMemoryToEdit}
@@ -97,6 +97,7 @@ plain_lack Change = refl
 plain_hint : (hint : Option Hint) → IsPlain (hint_words hint)
 plain_hint None = refl
 plain_hint (Some Renamed) = refl
+plain_hint (Some Swapped) = refl
 plain_hint (Some (Lacks lack)) = plain_lack lack
 
 pub plain_reason_with : (limits : LimitsData) (p : Option ChangeData) (answer : AnswerData Sent) (hint : Option Hint)

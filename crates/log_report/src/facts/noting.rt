@@ -7,6 +7,7 @@ ghost use Rattle.lsp_message.specs.Message.{reading};
 ghost use Rattle.lsp_message.specs.Seen.{change_view};
 ghost use Rattle.lsp_server.specs.Seen.{incoming_view};
 ghost use Rattle.lsp_store.specs.Table.{entry_at};
+ghost use Rattle.log_report.specs.Habits.{grown_in};
 ghost use Rattle.log_report.specs.Lines.{named_in};
 ghost use Rattle.log_report.specs.Notes.{changing_notes, notes_if, notes_on, opening_notes};
 ghost use Rattle.log_report.specs.Notes.{terms_in};
@@ -18,6 +19,8 @@ ghost use Rattle.log_session.specs.inside.Verdicts.{verdict_view};
 
 use crate::facts::About;
 use crate::facts::asked::uri_of;
+use crate::growths::{Grown, grown_by};
+use crate::habits::Documents;
 use crate::lacks::{broken_params, lack_in};
 use crate::notes::Note;
 use crate::notes::changes::{Terms, push_batch_notes};
@@ -35,12 +38,14 @@ use std::alloc::{AllocError, Global};
 pub(super) fn about_of(
     alloc: Global,
     server: &Server,
+    documents: &Documents,
     ranged: bool,
     body: &[u8],
     read: &RecordBody<'_>,
 ) -> Result<About, AllocError>
     ensures { IfOk result (λ about. IsNotedOf true body.now read.now
-        → IsAbout server.now ranged (reading body.now) (body_view read.now) about) }
+        → IsAbout server.now documents.now.newest.items ranged (reading body.now)
+        (body_view read.now) about) }
 {
     let RecordBody::Client(_, incoming, noted) = read else {
         return Ok(About {
@@ -48,6 +53,7 @@ pub(super) fn about_of(
             named: None,
             notes: Vec::new(alloc),
             lack: None,
+            grown: None,
         });
     };
     let params = broken_params(alloc, body, incoming)?;
@@ -56,6 +62,7 @@ pub(super) fn about_of(
         named: copied_text(alloc, named_in(incoming, noted, params.as_ref()))?,
         notes: notes_on(alloc, server, ranged, incoming, noted)?,
         lack: lack_in(incoming, params.as_ref()),
+        grown: grown_in(server, documents, incoming),
     })
 }
 
@@ -83,6 +90,19 @@ fn named_in<'a>(incoming: &Incoming, noted: &'a Noted, params: Option<&'a Value>
         }
         _ => None,
     }
+}
+
+/// Returns the version of a change and the one that was sent before, if that is lower.
+fn grown_in(server: &Server, documents: &Documents, incoming: &Incoming) -> Option<Grown>
+    ensures { result ≡ grown_in server.now documents.now.newest.items Sender.Client
+        (incoming_view incoming.now) }
+{
+    let Incoming::DidChange(Some(params)) = incoming else {
+        return None;
+    };
+    let document = server.store().get(&params.uri)?;
+    let before = documents.sent_after(&params.uri, document.version());
+    grown_by(params.version, before)
 }
 
 /// Returns what there is to note of a message, unless it is refused.

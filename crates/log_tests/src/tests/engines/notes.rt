@@ -391,3 +391,46 @@ fn a_line_has_few_notes_of_a_kind(rt: HostRuntime) -> Result<(), Fail> {
     assert!(rt; has_few_notes(rt.alloc())?);
     Ok(())
 }
+
+/// The whole text is a character of two units; then a change is inside of it.
+const EMOJI: &str = r#"{"text":"😀"}"#;
+
+const INSIDE: &str =
+    r#"{"range":{"start":{"line":0,"character":1},"end":{"line":0,"character":1}},"text":""}"#;
+
+/// The versions of changes after an opening with version 1, and the first lines of what
+/// `check --brief` writes. Where 5 comes after 2, versions 3 and 4 were left out. A version that was
+/// refused was not.
+static VERSIONS: [(&[(i32, &str)], &str); 3] = [
+    (
+        &[(2, EMOJI), (5, EMOJI), (3, EMOJI), (4, EMOJI)],
+        "5 refused S5 of \"file:///a\": version 3 was sent, and the current one is 5; the one that was sent was left out before: messages were swapped; see message 4\n6 refused S5 of \"file:///a\": version 4 was sent, and the current one is 5; the one that was sent was left out before: messages were swapped; see message 4\nmessages of the editor: 6, changed documents: 3\nrefused by S5: 2, first message 5\nnoted changes nothing: 1, first message 4\nRefused messages change nothing. `lspsync replay --at N`: the texts after message N.\nSome notes",
+    ),
+    (
+        &[(2, EMOJI), (5, EMOJI), (2, EMOJI)],
+        "5 refused S5 of \"file:///a\": version 2 was sent, and the current one is 5; see message 4\n",
+    ),
+    (
+        &[(6, EMOJI), (7, INSIDE), (8, EMOJI), (7, EMOJI)],
+        "4 refused E1 of \"file:///a\": change 1 starts at line 0, character 1, inside a character; see message 2\n6 refused S5 of \"file:///a\": version 7 was sent, and the current one is 8; see message 5\n",
+    ),
+];
+
+/// Returns whether `check --brief` writes these lines of changes with these versions.
+fn has_versions(alloc: Global, versions: &[(i32, &str)], lines: &str) -> Result<bool, Fail> {
+    let mut input = log(alloc, &[INITIALIZE, OPEN])?;
+    for (version, changes) in versions {
+        let changed = change(alloc, *version, changes)?;
+        input.extend_from_slice(&frame(alloc, changed.as_bytes())?)?;
+    }
+    let run = run_with(alloc, Command::Brief, &input, settings()?, SMOOTH)?;
+    Ok(run.output.starts_with(lines.as_bytes()))
+}
+
+#[test]
+fn a_version_that_was_left_out_before_is_called_that(rt: HostRuntime) -> Result<(), Fail> {
+    for (versions, lines) in &VERSIONS {
+        assert!(rt; has_versions(rt.alloc(), versions, lines)?, "at {lines}");
+    }
+    Ok(())
+}

@@ -74,4 +74,5 @@ returns c = λ given.
           params m) read.lengths read.params
           ∙ notes_same c.args.server.now c.args.ranged m (reading body);
       lack = c.lack_in.ensures ∙ ap (lack_in Client m) second ∙ lack_same m (reading body);
+      grown = c.grown_in.ensures;
     })

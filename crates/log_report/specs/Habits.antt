@@ -1,0 +1,96 @@
+-- What is known of a document by its records: which versions it left out.
+use Rattle.std.specs.Prelude.{◌==◌, ◌&&◌, if◌then◌else◌, ◌∷◌}
+use Rattle.log_report.specs.Prelude.{ℕ, ℤ, Bool, int_lt, take, bytes_eq, List, [], Option, Some, None, ChangeData, DocumentItem, entry_at, IncomingData, did_change, Sender, ServerData, refused}
+use Rattle.std.specs.List.{list_any}
+use Rattle.lsp_log.specs.declared.record.Sender.TheVariants.{Client}
+use Rattle.log_session.specs.Session.{Verdict, answered}
+use Rattle.log_report.specs.Growths.{grown_by}
+use Rattle.log_report.specs.declared.growths.Grown.{Grown}
+
+-- ---- a document
+
+-- What is known of it.
+pub record Habits : Type 0 where
+  pub uri : List ℕ
+  -- the version of a change that was refused, after those that weren't
+  pub rejected : Option ℤ
+  -- the changes that left out versions, the newest first
+  pub gaps : List Grown
+
+-- Before its first record.
+abbrev pub no_habits : List ℕ → Habits
+no_habits uri = record { uri = uri; rejected = None; gaps = [] }
+
+-- Was a version left out? If 9 came after 6, then 7 and 8 were.
+abbrev pub is_left_out : ℤ → List Grown → Bool
+is_left_out version gaps =
+    list_any (λ gap. int_lt gap.before version && int_lt version gap.sent) gaps
+
+-- ---- all documents
+
+-- What is known of one of those that came last.
+abbrev pub habits_of : List ℕ → List Habits → Habits
+habits_of uri [] = no_habits uri
+habits_of uri (h ∷ hs) = if bytes_eq h.uri uri then h else habits_of uri hs
+
+-- All but one.
+abbrev pub all_but : List ℕ → List Habits → List Habits
+all_but uri [] = []
+all_but uri (h ∷ hs) = if bytes_eq h.uri uri then hs else h ∷ all_but uri hs
+
+-- ---- a change, by the document before it
+
+-- The version that was sent before: the current one, or a greater one that was refused.
+abbrev pub sent_after : Option ℤ → ℤ → ℤ
+sent_after None current = current
+sent_after (Some rejected) current = if int_lt current rejected then rejected else current
+
+-- Its version and the one that was sent before, if that is lower.
+abbrev pub grown_on : Habits → Option DocumentItem → ChangeData → Option Grown
+grown_on h None p = None
+grown_on h (Some entry) p = grown_by p.version (sent_after h.rejected entry.version)
+
+-- Those of a record of one side.
+abbrev pub grown_in : ServerData → List Habits → Sender → IncomingData → Option Grown
+grown_in s hs Client (did_change (Some p)) =
+    grown_on (habits_of p.uri hs) (entry_at s.table p.uri) p
+grown_in s hs side m = None
+
+-- The version of a change that the documents refuse.
+abbrev pub version_rejected : Option ChangeData → Verdict → Option ℤ
+version_rejected (Some p) (answered (refused refusal)) = Some p.version
+version_rejected change verdict = None
+
+-- ---- after a record
+
+-- So many are kept of a document.
+abbrev pub most_gaps : ℕ
+most_gaps = 16
+
+abbrev pub gaps_after : Grown → List Grown → List Grown
+gaps_after grown gaps = if grown.by == 1 then gaps else take most_gaps (grown ∷ gaps)
+
+-- After a record that changed the document. Where its version doesn't grow, as in an opening and a
+-- closing, versions begin anew.
+abbrev pub after_accepted : Option Grown → Habits → Habits
+after_accepted None h = no_habits h.uri
+after_accepted (Some grown) h = record h { rejected = None; gaps = gaps_after grown h.gaps }
+
+-- After another record, by the version that was refused.
+abbrev pub after_refused : Option ℤ → Habits → Habits
+after_refused None h = h
+after_refused (Some version) h = record h { rejected = Some version }
+
+abbrev pub habits_after : Bool → Option Grown → Option ℤ → Habits → Habits
+habits_after has_changed grown rejected h =
+    if has_changed then after_accepted grown h else after_refused rejected h
+
+-- So many documents are kept, those that came last.
+abbrev pub most_documents : ℕ
+most_documents = 64
+
+abbrev pub documents_after : Bool → Option Grown → Option ℤ → Option (List ℕ) → List Habits
+    → List Habits
+documents_after has_changed grown rejected None hs = hs
+documents_after has_changed grown rejected (Some uri) hs =
+    take most_documents (habits_after has_changed grown rejected (habits_of uri hs) ∷ all_but uri hs)
