@@ -1,5 +1,5 @@
 -- The facts of a record, what is known after it, and the output of `trace` and `check --explain` from the record on.
-use Rattle.log_report.proofs.Prelude.{arith, common_steps, ◌≡◌, ◌≢◌, ℕ, Bool, List, ◌∷◌, option_map, string_bytes, refl, sym, ap, ap₂, ◌∙◌, reading, change_view, ChangeData, IncomingData, incoming_of, ServerData, Head, Sender, Client, Server, Version, Record, Facts, Taken, written_first, change_in, writes, rare_notes, Known, LineView, hint_in, hint_with, is_strict_in, known_after, last_in, lines, named_in, noted_in, noted_of, noted_uri, uri_of, is_mention, notes_if, notes_of, ranged_after, Session, bad, encoding_for, judge, judge_from, BodyData, body_read, AreFacts, IsAbout, IsLearned, known_by, judge_at, IsTaken, ranged_read, ranged_with, verdict_view, output_in, notification_params, None, Option, Some, [], lengths_of, learned, notes_on, is_some, on_client}
+use Rattle.log_report.proofs.Prelude.{arith, common_steps, ◌≡◌, ◌≢◌, ℕ, Bool, List, ◌∷◌, Note, option_map, string_bytes, refl, sym, ap, ap₂, ◌∙◌, reading, change_view, ChangeData, IncomingData, incoming_of, ServerData, Head, Sender, Client, Server, Version, Record, Facts, Taken, written_first, change_in, writes, rare_notes, Known, LineView, habits_at, hint_in, hint_with, is_strict_in, known_after, last_in, lines, named_in, noted_in, noted_of, noted_uri, uri_of, is_mention, notes_if, notes_of, ranged_after, Session, bad, encoding_for, judge, judge_from, BodyData, body_read, AreFacts, IsAbout, IsLearned, known_by, judge_at, IsTaken, ranged_read, ranged_with, verdict_view, output_in, notification_params, None, Option, Some, [], lengths_of, learned, notes_on, is_some, on_client}
 use Rattle.log_report.specs.Habits.{Habits, grown_in, version_rejected}
 use Rattle.log_report.specs.Lacks.{lack_in}
 use Rattle.log_report.specs.declared.facts.About.{About}
@@ -117,7 +117,9 @@ module _ (known : Known) (s : Session) (head : Head) (body : List ℕ) (read : B
           notes = (learned.notes ∙ notes_are) i;
         };
         named = ap (option_map string_bytes) learned.named ∙ named_is;
-        rare = learned.rare ∙ ap (rare_notes known.counts) notes_are;
+        rare = learned.rare
+            ∙ ap₂ (λ (noted : Option (List ℕ)) (notes : List Note). rare_notes (habits_at noted known.documents) notes)
+            noted_is notes_are;
       }
 
       pub known_is : (next : Known) → next ≡ known_by known number about taken

@@ -23,9 +23,9 @@ pub use Rattle.json.specs.Tree.{HasNumbers, ItemsHaveNumbers, depth, items_depth
 pub use Rattle.json.specs.Word.{ends_word}
 pub use Rattle.log_report.specs.Check.{check_line, checking, code_word, verdict_word}
 pub use Rattle.log_report.specs.Compare.{comparing, learned, splices_from}
-pub use Rattle.log_report.specs.Counts.{rare_note, rare_notes, tallied_notes}
+pub use Rattle.log_report.specs.Counts.{tallied_notes}
 pub use Rattle.log_report.specs.Explain.{explained_line, explaining, few_from, few_notes, listed_line}
-pub use Rattle.log_report.specs.Habits.{Habits, all_but, habits_of}
+pub use Rattle.log_report.specs.Habits.{Habits, all_but, habits_at, habits_of, rare_note, rare_notes}
 pub use Rattle.log_report.specs.Lines.{FactsData, Known, LineView, facts_of, hint_in, hint_of, hint_with, is_not_open, is_strict_in, is_stale_refusal, is_strict_refusal, is_unread, known_after, last_in, lead_of, lines, named_in, noted_in, noted_uri, nothing_known, or_unread, uri_of}
 pub use Rattle.log_report.specs.Mentions.{Mention, is_mention, last_for, last_record, mentioned, most_mentions, without}
 pub use Rattle.log_report.specs.Notes.{Terms, batch_notes, change_notes, differing_line, has_lone_return, if_left, left_by, note_words, notes_from, notes_if, notes_of, notes_on, notes_words, past_words, replaced_by, side_words, taken_as}

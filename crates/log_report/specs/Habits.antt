@@ -1,17 +1,25 @@
--- What is known of a document by its records: which versions it left out.
-use Rattle.std.specs.Prelude.{◌==◌, ◌&&◌, if◌then◌else◌, ◌∷◌}
-use Rattle.log_report.specs.Prelude.{ℕ, ℤ, Bool, int_lt, take, bytes_eq, List, [], Option, Some, None, ChangeData, DocumentItem, entry_at, IncomingData, did_change, Sender, ServerData, refused}
+-- What is known of a document by its records: which notes it often has, and which versions it left out.
+use Rattle.std.specs.Prelude.{◌==◌, ◌&&◌, ◌||◌, ◌/◌, if◌then◌else◌, ◌∷◌}
+use Rattle.log_report.specs.Prelude.{ℕ, ℤ, Bool, true, false, not, nat_le, int_lt, take, flat_map, bytes_eq, List, [], Option, Some, None, ChangeData, DocumentItem, entry_at, IncomingData, did_change, Sender, ServerData, refused, Note}
 use Rattle.std.specs.List.{list_any}
 use Rattle.lsp_log.specs.declared.record.Sender.TheVariants.{Client}
-use Rattle.log_session.specs.Session.{Verdict, answered}
+use Rattle.log_session.specs.Session.{Verdict, answered, count_if}
+use Rattle.log_report.specs.Counts.{tallied_notes}
+use Rattle.log_report.specs.Notes.{note_kind}
+use Rattle.log_report.specs.Tallies.{Tally, count_of}
 use Rattle.log_report.specs.Growths.{grown_by}
 use Rattle.log_report.specs.declared.growths.Grown.{Grown}
+use Rattle.log_report.specs.declared.notes.Note.TheVariants.{OtherSaved, PartSaved, SameText}
 
 -- ---- a document
 
 -- What is known of it.
 pub record Habits : Type 0 where
   pub uri : List ℕ
+  -- how many records changed it
+  pub changes : ℕ
+  -- its notes, by their kinds
+  pub noted : List Tally
   -- the version of a change that was refused, after those that weren't
   pub rejected : Option ℤ
   -- the changes that left out versions, the newest first
@@ -19,12 +27,58 @@ pub record Habits : Type 0 where
 
 -- Before its first record.
 abbrev pub no_habits : List ℕ → Habits
-no_habits uri = record { uri = uri; rejected = None; gaps = [] }
+no_habits uri = record { uri = uri; changes = 0; noted = []; rejected = None; gaps = [] }
 
 -- Was a version left out? If 9 came after 6, then 7 and 8 were.
 abbrev pub is_left_out : ℤ → List Grown → Bool
 is_left_out version gaps =
     list_any (λ gap. int_lt gap.before version && int_lt version gap.sent) gaps
+
+-- ---- notes that it often has
+
+-- A kind of note is a habit, if it came so often already, and with about one of so many records that
+-- changed the document. So a kind that comes often is said four times, and one that is rare each time.
+abbrev pub habit_count : ℕ
+habit_count = 4
+
+abbrev pub habit_rate : ℕ
+habit_rate = 100
+
+-- Is a kind of note a habit that came so often, where so many records changed the document?
+abbrev pub is_frequent : ℕ → ℕ → Bool
+is_frequent changes count = nat_le habit_count count && nat_le (changes / habit_rate) count
+
+-- Is the kind of a note a habit?
+abbrev pub is_habit : Habits → Note → Bool
+is_habit h note = is_frequent h.changes (count_of (note_kind note) h.noted)
+
+-- Is a note that a change's text is what it replaces? Many editors send such changes, and a copy is
+-- as right as before.
+abbrev pub is_same_text : Note → Bool
+is_same_text (SameText index) = true
+is_same_text note = false
+
+-- Is a note of a saved text? It may alone show that a copy is wrong.
+abbrev pub is_of_save : Note → Bool
+is_of_save (OtherSaved line) = true
+is_of_save PartSaved = true
+is_of_save note = false
+
+-- Is a note on no line? A note of a saved text is on one each time.
+abbrev pub is_hidden : Habits → Note → Bool
+is_hidden h note = is_same_text note || (not (is_of_save note) && is_habit h note)
+
+-- The note, unless it is on no line.
+abbrev pub rare_note : Habits → Note → List Note
+rare_note h note = if is_hidden h note then [] else note ∷ []
+
+-- The notes that are on a line.
+abbrev pub rare_notes : Habits → List Note → List Note
+rare_notes h notes = flat_map (rare_note h) notes
+
+-- Is one of some notes on no line?
+abbrev pub hides : Habits → List Note → Bool
+hides h notes = list_any (is_hidden h) notes
 
 -- ---- all documents
 
@@ -32,6 +86,10 @@ is_left_out version gaps =
 abbrev pub habits_of : List ℕ → List Habits → Habits
 habits_of uri [] = no_habits uri
 habits_of uri (h ∷ hs) = if bytes_eq h.uri uri then h else habits_of uri hs
+
+abbrev pub habits_at : Option (List ℕ) → List Habits → Habits
+habits_at None hs = no_habits []
+habits_at (Some uri) hs = habits_of uri hs
 
 -- All but one.
 abbrev pub all_but : List ℕ → List Habits → List Habits
@@ -73,7 +131,7 @@ gaps_after grown gaps = if grown.by == 1 then gaps else take most_gaps (grown �
 -- After a record that changed the document. Where its version doesn't grow, as in an opening and a
 -- closing, versions begin anew.
 abbrev pub after_accepted : Option Grown → Habits → Habits
-after_accepted None h = no_habits h.uri
+after_accepted None h = record h { rejected = None; gaps = [] }
 after_accepted (Some grown) h = record h { rejected = None; gaps = gaps_after grown h.gaps }
 
 -- After another record, by the version that was refused.
@@ -81,16 +139,23 @@ abbrev pub after_refused : Option ℤ → Habits → Habits
 after_refused None h = h
 after_refused (Some version) h = record h { rejected = Some version }
 
-abbrev pub habits_after : Bool → Option Grown → Option ℤ → Habits → Habits
-habits_after has_changed grown rejected h =
+abbrev pub versions_after : Bool → Option Grown → Option ℤ → Habits → Habits
+versions_after has_changed grown rejected h =
     if has_changed then after_accepted grown h else after_refused rejected h
+
+-- After a record with these notes. (No tally's number matters.)
+abbrev pub habits_after : Bool → Option Grown → Option ℤ → List Note → Habits → Habits
+habits_after has_changed grown rejected notes h = record (versions_after has_changed grown rejected h) {
+  changes = count_if has_changed h.changes;
+  noted = tallied_notes notes 0 h.noted;
+}
 
 -- So many documents are kept, those that came last.
 abbrev pub most_documents : ℕ
 most_documents = 64
 
-abbrev pub documents_after : Bool → Option Grown → Option ℤ → Option (List ℕ) → List Habits
-    → List Habits
-documents_after has_changed grown rejected None hs = hs
-documents_after has_changed grown rejected (Some uri) hs =
-    take most_documents (habits_after has_changed grown rejected (habits_of uri hs) ∷ all_but uri hs)
+abbrev pub documents_after : Bool → Option Grown → Option ℤ → List Note → Option (List ℕ)
+    → List Habits → List Habits
+documents_after has_changed grown rejected notes None hs = hs
+documents_after has_changed grown rejected notes (Some uri) hs = take most_documents
+    (habits_after has_changed grown rejected notes (habits_of uri hs) ∷ all_but uri hs)

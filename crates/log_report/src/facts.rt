@@ -214,13 +214,14 @@ impl Known {
         let is_strict = self.is_strict_in(uri.as_deref(), change.as_ref(), &verdict);
         let last = self.last_in(uri.as_deref(), &verdict);
         let notes = notes_if(notes, &verdict);
-        let rare = self.counts.rare(&notes)?;
-        self.counts.count(number, &verdict, &notes)?;
+        let noted = noted_uri(uri.as_deref(), named.as_deref());
+        let rare = self.documents.rare(noted, &notes)?;
+        let hides = self.documents.has_hidden(noted, &notes);
+        self.counts.count(number, &verdict, &notes, hides)?;
         self.keep(number, uri.as_deref(), change.is_some(), &verdict)?;
         let rejected = version_rejected(change.as_ref(), &verdict);
-        let noted = noted_uri(uri.as_deref(), named.as_deref());
         self.documents
-            .take(has_changed(&verdict), grown, rejected, noted)?;
+            .take(has_changed(&verdict), grown, rejected, &notes, noted)?;
         self.ranged = ranged_with(self.ranged, ranged);
         self.strict_refusal = self.strict_refusal || is_strict;
         Ok(Facts {

@@ -1,14 +1,27 @@
-//! What is known of a document by its records: which versions it left out.
+//! What is known of a document by its records: which notes it often has, and which versions it left
+//! out.
 
 ghost use Rattle.std.specs.Prelude.{◌≡◌, [], IfOk, OnOk, option_map};
+ghost use Rattle.std.specs.List.{list_any};
 ghost use Rattle.std.specs.Str.{bytes_eq};
 ghost use Rattle.log_report.specs.Habits.{after_accepted, after_refused, all_but, documents_after, gaps_after, habits_after};
-ghost use Rattle.log_report.specs.Habits.{habits_of, is_left_out, no_habits, sent_after};
+ghost use Rattle.log_report.specs.Habits.{habits_at, habits_of, is_habit, is_hidden, is_left_out, is_of_save, is_same_text, no_habits};
+ghost use Rattle.log_report.specs.Habits.{rare_notes, sent_after, versions_after};
 ghost use Rattle.log_report.specs.inside.Habits.{IsHabitsAt};
 
+use crate::counts::tallies::{Tally, count_of};
+use crate::counts::{add_notes, count_if};
 use crate::growths::Grown;
+use crate::notes::Note;
+use crate::notes::kinds::note_kind;
 use std::alloc::{AllocError, Global};
 use std::marker::Model;
+
+/// A kind of note is a habit, if so many notes of the document had it already,
+const HABIT_COUNT: u64 = 4;
+
+/// and about one of so many records that changed it.
+const HABIT_RATE: u64 = 100;
 
 /// So many documents are kept, those that came last.
 const DOCUMENTS: usize = 64;
@@ -20,6 +33,10 @@ const GAPS: usize = 16;
 #[derive(Drop)]
 pub struct Habits {
     uri: String,
+    // How many records changed it.
+    changes: u64,
+    // Its notes, by their kinds.
+    noted: Vec<Tally>,
     // The version of a change that was refused, after those that weren't.
     rejected: Option<i32>,
     // The changes that left out versions, the newest first.
@@ -34,6 +51,8 @@ impl Model for Habits {
 
     ghost view = { λ habits. record {
       uri = string_bytes habits.uri;
+      changes = habits.changes;
+      noted = habits.noted.items;
       rejected = habits.rejected;
       gaps = habits.gaps.items;
     } };
@@ -46,6 +65,8 @@ impl Habits {
     {
         Ok(Habits {
             uri: String::from_str(alloc, uri)?,
+            changes: 0,
+            noted: Vec::new(alloc),
             rejected: None,
             gaps: Vec::new(alloc),
         })
@@ -75,14 +96,39 @@ impl Habits {
         self.gaps.iter().any(|gap| gap.leaves_out(version))
     }
 
-    /// Takes a record that changed the document, or whose version was refused.
+    /// Returns whether the kind of a note is a habit.
+    fn is_habit(&self, note: Note) -> bool
+        ensures { result ≡ is_habit self.now note }
+    {
+        let count = count_of(self.noted.as_slice(), note_kind(note));
+        count >= HABIT_COUNT && self.changes / HABIT_RATE <= count
+    }
+
+    /// Takes a record with these notes, which changed the document, or whose version was refused.
     fn take(
+        &mut self,
+        alloc: Global,
+        has_changed: bool,
+        grown: Option<Grown>,
+        rejected: Option<i32>,
+        notes: &[Note],
+    ) -> Result<(), AllocError>
+        ensures { OnOk result
+            (self.new ≡ habits_after has_changed grown rejected notes.now self.old) }
+    {
+        self.take_version(has_changed, grown, rejected)?;
+        self.changes = count_if(has_changed, self.changes);
+        add_notes(alloc, &mut self.noted, notes, 0)
+    }
+
+    /// Takes the version of a record that changed the document, or the one that was refused.
+    fn take_version(
         &mut self,
         has_changed: bool,
         grown: Option<Grown>,
         rejected: Option<i32>,
     ) -> Result<(), AllocError>
-        ensures { OnOk result (self.new ≡ habits_after has_changed grown rejected self.old) }
+        ensures { OnOk result (self.new ≡ versions_after has_changed grown rejected self.old) }
     {
         if has_changed {
             self.change(grown)
@@ -167,22 +213,68 @@ impl Documents {
         }
     }
 
-    /// Takes a record about a document, which changed it, or whose version was refused.
+    /// Returns whether the kind of a note is a habit of its document.
+    fn is_habit(&self, uri: Option<&str>, note: Note) -> bool
+        ensures { result ≡ is_habit (habits_at (option_map (λ uri. uri.now) uri.entry)
+            self.now.newest.items) note }
+    {
+        let Some(uri) = uri else {
+            return false;
+        };
+        match index_of(self.newest.as_slice(), uri) {
+            Some(index) => self.newest[index].is_habit(note),
+            None => false,
+        }
+    }
+
+    /// Returns whether a note of a document is on no line.
+    fn is_hidden(&self, uri: Option<&str>, note: Note) -> bool
+        ensures { result ≡ is_hidden (habits_at (option_map (λ uri. uri.now) uri.entry)
+            self.now.newest.items) note }
+    {
+        is_same_text(note) || !is_of_save(note) && self.is_habit(uri, note)
+    }
+
+    /// Returns whether one of some notes of a document is on no line.
+    pub fn has_hidden(&self, uri: Option<&str>, notes: &[Note]) -> bool
+        ensures { result ≡ list_any (is_hidden (habits_at (option_map (λ uri. uri.now) uri.entry)
+            self.now.newest.items)) notes.now }
+    {
+        notes.iter().any(|note| self.is_hidden(uri, *note))
+    }
+
+    /// Returns the notes of a document that are on a line.
+    pub fn rare(&self, uri: Option<&str>, notes: &[Note]) -> Result<Vec<Note>, AllocError>
+        ensures { IfOk result (λ rare. rare.items ≡ rare_notes (habits_at
+            (option_map (λ uri. uri.now) uri.entry) self.now.newest.items) notes.now) }
+    {
+        let mut rare = Vec::new(self.alloc);
+        for note in notes {
+            if !self.is_hidden(uri, *note) {
+                rare.push(*note)?;
+            }
+        }
+        Ok(rare)
+    }
+
+    /// Takes a record about a document, with these notes, which changed it, or whose version was
+    /// refused.
     pub fn take(
         &mut self,
         has_changed: bool,
         grown: Option<Grown>,
         rejected: Option<i32>,
+        notes: &[Note],
         uri: Option<&str>,
     ) -> Result<(), AllocError>
         ensures { OnOk result (self.new.newest.items ≡ documents_after has_changed grown rejected
-            (option_map (λ uri. uri.now) uri.entry) self.old.newest.items) }
+            notes.now (option_map (λ uri. uri.now) uri.entry) self.old.newest.items) }
     {
         let Some(uri) = uri else {
             return Ok(());
         };
         let mut habits = self.remove(uri)?;
-        habits.take(has_changed, grown, rejected)?;
+        habits.take(self.alloc, has_changed, grown, rejected, notes)?;
         self.newest.insert(0, habits)?;
         self.newest.truncate(DOCUMENTS);
         Ok(())
@@ -200,6 +292,20 @@ impl Documents {
             None => Habits::new(self.alloc, uri),
         }
     }
+}
+
+/// Returns whether a note is that a change's text is what it replaces.
+fn is_same_text(note: Note) -> bool
+    ensures { result ≡ is_same_text note }
+{
+    matches!(note, Note::SameText { .. })
+}
+
+/// Returns whether a note is of a saved text.
+fn is_of_save(note: Note) -> bool
+    ensures { result ≡ is_of_save note }
+{
+    matches!(note, Note::OtherSaved { .. } | Note::PartSaved)
 }
 
 /// Returns the index of a document.

@@ -5,10 +5,10 @@ use Rattle.lsp_log.specs.declared.record.Sender.TheVariants.{Client}
 use Rattle.log_report.specs.declared.facts.About.{About}
 use Rattle.log_report.specs.declared.facts.Facts.{Facts}
 use Rattle.log_session.specs.declared.session.canonical.Appended.TheVariants.{Body}
-use Rattle.log_report.specs.Counts.{counts_after, rare_notes}
-use Rattle.log_report.specs.Habits.{Habits, documents_after, grown_in, version_rejected}
+use Rattle.log_report.specs.Counts.{counts_after}
+use Rattle.log_report.specs.Habits.{Habits, documents_after, grown_in, habits_at, hides, rare_notes, version_rejected}
 use Rattle.log_report.specs.Lacks.{lack_in}
-use Rattle.log_report.specs.Lines.{FactsData, Known, facts_of, hint_in, hint_with, is_strict_in, last_in, lead_of, named_in, noted_uri, unread_after, uri_of}
+use Rattle.log_report.specs.Lines.{FactsData, Known, facts_of, hint_in, hint_with, is_strict_in, last_in, lead_of, named_in, noted_in, noted_uri, unread_after, uri_of}
 use Rattle.log_report.specs.Mentions.{is_mention, mentioned}
 use Rattle.log_report.specs.Notes.{notes_if, notes_of, notes_on}
 use Rattle.log_session.specs.Session.{Session, Verdict, has_changed, judge}
@@ -62,8 +62,8 @@ pub record IsLearned (known : Known) (n : ℕ) (about : About) (taken : Taken) (
   pub last : facts.last
       ≡ last_in known (option_map string_bytes about.uri) (verdict_view taken.verdict)
   pub notes : facts.notes.items ≡ notes_if about.notes.items (verdict_view taken.verdict)
-  pub rare : facts.rare.items
-      ≡ rare_notes known.counts (notes_if about.notes.items (verdict_view taken.verdict))
+  pub rare : facts.rare.items ≡ rare_notes (habits_at (noted_of about) known.documents)
+      (notes_if about.notes.items (verdict_view taken.verdict))
 
 -- What is known of mentions after a record with this number.
 abbrev pub kept_by : Known → ℕ → Option (List ℕ) → Bool → Verdict → Known
@@ -85,14 +85,16 @@ known_by known number about taken = record {
       (option_map string_bytes about.uri) number known.made;
   documents = documents_after (has_changed (verdict_view taken.verdict)) about.grown
       (version_rejected (option_map change_view taken.change) (verdict_view taken.verdict))
-      (noted_of about) known.documents;
+      (notes_if about.notes.items (verdict_view taken.verdict)) (noted_of about) known.documents;
   ranged = ranged_with known.ranged taken.ranged;
   unread = unread_after known.unread number (verdict_view taken.verdict);
   strict_refusal = known.strict_refusal
       || is_strict_in known (option_map string_bytes about.uri)
       (option_map change_view taken.change) (verdict_view taken.verdict);
   counts = counts_after known.counts number (verdict_view taken.verdict)
-      (notes_if about.notes.items (verdict_view taken.verdict));
+      (notes_if about.notes.items (verdict_view taken.verdict))
+      (hides (habits_at (noted_of about) known.documents)
+      (notes_if about.notes.items (verdict_view taken.verdict)));
 }
 
 -- Of a record before which the session was `s`. The change is one that a running server received.
@@ -103,8 +105,9 @@ pub record AreFacts (known : Known) (s : Session) (r : Record) (facts : Facts) :
       }
   pub named : option_map string_bytes facts.named
       ≡ named_in r.head.side (incoming_of (reading r.body)) (notification_params (reading r.body))
-  pub rare : facts.rare.items
-      ≡ rare_notes known.counts (notes_of s known.ranged r.body (judge s r).verdict)
+  pub rare : facts.rare.items ≡ rare_notes (habits_at (noted_in r.head.side
+      (incoming_of (reading r.body)) (notification_params (reading r.body))) known.documents)
+      (notes_of s known.ranged r.body (judge s r).verdict)
 
 -- ---- the lines, by the facts
 

@@ -164,6 +164,9 @@ fn whole_texts_are_noted_where_ranges_were_asked_for(rt: HostRuntime) -> Result<
 const LENIENT: &str =
     "1 reply\n2 changed\n3 changed of \"file:///a\": the document was open already\n4 changed\n5 changed of \"file:///a\": version 2 was sent, and the current one was 2\nmessages of the editor: 5, changed documents: 4\nnoted open already: 1, first message 3\nnoted an old version: 1, first message 5\nnoted changes nothing: 1, first message 5\n";
 
+const LENIENT_HIDDEN: &str =
+    "Messages with notes that are on no line: 1, from 5 to 5; `--all` has them.\n";
+
 /// Returns whether what lenient limits accept is noted.
 fn is_accepted(alloc: Global) -> Result<bool, Fail> {
     let settings = settings()?;
@@ -173,7 +176,7 @@ fn is_accepted(alloc: Global) -> Result<bool, Fail> {
     };
     let input = log(alloc, &[INITIALIZE, OPEN, OPEN, WHOLE, WHOLE])?;
     let run = run_with(alloc, Command::Explain, &input, settings, SMOOTH)?;
-    let output = format!(in alloc; "{LENIENT}{SEE}{HIDDEN}")?;
+    let output = format!(in alloc; "{LENIENT}{SEE}{LENIENT_HIDDEN}")?;
     Ok(run.answer == Ended(0, 5, 0).answer() && run.output.as_slice() == output.as_bytes())
 }
 
@@ -198,7 +201,7 @@ static SAME: [&str; 6] = [
 const SAME_COUNTED: &str =
     "messages of the editor: 6, changed documents: 5\nnoted a CR alone: 1, first message 2\nnoted changes nothing: 3, first message 4\nNothing was refused; see the notes. `lspsync replay --at N`: the texts after message N.\n";
 
-const HIDDEN: &str = "Some notes are on no line: `--all` has each on its line.\n";
+const HIDDEN: &str = "Messages with notes that are on no line: 3, from 4 to 6; `--all` has them.\n";
 
 /// What `check` with reasons writes of this session: without the notes that changes change nothing,
 /// with each note, and only lines with a reason or notes.
@@ -404,7 +407,7 @@ const INSIDE: &str =
 static VERSIONS: [(&[(i32, &str)], &str); 3] = [
     (
         &[(2, EMOJI), (5, EMOJI), (3, EMOJI), (4, EMOJI)],
-        "5 refused S5 of \"file:///a\": version 3 was sent, and the current one is 5; the one that was sent was left out before: messages were swapped; see message 4\n6 refused S5 of \"file:///a\": version 4 was sent, and the current one is 5; the one that was sent was left out before: messages were swapped; see message 4\nmessages of the editor: 6, changed documents: 3\nrefused by S5: 2, first message 5\nnoted changes nothing: 1, first message 4\nRefused messages change nothing. `lspsync replay --at N`: the texts after message N.\nSome notes",
+        "5 refused S5 of \"file:///a\": version 3 was sent, and the current one is 5; the one that was sent was left out before: messages were swapped; see message 4\n6 refused S5 of \"file:///a\": version 4 was sent, and the current one is 5; the one that was sent was left out before: messages were swapped; see message 4\nmessages of the editor: 6, changed documents: 3\nrefused by S5: 2, first message 5\nnoted changes nothing: 1, first message 4\nRefused messages change nothing. `lspsync replay --at N`: the texts after message N.\nMessages with notes",
     ),
     (
         &[(2, EMOJI), (5, EMOJI), (2, EMOJI)],
@@ -432,5 +435,33 @@ fn a_version_that_was_left_out_before_is_called_that(rt: HostRuntime) -> Result<
     for (versions, lines) in &VERSIONS {
         assert!(rt; has_versions(rt.alloc(), versions, lines)?, "at {lines}");
     }
+    Ok(())
+}
+
+/// Five changes of a document have a note, and then one of another document.
+const HABIT: &str =
+    "3 changed of \"file:///a\": it has no changes\n4 changed of \"file:///a\": it has no changes\n5 changed of \"file:///a\": it has no changes\n6 changed of \"file:///a\": it has no changes\n9 changed of \"file:///b\": it has no changes\nmessages of the editor: 9, changed documents: 8\nnoted no changes: 6, first message 3\nNothing was refused; see the notes. `lspsync replay --at N`: the texts after message N.\nMessages with notes that are on no line: 1, from 7 to 7; `--all` has them.\n";
+
+/// Returns whether what often comes of one document is still on a line of another.
+fn has_habits(alloc: Global) -> Result<bool, Fail> {
+    let mut input = log(alloc, &[INITIALIZE, OPEN])?;
+    for version in [2, 3, 4, 5, 6] {
+        let changed = change(alloc, version, "")?;
+        input.extend_from_slice(&frame(alloc, changed.as_bytes())?)?;
+    }
+    input.extend_from_slice(&log(alloc, &OTHER)?)?;
+    let run = run_with(alloc, Command::Brief, &input, settings()?, SMOOTH)?;
+    Ok(run.output.as_slice() == HABIT.as_bytes())
+}
+
+/// The other document.
+static OTHER: [&str; 2] = [
+    r#"{"jsonrpc":"2.0","method":"textDocument/didOpen","params":{"textDocument":{"languageId":"c","text":"","uri":"file:///b","version":1}}}"#,
+    r#"{"jsonrpc":"2.0","method":"textDocument/didChange","params":{"contentChanges":[],"textDocument":{"uri":"file:///b","version":2}}}"#,
+];
+
+#[test]
+fn a_habit_is_one_of_a_document(rt: HostRuntime) -> Result<(), Fail> {
+    assert!(rt; has_habits(rt.alloc())?);
     Ok(())
 }
