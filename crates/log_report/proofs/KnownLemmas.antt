@@ -1,5 +1,5 @@
 -- The facts of a record, what is known after it, and the output of `trace` and `check --explain` from the record on.
-use Rattle.log_report.proofs.Prelude.{arith, common_steps, ◌≡◌, ◌≢◌, ℕ, Bool, List, ◌∷◌, Note, option_map, string_bytes, refl, sym, ap, ap₂, ◌∙◌, reading, change_view, ChangeData, IncomingData, incoming_of, ServerData, Head, Sender, Client, Server, Version, Record, Facts, Taken, written_first, change_in, writes, rare_notes, Known, LineView, habits_at, hint_in, hint_with, is_strict_in, known_after, last_in, lines, named_in, noted_in, noted_of, noted_uri, uri_of, is_mention, notes_if, notes_of, ranged_after, Session, bad, encoding_for, judge, judge_from, BodyData, body_read, AreFacts, IsAbout, IsLearned, known_by, judge_at, IsTaken, ranged_read, ranged_with, verdict_view, output_in, notification_params, None, Option, Some, [], lengths_of, learned, notes_on, is_some, on_client}
+use Rattle.log_report.proofs.Prelude.{arith, common_steps, ◌≡◌, ◌≢◌, ℕ, Bool, List, ◌∷◌, ◌++◌, Note, option_map, string_bytes, refl, sym, ap, ap₂, ◌∙◌, reading, change_view, ChangeData, IncomingData, incoming_of, ServerData, Head, Sender, Client, Server, Version, Record, Facts, Taken, written_first, change_in, writes, rare_notes, Known, LineView, habits_at, hint_in, hint_with, is_strict_in, known_after, last_in, lines, named_in, noted_in, noted_of, noted_uri, uri_of, is_mention, notes_if, notes_of, ranged_after, Session, bad, encoding_for, judge, judge_from, BodyData, body_read, AreFacts, IsAbout, IsLearned, known_by, judge_at, IsTaken, ranged_read, ranged_with, verdict_view, output_in, notification_params, None, Option, Some, [], lengths_of, learned, notes_on, odd_in, is_some, on_client}
 use Rattle.log_report.specs.Habits.{Habits, grown_in, version_rejected}
 use Rattle.log_report.specs.Lacks.{lack_in}
 use Rattle.log_report.specs.declared.facts.About.{About}
@@ -19,13 +19,15 @@ module _ (s : Session) (body : List ℕ) where
   ranged_at ranged version Client = refl
   ranged_at ranged version Server = refl
 
-  notes_at : (ranged : Bool) (version : Version) (side : Sender)
-      → notes_if (on_client [] (notes_on s.server ranged (lengths_of (reading body)) (notification_params (reading
-      body)))
-      (body_read version side body))
-      (judge_from s version side body).verdict ≡ notes_of s ranged body (judge_from s version side body).verdict
-  notes_at ranged version Client = refl
-  notes_at ranged version Server =
+  abbrev noted_on : List Habits → Bool → IncomingData → List Note
+  noted_on documents ranged m = notes_on s.server ranged (lengths_of (reading body)) (notification_params (reading body)) m
+      ++ odd_in s.server documents m
+
+  notes_at : (documents : List Habits) (ranged : Bool) (version : Version) (side : Sender)
+      → notes_if (on_client [] (noted_on documents ranged) (body_read version side body))
+      (judge_from s version side body).verdict ≡ notes_of s documents ranged body (judge_from s version side body).verdict
+  notes_at documents ranged version Client = refl
+  notes_at documents ranged version Server =
       grind (arith, common_steps, (heard_as s (encoding_for s.expected (reading body))))
 
 -- ---- a record, by what was read of it, what it is about, and what became of it
@@ -73,12 +75,11 @@ module _ (known : Known) (s : Session) (head : Head) (body : List ℕ) (read : B
     mention_is = ap₂ is_mention (some_map change_view taken.change
         ∙ ap (λ (change : Option ChangeData). is_some change) is_taken.change) is_taken.judged ∙ mention_at s head body
 
-    notes_are : notes_if about.notes.items (verdict_view taken.verdict) ≡ notes_of s known.ranged body
+    notes_are : notes_if about.notes.items (verdict_view taken.verdict) ≡ notes_of s known.documents known.ranged body
         (judge_at s head body).verdict
     notes_are =
-        ap₂ notes_if (is_about.notes ∙ ap (on_client [] (notes_on s.server known.ranged
-        (lengths_of (reading body)) (notification_params (reading body)))) is_read) is_taken.judged
-        ∙ notes_at s body known.ranged head.version head.side
+        ap₂ notes_if (is_about.notes ∙ ap (on_client [] (noted_on s body known.documents known.ranged)) is_read)
+        is_taken.judged ∙ notes_at s body known.documents known.ranged head.version head.side
 
     abbrev its_uri : Option (List ℕ)
     its_uri = uri_of head.side (incoming_of (reading body))

@@ -7,11 +7,11 @@ use Rattle.log_session.specs.Settings.{log_config}
 use Rattle.log_session.specs.View.{output_in}
 use Rattle.log_report.specs.Check.{verdict_word}
 use Rattle.log_report.specs.Counts.{counts_words}
-use Rattle.log_report.specs.Habits.{Habits, habits_at, rare_notes}
+use Rattle.log_report.specs.Habits.{Habits, habits_at, notes_of, rare_notes}
 use Rattle.log_report.specs.declared.counts.Hidden.{Hidden}
 use Rattle.log_report.specs.Tallies.{Tally, count_of, has_tallies, tallied}
 use Rattle.log_report.specs.Lines.{FactsData, Known, LineView, facts_of, has_notes, lines, noted_in, nothing_known}
-use Rattle.log_report.specs.Notes.{note_kind, notes_of, notes_words}
+use Rattle.log_report.specs.Notes.{note_kind, notes_words}
 use Rattle.log_report.specs.Reasons.{hint_words, reason_words}
 use Rattle.log_session.specs.Run.{Engine, log_engine}
 use Rattle.log_session.specs.Session.{Session, Judged, Verdict, answered, is_new, is_refused, opened, refuses}
@@ -94,7 +94,7 @@ explained_line listing known s r j m =
     listed_line listing j.session.server.config.limits (facts_of known s r j m)
     (noted_in r.head.side m (notification_params (reading r.body)))
     (listed_notes listing (habits_at (noted_in r.head.side m (notification_params (reading r.body)))
-    known.documents) (notes_of s known.ranged r.body j.verdict))
+    known.documents) (notes_of s known.documents known.ranged r.body j.verdict))
 
 -- ---- what to do next, after so many refusals
 

@@ -1,14 +1,16 @@
--- What is known of a document by its records: which notes it often has, and which versions it left out.
-use Rattle.std.specs.Prelude.{◌==◌, ◌&&◌, ◌||◌, ◌/◌, if◌then◌else◌, ◌∷◌}
-use Rattle.log_report.specs.Prelude.{ℕ, ℤ, Bool, true, false, not, nat_le, int_lt, take, flat_map, bytes_eq, List, [], Option, Some, None, ChangeData, DocumentItem, entry_at, IncomingData, did_change, Sender, ServerData, refused, Note}
+-- What is known of a document by its records: which notes it often has, how its versions grow, and which
+-- it left out; and the notes of a record by that.
+use Rattle.std.specs.Prelude.{◌==◌, ◌&&◌, ◌||◌, ◌/◌, ◌++◌, if◌then◌else◌, ◌∷◌}
+use Rattle.log_report.specs.Prelude.{ℕ, ℤ, Bool, true, false, not, nat_le, int_lt, length, take, flat_map, bytes_eq, List, [], Option, Some, None, ChangeData, DocumentItem, entry_at, IncomingData, did_change, incoming_of, lengths_of, notification_params, reading, Sender, ServerData, refused, Note}
 use Rattle.std.specs.List.{list_any}
 use Rattle.lsp_log.specs.declared.record.Sender.TheVariants.{Client}
-use Rattle.log_session.specs.Session.{Verdict, answered, count_if}
+use Rattle.log_session.specs.Session.{Session, Verdict, answered, count_if}
 use Rattle.log_report.specs.Counts.{tallied_notes}
-use Rattle.log_report.specs.Notes.{note_kind}
+use Rattle.log_report.specs.Growths.{grown_by, no_pace, odd_notes, pace_after}
+use Rattle.log_report.specs.Notes.{note_kind, notes_if, notes_on}
 use Rattle.log_report.specs.Tallies.{Tally, count_of}
-use Rattle.log_report.specs.Growths.{grown_by}
 use Rattle.log_report.specs.declared.growths.Grown.{Grown}
+use Rattle.log_report.specs.declared.growths.Pace.{Pace}
 use Rattle.log_report.specs.declared.notes.Note.TheVariants.{OtherSaved, PartSaved, SameText}
 
 -- ---- a document
@@ -20,6 +22,8 @@ pub record Habits : Type 0 where
   pub changes : ℕ
   -- its notes, by their kinds
   pub noted : List Tally
+  -- how its versions grew
+  pub pace : Pace
   -- the version of a change that was refused, after those that weren't
   pub rejected : Option ℤ
   -- the changes that left out versions, the newest first
@@ -27,7 +31,14 @@ pub record Habits : Type 0 where
 
 -- Before its first record.
 abbrev pub no_habits : List ℕ → Habits
-no_habits uri = record { uri = uri; changes = 0; noted = []; rejected = None; gaps = [] }
+no_habits uri = record {
+  uri = uri;
+  changes = 0;
+  noted = [];
+  pace = no_pace;
+  rejected = None;
+  gaps = [];
+}
 
 -- Was a version left out? If 9 came after 6, then 7 and 8 were.
 abbrev pub is_left_out : ℤ → List Grown → Bool
@@ -106,7 +117,8 @@ sent_after (Some rejected) current = if int_lt current rejected then rejected el
 -- Its version and the one that was sent before, if that is lower.
 abbrev pub grown_on : Habits → Option DocumentItem → ChangeData → Option Grown
 grown_on h None p = None
-grown_on h (Some entry) p = grown_by p.version (sent_after h.rejected entry.version)
+grown_on h (Some entry) p =
+    grown_by p.version (sent_after h.rejected entry.version) (length p.changes)
 
 -- Those of a record of one side.
 abbrev pub grown_in : ServerData → List Habits → Sender → IncomingData → Option Grown
@@ -114,7 +126,26 @@ grown_in s hs Client (did_change (Some p)) =
     grown_on (habits_of p.uri hs) (entry_at s.table p.uri) p
 grown_in s hs side m = None
 
--- The version of a change that the documents refuse.
+-- ---- the notes of a record
+
+-- The note of a version that breaks the habit of its document.
+abbrev pub odd_with : List Habits → IncomingData → Option Grown → List Note
+odd_with hs (did_change (Some p)) grown = odd_notes (habits_of p.uri hs).pace grown
+odd_with hs m grown = []
+
+abbrev pub odd_in : ServerData → List Habits → IncomingData → List Note
+odd_in s hs m = odd_with hs m (grown_in s hs Client m)
+
+-- The notes of a record, by the session before it, what is known of documents, its body and its
+-- judgement. `ranged`: did the server ask for ranges?
+abbrev pub notes_of : Session → List Habits → Bool → List ℕ → Verdict → List Note
+notes_of s hs ranged body verdict =
+    notes_if (notes_on s.server ranged (lengths_of (reading body))
+    (notification_params (reading body)) (incoming_of (reading body))
+    ++ odd_in s.server hs (incoming_of (reading body))) verdict
+
+-- ---- the version of a change that the documents refuse
+
 abbrev pub version_rejected : Option ChangeData → Verdict → Option ℤ
 version_rejected (Some p) (answered (refused refusal)) = Some p.version
 version_rejected change verdict = None
@@ -132,7 +163,8 @@ gaps_after grown gaps = if grown.by == 1 then gaps else take most_gaps (grown �
 -- closing, versions begin anew.
 abbrev pub after_accepted : Option Grown → Habits → Habits
 after_accepted None h = record h { rejected = None; gaps = [] }
-after_accepted (Some grown) h = record h { rejected = None; gaps = gaps_after grown h.gaps }
+after_accepted (Some grown) h =
+    record h { pace = pace_after h.pace grown; rejected = None; gaps = gaps_after grown h.gaps }
 
 -- After another record, by the version that was refused.
 abbrev pub after_refused : Option ℤ → Habits → Habits

@@ -6,10 +6,10 @@ use Rattle.lsp_log.specs.declared.record.Sender.TheVariants.{Client}
 use Rattle.log_session.specs.View.{View, unless_bad, writes}
 use Rattle.log_session.specs.Canonical.{change_in}
 use Rattle.log_report.specs.Counts.{Counts, counts_after, nothing_counted}
-use Rattle.log_report.specs.Habits.{Habits, documents_after, grown_in, habits_at, habits_of, hides, is_left_out, version_rejected}
+use Rattle.log_report.specs.Habits.{Habits, documents_after, grown_in, habits_at, habits_of, hides, is_left_out, notes_of, version_rejected}
 use Rattle.log_report.specs.Lacks.{lack_in}
 use Rattle.log_report.specs.Mentions.{Mention, is_mention, last_for, last_record, mentioned}
-use Rattle.log_report.specs.Notes.{notes_of, saved_uri}
+use Rattle.log_report.specs.Notes.{saved_uri}
 use Rattle.log_session.specs.Session.{ranged_after, Session, Judged, Verdict, answered, has_changed, session_outcome}
 use Rattle.log_report.specs.Reasons.{is_empty, is_idle}
 use Rattle.log_report.specs.declared.facts.Hint.{Hint}
@@ -188,7 +188,7 @@ known_after known s head body j = record {
   documents = documents_after (has_changed j.verdict)
       (grown_in s.server known.documents head.side (incoming_of (reading body)))
       (version_rejected (change_in (incoming_of (reading body))) j.verdict)
-      (notes_of s known.ranged body j.verdict)
+      (notes_of s known.documents known.ranged body j.verdict)
       (noted_in head.side (incoming_of (reading body)) (notification_params (reading body)))
       known.documents;
   ranged = ranged_after known.ranged s head.side body;
@@ -197,10 +197,10 @@ known_after known s head body j = record {
       || is_strict_in known (uri_of head.side (incoming_of (reading body)))
       (change_in (incoming_of (reading body))) j.verdict;
   counts = counts_after known.counts j.session.records j.verdict
-      (notes_of s known.ranged body j.verdict)
+      (notes_of s known.documents known.ranged body j.verdict)
       (hides (habits_at (noted_in head.side (incoming_of (reading body))
       (notification_params (reading body))) known.documents)
-      (notes_of s known.ranged body j.verdict));
+      (notes_of s known.documents known.ranged body j.verdict));
 }
 
 -- What a line says of a record.
@@ -227,7 +227,7 @@ facts_of known s r j m = record {
   change = change_in m;
   hint = hint_of known r j m;
   last = last_in known (uri_of r.head.side m) j.verdict;
-  notes = notes_of s known.ranged r.body j.verdict;
+  notes = notes_of s known.documents known.ranged r.body j.verdict;
 }
 
 -- ---- the output

@@ -1,5 +1,5 @@
-//! What is known of a document by its records: which notes it often has, and which versions it left
-//! out.
+//! What is known of a document by its records: which notes it often has, how its versions grow, and
+//! which it left out.
 
 ghost use Rattle.std.specs.Prelude.{◌≡◌, [], IfOk, OnOk, option_map};
 ghost use Rattle.std.specs.List.{list_any};
@@ -11,7 +11,7 @@ ghost use Rattle.log_report.specs.inside.Habits.{IsHabitsAt};
 
 use crate::counts::tallies::{Tally, count_of};
 use crate::counts::{add_notes, count_if};
-use crate::growths::Grown;
+use crate::growths::{Grown, Pace};
 use crate::notes::Note;
 use crate::notes::kinds::note_kind;
 use std::alloc::{AllocError, Global};
@@ -37,6 +37,8 @@ pub struct Habits {
     changes: u64,
     // Its notes, by their kinds.
     noted: Vec<Tally>,
+    // How its versions grew.
+    pace: Pace,
     // The version of a change that was refused, after those that weren't.
     rejected: Option<i32>,
     // The changes that left out versions, the newest first.
@@ -53,6 +55,7 @@ impl Model for Habits {
       uri = string_bytes habits.uri;
       changes = habits.changes;
       noted = habits.noted.items;
+      pace = habits.pace;
       rejected = habits.rejected;
       gaps = habits.gaps.items;
     } };
@@ -67,6 +70,7 @@ impl Habits {
             uri: String::from_str(alloc, uri)?,
             changes: 0,
             noted: Vec::new(alloc),
+            pace: Pace::nothing(),
             rejected: None,
             gaps: Vec::new(alloc),
         })
@@ -144,7 +148,10 @@ impl Habits {
     {
         self.rejected = None;
         match grown {
-            Some(grown) => keep_gap(&mut self.gaps, grown),
+            Some(grown) => {
+                self.pace = self.pace.after(grown);
+                keep_gap(&mut self.gaps, grown)
+            }
             None => {
                 self.gaps.clear();
                 Ok(())
@@ -200,6 +207,16 @@ impl Documents {
         match index_of(self.newest.as_slice(), uri) {
             Some(index) => self.newest[index].sent_after(current),
             None => current,
+        }
+    }
+
+    /// Returns how the versions of a document grew.
+    pub fn pace(&self, uri: &str) -> Pace
+        ensures { result ≡ (habits_of uri.now self.now.newest.items).pace }
+    {
+        match index_of(self.newest.as_slice(), uri) {
+            Some(index) => self.newest[index].pace,
+            None => Pace::nothing(),
         }
     }
 

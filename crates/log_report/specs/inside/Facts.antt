@@ -1,16 +1,16 @@
 -- The facts of a record, what is known after it, and its lines by them.
-use Rattle.std.specs.Prelude.{◌≡◌, ◌||◌, if◌then◌else◌}
+use Rattle.std.specs.Prelude.{◌≡◌, ◌||◌, ◌++◌, if◌then◌else◌}
 use Rattle.log_report.specs.Prelude.{ℕ, Bool, List, [], Option, Some, None, is_some, option_map, string_bytes, Record, Reading, reading, change_view, incoming_of, ServerData, Taken, Appended, Listing, Note, lengths_of, notification_params}
 use Rattle.lsp_log.specs.declared.record.Sender.TheVariants.{Client}
 use Rattle.log_report.specs.declared.facts.About.{About}
 use Rattle.log_report.specs.declared.facts.Facts.{Facts}
 use Rattle.log_session.specs.declared.session.canonical.Appended.TheVariants.{Body}
 use Rattle.log_report.specs.Counts.{counts_after}
-use Rattle.log_report.specs.Habits.{Habits, documents_after, grown_in, habits_at, hides, rare_notes, version_rejected}
+use Rattle.log_report.specs.Habits.{Habits, documents_after, grown_in, habits_at, hides, notes_of, odd_in, rare_notes, version_rejected}
 use Rattle.log_report.specs.Lacks.{lack_in}
 use Rattle.log_report.specs.Lines.{FactsData, Known, facts_of, hint_in, hint_with, is_strict_in, last_in, lead_of, named_in, noted_in, noted_uri, unread_after, uri_of}
 use Rattle.log_report.specs.Mentions.{is_mention, mentioned}
-use Rattle.log_report.specs.Notes.{notes_if, notes_of, notes_on}
+use Rattle.log_report.specs.Notes.{notes_if, notes_on}
 use Rattle.log_session.specs.Session.{Session, Verdict, has_changed, judge}
 use Rattle.log_session.specs.inside.Bodies.{BodyData, body_read, on_client}
 use Rattle.log_session.specs.inside.Taken.{ranged_with, received_of}
@@ -25,7 +25,8 @@ pub record IsAbout (s : ServerData) (documents : List Habits) (ranged : Bool) (b
   pub named : option_map string_bytes about.named
       ≡ on_client None (λ m. named_in Client m (notification_params body)) read
   pub notes : about.notes.items
-      ≡ on_client [] (notes_on s ranged (lengths_of body) (notification_params body)) read
+      ≡ on_client [] (λ m. notes_on s ranged (lengths_of body) (notification_params body) m
+      ++ odd_in s documents m) read
   pub lack : about.lack ≡ on_client None (λ m. lack_in Client m (notification_params body)) read
   pub grown : about.grown ≡ on_client None (grown_in s documents Client) read
 
@@ -107,7 +108,7 @@ pub record AreFacts (known : Known) (s : Session) (r : Record) (facts : Facts) :
       ≡ named_in r.head.side (incoming_of (reading r.body)) (notification_params (reading r.body))
   pub rare : facts.rare.items ≡ rare_notes (habits_at (noted_in r.head.side
       (incoming_of (reading r.body)) (notification_params (reading r.body))) known.documents)
-      (notes_of s known.ranged r.body (judge s r).verdict)
+      (notes_of s known.documents known.ranged r.body (judge s r).verdict)
 
 -- ---- the lines, by the facts
 

@@ -401,10 +401,12 @@ const EMOJI: &str = r#"{"text":"😀"}"#;
 const INSIDE: &str =
     r#"{"range":{"start":{"line":0,"character":1},"end":{"line":0,"character":1}},"text":""}"#;
 
+const TWICE: &str = r#"{"text":""},{"text":"😀"}"#;
+
 /// The versions of changes after an opening with version 1, and the first lines of what
 /// `check --brief` writes. Where 5 comes after 2, versions 3 and 4 were left out. A version that was
 /// refused was not.
-static VERSIONS: [(&[(i32, &str)], &str); 3] = [
+static VERSIONS: [(&[(i32, &str)], &str); 7] = [
     (
         &[(2, EMOJI), (5, EMOJI), (3, EMOJI), (4, EMOJI)],
         "5 refused S5 of \"file:///a\": version 3 was sent, and the current one is 5; the one that was sent was left out before: messages were swapped; see message 4\n6 refused S5 of \"file:///a\": version 4 was sent, and the current one is 5; the one that was sent was left out before: messages were swapped; see message 4\nmessages of the editor: 6, changed documents: 3\nrefused by S5: 2, first message 5\nnoted changes nothing: 1, first message 4\nRefused messages change nothing. `lspsync replay --at N`: the texts after message N.\nMessages with notes",
@@ -416,6 +418,45 @@ static VERSIONS: [(&[(i32, &str)], &str); 3] = [
     (
         &[(6, EMOJI), (7, INSIDE), (8, EMOJI), (7, EMOJI)],
         "4 refused E1 of \"file:///a\": change 1 starts at line 0, character 1, inside a character; see message 2\n6 refused S5 of \"file:///a\": version 7 was sent, and the current one is 8; see message 5\n",
+    ),
+    // Versions grow by one, and 9 after 6 breaks that; by the number of changes, and 11 after 9 does.
+    (
+        &[
+            (2, EMOJI),
+            (3, EMOJI),
+            (4, EMOJI),
+            (5, EMOJI),
+            (6, EMOJI),
+            (9, EMOJI),
+        ],
+        "8 changed of \"file:///a\": version 9 came after 6, with 1 change, and until here it grew by 1\nmessages of the editor: 8, changed documents: 7\nnoted changes nothing: 5, first message 4\nnoted an odd version: 1, first message 8\n",
+    ),
+    (
+        &[
+            (3, TWICE),
+            (5, TWICE),
+            (6, EMOJI),
+            (8, TWICE),
+            (9, EMOJI),
+            (11, EMOJI),
+        ],
+        "8 changed of \"file:///a\": version 11 came after 9, with 1 change, and until here it grew by the number of changes\n",
+    ),
+    // The first four changes have no habit, and a refused version is one that was sent.
+    (
+        &[(2, EMOJI), (3, EMOJI), (4, EMOJI), (6, EMOJI)],
+        "messages of the editor: 6, changed documents: 5\n",
+    ),
+    (
+        &[
+            (2, EMOJI),
+            (3, EMOJI),
+            (4, EMOJI),
+            (5, EMOJI),
+            (6, INSIDE),
+            (7, EMOJI),
+        ],
+        "7 refused E1 of \"file:///a\": change 1 starts at line 0, character 1, inside a character; see message 2\nmessages of the editor: 8,",
     ),
 ];
 
@@ -431,7 +472,9 @@ fn has_versions(alloc: Global, versions: &[(i32, &str)], lines: &str) -> Result<
 }
 
 #[test]
-fn a_version_that_was_left_out_before_is_called_that(rt: HostRuntime) -> Result<(), Fail> {
+fn versions_that_were_left_out_or_break_a_habit_are_called_that(
+    rt: HostRuntime,
+) -> Result<(), Fail> {
     for (versions, lines) in &VERSIONS {
         assert!(rt; has_versions(rt.alloc(), versions, lines)?, "at {lines}");
     }
