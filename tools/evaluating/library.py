@@ -167,6 +167,7 @@ def if_some(option, function, default):
 LIBRARY = {
     "Numbers": {
         "suc": (1, lambda n: n + 1), "pos": (1, lambda n: n), "negsuc": (1, lambda n: -n - 1), "min": (2, min), "max": (2, max),
+        "unsigned_abs": (1, abs),
         "nat_lt": (2, lambda a, b: a < b), "nat_le": (2, lambda a, b: a <= b), "nat_eq": (2, lambda a, b: a == b),
         "int_lt": (2, lambda a, b: a < b), "int_le": (2, lambda a, b: a <= b), "int_eq": (2, lambda a, b: a == b),
         "not": (1, lambda b: not b), "decimal": (1, lambda n: list_of(b"%d" % n)), "signed_decimal": (1, lambda n: list_of(b"%d" % n)),
