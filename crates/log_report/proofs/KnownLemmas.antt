@@ -20,12 +20,14 @@ module _ (s : Session) (body : List ℕ) where
   ranged_at ranged version Server = refl
 
   abbrev noted_on : List Habits → Bool → IncomingData → List Note
-  noted_on documents ranged m = notes_on s.server ranged (lengths_of (reading body)) (notification_params (reading body)) m
+  noted_on documents ranged m =
+      notes_on s.server ranged (lengths_of (reading body)) (notification_params (reading body)) m
       ++ odd_in s.server documents m
 
   notes_at : (documents : List Habits) (ranged : Bool) (version : Version) (side : Sender)
       → notes_if (on_client [] (noted_on documents ranged) (body_read version side body))
-      (judge_from s version side body).verdict ≡ notes_of s documents ranged body (judge_from s version side body).verdict
+      (judge_from s version side body).verdict
+      ≡ notes_of s documents ranged body (judge_from s version side body).verdict
   notes_at documents ranged version Client = refl
   notes_at documents ranged version Server =
       grind (arith, common_steps, (heard_as s (encoding_for s.expected (reading body))))
@@ -38,7 +40,8 @@ some_map f (Some a) = refl
 
 module _ (known : Known) (s : Session) (head : Head) (body : List ℕ) (read : BodyData)
     (is_read : read ≡ body_read head.version head.side body)
-    (about : About) (is_about : IsAbout s.server known.documents known.ranged (reading body) read about) (t : Session) (taken : Taken)
+    (about : About) (is_about : IsAbout s.server known.documents known.ranged (reading body) read about)
+    (t : Session) (taken : Taken)
     {Same : Type 0} {HasSeen : ServerData → ChangeData → Type 0} (is_taken : IsTaken Same HasSeen s t head body taken)
   where
     uri_is : option_map string_bytes about.uri ≡ uri_of head.side (incoming_of (reading body))
@@ -125,7 +128,19 @@ module _ (known : Known) (s : Session) (head : Head) (body : List ℕ) (read : B
 
       pub known_is : (next : Known) → next ≡ known_by known number about taken
           → next ≡ known_after known s head body (judge_at s head body)
-      known_is next is = is ∙ rw (mention_is, notes_are, strict_is, rejected_is, noted_is, uri_is, grown_is, is_taken.judged, ranged_is, counted) refl
+      known_is next is = is
+          ∙ rw (
+            mention_is,
+            notes_are,
+            strict_is,
+            rejected_is,
+            noted_is,
+            uri_is,
+            grown_is,
+            is_taken.judged,
+            ranged_is,
+            counted,
+          ) refl
 
 -- ---- a line, and the output after it
 

@@ -29,6 +29,6 @@ module _ (listing : Listing) (known : Known) (s : Session) (r : Record) where
       ∙ by_received (λ change verdict. line_by limits_after (record its { change = change; verdict = verdict })
       (named_in r.head.side (incoming_of (reading r.body)) (notification_params (reading r.body)))
       (rare_notes (habits_at (noted_in r.head.side (incoming_of (reading r.body))
-      (notification_params (reading r.body))) known.documents) (notes_of s known.documents known.ranged r.body (judge s r).verdict))) (λ c. refl) (λ c. refl) (λ c.
-      refl)
+      (notification_params (reading r.body))) known.documents)
+      (notes_of s known.documents known.ranged r.body (judge s r).verdict))) (λ c. refl) (λ c. refl) (λ c. refl)
       s r.head r.body
