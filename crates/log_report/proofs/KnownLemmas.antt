@@ -1,5 +1,6 @@
 -- The facts of a record, what is known after it, and the output of `trace` and `check --explain` from the record on.
-use Rattle.log_report.proofs.Prelude.{arith, common_steps, ◌≡◌, ◌≢◌, ℕ, Bool, List, ◌∷◌, option_map, string_bytes, refl, sym, ap, ap₂, ◌∙◌, reading, change_view, ChangeData, IncomingData, incoming_of, ServerData, Head, Sender, Client, Server, Version, Record, Facts, Taken, written_first, change_in, writes, rare_notes, Known, LineView, is_renamed, is_strict_refusal, known_after, last_in, lines, uri_of, is_mention, notes_if, notes_of, ranged_after, Session, bad, encoding_for, judge, judge_from, BodyData, body_read, AreFacts, IsAbout, IsLearned, known_by, saved_in, judge_at, IsTaken, ranged_read, ranged_with, verdict_view, output_in, notification_params, None, Option, Some, [], lengths_of, learned, notes_on, is_some, on_client}
+use Rattle.log_report.proofs.Prelude.{arith, common_steps, ◌≡◌, ◌≢◌, ℕ, Bool, List, ◌∷◌, option_map, string_bytes, refl, sym, ap, ap₂, ◌∙◌, reading, change_view, ChangeData, IncomingData, incoming_of, ServerData, Head, Sender, Client, Server, Version, Record, Facts, Taken, written_first, change_in, writes, rare_notes, Known, LineView, hint_in, hint_with, is_strict_refusal, known_after, last_in, lines, named_in, uri_of, is_mention, notes_if, notes_of, ranged_after, Session, bad, encoding_for, judge, judge_from, BodyData, body_read, AreFacts, IsAbout, IsLearned, known_by, judge_at, IsTaken, ranged_read, ranged_with, verdict_view, output_in, notification_params, None, Option, Some, [], lengths_of, learned, notes_on, is_some, on_client}
+use Rattle.log_report.specs.Lacks.{lack_in}
 use Rattle.log_report.specs.declared.facts.About.{About}
 use Rattle.log_session.proofs.Records.ChangeLemmas.{heard_as}
 use Rattle.log_session.proofs.Records.OutputLemmas.{output_after, unless_not}
@@ -41,6 +42,19 @@ module _ (known : Known) (s : Session) (head : Head) (body : List ℕ) (read : B
     uri_is = is_about.uri ∙ ap (on_client None (uri_of Client)) is_read
         ∙ on_side None uri_of (λ m. refl) head.version head.side body
 
+    named_is : option_map string_bytes about.named
+        ≡ named_in head.side (incoming_of (reading body)) (notification_params (reading body))
+    named_is = is_about.named
+        ∙ ap (on_client None (λ m. named_in Client m (notification_params (reading body)))) is_read
+        ∙ on_side None (λ side m. named_in side m (notification_params (reading body))) (λ m. refl) head.version
+        head.side body
+
+    lack_is : about.lack ≡ lack_in head.side (incoming_of (reading body)) (notification_params (reading body))
+    lack_is = is_about.lack
+        ∙ ap (on_client None (λ m. lack_in Client m (notification_params (reading body)))) is_read
+        ∙ on_side None (λ side m. lack_in side m (notification_params (reading body))) (λ m. refl) head.version
+        head.side body
+
     mention_is : is_mention (is_some taken.change) (verdict_view taken.verdict)
         ≡ is_mention (is_some (change_in (incoming_of (reading body)))) (judge_at s head body).verdict
     mention_is = ap₂ is_mention (some_map change_view taken.change
@@ -72,14 +86,11 @@ module _ (known : Known) (s : Session) (head : Head) (body : List ℕ) (read : B
           verdict = (ap verdict_view learned.verdict ∙ is_taken.judged) i;
           uri = (ap (option_map string_bytes) learned.uri ∙ uri_is) i;
           change = (ap (option_map change_view) learned.change ∙ is_taken.change) i;
-          renamed = (learned.renamed ∙ ap₂ (is_renamed known) uri_is is_taken.judged) i;
+          hint = (learned.hint ∙ ap₂ hint_with lack_is (ap₂ (hint_in known) uri_is is_taken.judged)) i;
           last = (learned.last ∙ ap₂ (last_in known) uri_is is_taken.judged) i;
           notes = (learned.notes ∙ notes_are) i;
         };
-        saved = ap (option_map string_bytes) learned.saved ∙ is_about.saved
-            ∙ ap (on_client None (λ m. saved_in Client m (notification_params (reading body)))) is_read
-            ∙ on_side None (λ side m. saved_in side m (notification_params (reading body))) (λ m. refl) head.version
-            head.side body;
+        named = ap (option_map string_bytes) learned.named ∙ named_is;
         rare = learned.rare ∙ ap (rare_notes known.counts) notes_are;
       }
 

@@ -1,17 +1,16 @@
 -- `check --explain`: a line of `check` for each record, with the reason where it was refused and
 -- the notes where it is suspicious; at the end what came how often, and what to do next.
 use Rattle.std.specs.Prelude.{◌==◌, ◌&&◌, ◌||◌, ◌-◌, ◌∷◌, ◌++◌, if◌then◌else◌}
-use Rattle.log_report.specs.Prelude.{ℕ, Bool, false, not, nat_lt, length, List, [], Option, Some, None, codes, decimal, LimitsData, is_save, notification_params, reading, IncomingData, incoming_of, other_notification, Sender, Record, Settings, Listing, Note, Data}
-use Rattle.lsp_log.specs.declared.record.Sender.TheVariants.{Client}
+use Rattle.log_report.specs.Prelude.{ℕ, Bool, false, not, nat_lt, length, List, [], Option, Some, None, codes, decimal, LimitsData, notification_params, reading, IncomingData, incoming_of, Record, Settings, Listing, Note}
 use Rattle.log_session.specs.RunOutput.{RunOutput}
 use Rattle.log_session.specs.Settings.{log_config}
 use Rattle.log_session.specs.View.{output_in}
 use Rattle.log_report.specs.Check.{verdict_word}
 use Rattle.log_report.specs.Counts.{Counts, counts_words, rare_notes}
 use Rattle.log_report.specs.Tallies.{Tally, count_of, has_tallies, tallied}
-use Rattle.log_report.specs.Lines.{FactsData, Known, LineView, facts_of, has_notes, lines, nothing_known, uri_of}
-use Rattle.log_report.specs.Notes.{note_kind, notes_of, notes_words, saved_uri}
-use Rattle.log_report.specs.Reasons.{reason_words, renamed_words}
+use Rattle.log_report.specs.Lines.{FactsData, Known, LineView, facts_of, has_notes, lines, noted_in, nothing_known}
+use Rattle.log_report.specs.Notes.{note_kind, notes_of, notes_words}
+use Rattle.log_report.specs.Reasons.{hint_words, reason_words}
 use Rattle.log_session.specs.Run.{Engine, log_engine}
 use Rattle.log_session.specs.Session.{Session, Judged, Verdict, answered, is_new, is_refused, opened, refuses}
 use Rattle.log_report.specs.Trace.{json_string}
@@ -31,22 +30,12 @@ abbrev pub see_words : Option ℕ → List ℕ
 see_words None = []
 see_words (Some number) = codes "; see message " ++ decimal number
 
--- What comes after the word of a record that counts as refused.
-abbrev pub explanation : LimitsData → FactsData → Verdict → List ℕ
-explanation limits f (answered answer) = if is_refused answer then
-    document_words f.uri ++ codes ": " ++ reason_words limits f.change answer
-    ++ renamed_words f.renamed ++ see_words f.last else []
-explanation limits f verdict = []
-
--- The document whose text was saved, of an editor's message.
-abbrev pub saved_in : Sender → IncomingData → Option Data → Option (List ℕ)
-saved_in Client (other_notification method) params = if is_save method then saved_uri params else None
-saved_in side m params = None
-
--- The document that notes are about: the record's, or that of the text that was saved.
-abbrev pub noted_uri : Option (List ℕ) → Option (List ℕ) → Option (List ℕ)
-noted_uri None saved = saved
-noted_uri (Some uri) saved = Some uri
+-- What comes after the word of a record that counts as refused, and names this document.
+abbrev pub explanation : LimitsData → FactsData → Option (List ℕ) → Verdict → List ℕ
+explanation limits f noted (answered answer) = if is_refused answer then
+    document_words noted ++ codes ": " ++ reason_words limits f.change answer
+    ++ hint_words f.hint ++ see_words f.last else []
+explanation limits f noted verdict = []
 
 -- A line has at most three notes of a kind.
 abbrev pub most_notes : ℕ
@@ -85,10 +74,10 @@ listed_notes listing counts notes = if listing.all then notes else rare_notes co
 abbrev pub is_listed : Listing → Verdict → List Note → Bool
 is_listed listing verdict notes = not listing.brief || (refuses verdict || has_notes notes)
 
--- The line of a record with these notes on it. They are about the document `noted`.
+-- The line of a record with these notes on it. `noted`: the document that it names.
 abbrev pub line_with : LimitsData → FactsData → Option (List ℕ) → List Note → List ℕ
 line_with limits f noted notes =
-    decimal f.number ++ codes " " ++ verdict_word f.verdict ++ explanation limits f f.verdict
+    decimal f.number ++ codes " " ++ verdict_word f.verdict ++ explanation limits f noted f.verdict
     ++ remark noted notes ++ codes "\n"
 
 -- The same, unless the record has none.
@@ -101,8 +90,7 @@ listed_line listing limits f noted notes =
 abbrev pub explained_line : Listing → Known → Session → Record → Judged → IncomingData → List ℕ
 explained_line listing known s r j m =
     listed_line listing j.session.server.config.limits (facts_of known s r j m)
-    (noted_uri (uri_of r.head.side m)
-    (saved_in r.head.side m (notification_params (reading r.body))))
+    (noted_in r.head.side m (notification_params (reading r.body)))
     (listed_notes listing known.counts (notes_of s known.ranged r.body j.verdict))
 
 -- ---- what to do next, after so many refusals

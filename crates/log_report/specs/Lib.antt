@@ -2,6 +2,7 @@ pub mod Check
 pub mod Compare
 pub mod Counts
 pub mod Explain
+pub mod Lacks
 pub mod Lines
 pub mod Mentions
 pub mod Notes

@@ -1,15 +1,19 @@
 -- The commands that write a line for each record by what is known of the records before it: `trace`
 -- and `check --explain`.
 use Rattle.std.specs.Prelude.{◌&&◌, ◌||◌, if◌then◌else◌, ◌∷◌}
-use Rattle.log_report.specs.Prelude.{ℕ, Bool, true, false, not, List, [], Option, Some, None, is_none, is_some, reading, ErrorCode, ParseError, ChangeData, AlreadyOpen, NotOpen, StaleVersion, refused, reply, IncomingData, did_open, did_change, did_close, incoming_of, Store, Head, Sender, Record, Note}
+use Rattle.log_report.specs.Prelude.{ℕ, Bool, true, false, not, List, [], Option, Some, None, is_none, is_some, reading, ErrorCode, ParseError, ChangeData, AlreadyOpen, NotOpen, StaleVersion, refused, reply, IncomingData, did_open, did_change, did_close, other_notification, is_save, notification_params, Data, incoming_of, Store, Head, Sender, Record, Note}
 use Rattle.lsp_log.specs.declared.record.Sender.TheVariants.{Client}
 use Rattle.log_session.specs.View.{View, unless_bad, writes}
 use Rattle.log_session.specs.Canonical.{change_in}
 use Rattle.log_report.specs.Counts.{Counts, counts_after, nothing_counted}
+use Rattle.log_report.specs.Lacks.{lack_in}
 use Rattle.log_report.specs.Mentions.{Mention, is_mention, last_for, last_record, mentioned}
-use Rattle.log_report.specs.Notes.{notes_of}
+use Rattle.log_report.specs.Notes.{notes_of, saved_uri}
 use Rattle.log_session.specs.Session.{ranged_after, Session, Judged, Verdict, answered, has_changed, session_outcome}
 use Rattle.log_report.specs.Reasons.{is_empty, is_idle}
+use Rattle.log_report.specs.declared.facts.Hint.{Hint}
+use Rattle.log_report.specs.declared.facts.Hint.TheVariants.{Lacks, Renamed}
+use Rattle.log_report.specs.declared.lacks.Lack.{Lack}
 use Rattle.lsp_server.specs.declared.answer.Refusal.{Refusal}
 use Rattle.lsp_server.specs.declared.answer.Refusal.TheVariants.{InvalidParams as BadParams}
 
@@ -20,6 +24,23 @@ uri_of Client (did_open (Some p)) = Some p.uri
 uri_of Client (did_change (Some p)) = Some p.uri
 uri_of Client (did_close (Some p)) = Some p.uri
 uri_of side m = None
+
+-- The document that the params of an editor's message name, where it isn't about one: whose text was
+-- saved, or where they can't be read.
+abbrev pub named_in : Sender → IncomingData → Option Data → Option (List ℕ)
+named_in Client (did_open None) params = saved_uri params
+named_in Client (did_change None) params = saved_uri params
+named_in Client (did_close None) params = saved_uri params
+named_in Client (other_notification method) params = if is_save method then saved_uri params else None
+named_in side m params = None
+
+-- The document that a line names: the one that its record is about, or that its params name.
+abbrev pub noted_uri : Option (List ℕ) → Option (List ℕ) → Option (List ℕ)
+noted_uri None named = named
+noted_uri (Some uri) named = Some uri
+
+abbrev pub noted_in : Sender → IncomingData → Option Data → Option (List ℕ)
+noted_in side m params = noted_uri (uri_of side m) (named_in side m params)
 
 -- ---- what is known of the records before one
 
@@ -114,6 +135,21 @@ abbrev pub is_renamed : Known → Option (List ℕ) → Verdict → Bool
 is_renamed known uri verdict =
     is_not_open verdict && (is_new_name known.made uri && is_none known.unread)
 
+-- What comes after the reason of a refusal by the documents.
+abbrev pub hint_in : Known → Option (List ℕ) → Verdict → Option Hint
+hint_in known uri verdict = if is_renamed known uri verdict then Some Renamed else None
+
+-- What a record lacks, and else another hint.
+abbrev pub hint_with : Option Lack → Option Hint → Option Hint
+hint_with None hint = hint
+hint_with (Some lack) hint = Some (Lacks lack)
+
+-- What comes after the reason of a record. `m` is what the record's body asks.
+abbrev pub hint_of : Known → Record → Judged → IncomingData → Option Hint
+hint_of known r j m =
+    hint_with (lack_in r.head.side m (notification_params (reading r.body)))
+    (hint_in known (uri_of r.head.side m) j.verdict)
+
 -- The number that a record is known by, which has to look at another one: where its document isn't
 -- open, the number of that one, so that many such records lead to one.
 abbrev pub lead_of : Option ℕ → ℕ → Verdict → ℕ
@@ -145,8 +181,8 @@ pub record FactsData : Type 0 where
   pub uri : Option (List ℕ)
   -- the change that it asks for
   pub change : Option ChangeData
-  -- may its document be another one under a new name?
-  pub renamed : Bool
+  -- what comes after the reason, if it is refused
+  pub hint : Option Hint
   -- the record to look at
   pub last : Option ℕ
   pub notes : List Note
@@ -159,7 +195,7 @@ facts_of known s r j m = record {
   verdict = j.verdict;
   uri = uri_of r.head.side m;
   change = change_in m;
-  renamed = is_renamed known (uri_of r.head.side m) j.verdict;
+  hint = hint_of known r j m;
   last = last_in known (uri_of r.head.side m) j.verdict;
   notes = notes_of s known.ranged r.body j.verdict;
 }

@@ -4,6 +4,9 @@ use Rattle.std.specs.Prelude.{◌∷◌, ◌++◌, if◌then◌else◌}
 use Rattle.log_report.specs.Prelude.{ℕ, Bool, true, false, List, [], Option, Some, None, option_and_then, codes, decimal, slice_get, signed_decimal, LimitsData, Position, Range, EditFault, Side, Start, Stop, ErrorCode, ParseError, InvalidRequest, InvalidParams, ServerNotInitialized, ChangeData, AlreadyOpen, TooManyDocuments, TextTooLong, NotOpen, StaleVersion, TooManyChanges, Edit, Store, AnswerData, reply, refused, exits, Sent, one_more}
 use Rattle.lsp_edit.specs.declared.fault.EditFault.TheVariants.{InsideCharacter, ReversedRange, NoMemory as NoMemoryToEdit}
 use Rattle.lsp_store.specs.declared.fault.StoreFault.{StoreFault}
+use Rattle.log_report.specs.Lacks.{lack_words}
+use Rattle.log_report.specs.declared.facts.Hint.{Hint}
+use Rattle.log_report.specs.declared.facts.Hint.TheVariants.{Lacks, Renamed}
 use Rattle.lsp_server.specs.declared.answer.Refusal.TheVariants.{InvalidParams as BadParams}
 
 -- ---- what was sent
@@ -93,7 +96,9 @@ reason_words limits p (refused (Store fault)) = store_reason limits p fault
 reason_words limits p (exits status) = codes "`exit` came without `shutdown`"
 reason_words limits p answer = []
 
--- What comes after the words where the document was never open, and another one was.
-abbrev pub renamed_words : Bool → List ℕ
-renamed_words renamed =
-    if renamed then codes "; its editor may have renamed a document that was open" else []
+-- What comes after the words: that the document was never open, and another one was, or what the
+-- params lack.
+abbrev pub hint_words : Option Hint → List ℕ
+hint_words None = []
+hint_words (Some Renamed) = codes "; its editor may have renamed a document that was open"
+hint_words (Some (Lacks lack)) = lack_words lack

@@ -11,7 +11,8 @@ use Rattle.log_session.specs.View.{output_in}
 use Rattle.log_report.specs.Check.{verdict_word}
 use Rattle.log_report.specs.Lines.{FactsData, Known, LineView, facts_of, lines, nothing_known, uri_of}
 use Rattle.log_report.specs.Notes.{notes_words}
-use Rattle.log_report.specs.Reasons.{reason_words, renamed_words}
+use Rattle.log_report.specs.Reasons.{hint_words, reason_words}
+use Rattle.log_report.specs.declared.facts.Hint.{Hint}
 use Rattle.log_session.specs.Run.{Engine, log_engine}
 use Rattle.log_session.specs.Session.{Session, Judged, Verdict, answered, has_changed, is_refused, opened}
 use Rattle.log_session.specs.OneLine.{one_line}
@@ -71,13 +72,12 @@ first_members number head m =
 
 -- ---- what is answered
 
--- Why a record was refused, if it counts as refused. `renamed`: may its document be another one
--- under a new name?
-abbrev pub reason_json : LimitsData → Option ChangeData → Bool → Verdict → Option (List ℕ)
-reason_json limits change renamed (answered answer) = if is_refused answer then
-    Some (codes "\"" ++ reason_words limits change answer ++ renamed_words renamed
+-- Why a record was refused, if it counts as refused. `hint`: what comes after the reason.
+abbrev pub reason_json : LimitsData → Option ChangeData → Option Hint → Verdict → Option (List ℕ)
+reason_json limits change hint (answered answer) = if is_refused answer then
+    Some (codes "\"" ++ reason_words limits change answer ++ hint_words hint
     ++ codes "\"") else None
-reason_json limits change renamed verdict = None
+reason_json limits change hint verdict = None
 
 -- The notes of a record, as strings in an array. Without notes there is none.
 abbrev pub notes_json : List Note → Option (List ℕ)
@@ -126,7 +126,7 @@ abbrev pub facts_members : Details → LimitsData → FactsData → Option Docum
     → Bool → List ℕ → List ℕ
 facts_members details limits f document canonical json body =
     codes ",\"word\":\"" ++ verdict_word f.verdict ++ codes "\"" ++ last_members (
-    (codes ",\"reason\":", reason_json limits f.change f.renamed f.verdict)
+    (codes ",\"reason\":", reason_json limits f.change f.hint f.verdict)
     ∷ (codes ",\"last\":", option_map decimal f.last)
     ∷ (codes ",\"notes\":", notes_json f.notes)
     ∷ (codes ",\"version\":", version_json document)

@@ -8,7 +8,7 @@ ghost use Rattle.lsp_log.specs.Splitting.{record_of};
 ghost use Rattle.lsp_message.specs.Seen.{change_view};
 ghost use Rattle.log_report.specs.Lines.{is_new_name, is_not_open, is_open_already};
 ghost use Rattle.log_report.specs.Lines.{is_bad_params, is_parse_error, is_unread, unread_after};
-ghost use Rattle.log_report.specs.Lines.{is_renamed, is_stale_refusal, is_strict_refusal, known_after};
+ghost use Rattle.log_report.specs.Lines.{hint_in, hint_with, is_renamed, is_stale_refusal, is_strict_refusal, known_after};
 ghost use Rattle.log_report.specs.Lines.{last_in, lead_of, nothing_known, or_unread};
 ghost use Rattle.log_report.specs.Mentions.{is_mention, last_for};
 ghost use Rattle.log_session.specs.Session.{bad};
@@ -23,6 +23,7 @@ mod noting;
 
 use crate::counts::Counts;
 use crate::facts::noting::{about_of, notes_if};
+use crate::lacks::Lack;
 use crate::mentions::Mentions;
 use crate::notes::Note;
 use crate::printer::reasons::is_idle;
@@ -35,15 +36,27 @@ use lsp_stream::EngineFault;
 use std::alloc::{AllocError, Global};
 use std::marker::Model;
 
+/// What comes after the reason of a record that was refused.
+#[derive(Clone, Copy, Debug, PartialEq, Eq)]
+pub enum Hint {
+    /// Its document may be another one under a new name.
+    Renamed,
+    /// Its params lack this.
+    Lacks(Lack),
+}
+
 /// What a record is about, before it is taken.
 #[derive(Drop)]
 pub struct About {
     /// The URI of its document.
     pub uri: Option<String>,
-    /// The URI of the document whose text was saved, if it isn't about the documents.
-    pub saved: Option<String>,
+    /// The URI that its params name, if it isn't about a document: a text was saved, or they can't be
+    /// read.
+    pub named: Option<String>,
     /// What is suspicious of it, unless it is refused.
     pub notes: Vec<Note>,
+    /// What its params lack, if they can't be read.
+    pub lack: Option<Lack>,
 }
 
 /// The facts of a record that was taken.
@@ -54,12 +67,12 @@ pub struct Facts {
     pub verdict: Verdict,
     /// The URI of the document that it is about.
     pub uri: Option<String>,
-    /// The URI of the document whose text was saved, if it isn't about the documents.
-    pub saved: Option<String>,
+    /// The URI that its params name, if it isn't about a document.
+    pub named: Option<String>,
     /// The params of a change that a running server received: what a reason quotes.
     pub change: Option<ChangeParams>,
-    /// Whether the document may be another one under a new name, if the documents refused it.
-    pub renamed: bool,
+    /// What comes after the reason, if it was refused.
+    pub hint: Option<Hint>,
     /// The record to look at, if the documents refused this one: which made the current version, if
     /// this one has an old version; else which opened, closed or refused the document last.
     pub last: Option<u64>,
@@ -70,13 +83,13 @@ pub struct Facts {
 }
 
 impl Facts {
-    /// Returns the document that notes are about: the record's, or that of the text that was saved.
+    /// Returns the document that the line names: the record's, or the one that its params name.
     pub fn noted(&self) -> Option<&str>
         ensures { option_map (λ uri. uri.now) result ≡ noted_by self.now }
     {
         match &self.uri {
             Some(uri) => Some(uri.as_str()),
-            None => self.saved.as_deref(),
+            None => self.named.as_deref(),
         }
     }
 }
@@ -157,7 +170,7 @@ impl Known {
             ⊎ ((fault ≡ EngineFault.BadLog item.now.head.place)
             × ((judge_at session.old item.now.head item.now.body.now).verdict ≡ bad))) }
     {
-        let about = about_of(self.alloc, session.server(), self.ranged, &read)?;
+        let about = about_of(self.alloc, session.server(), self.ranged, item.body, &read)?;
         let taken = session.take(read, witness)?;
         in_log(&taken.verdict, item.head.place)?;
         Ok(self.learn(session.records(), about, taken)?)
@@ -168,13 +181,18 @@ impl Known {
         ensures facts { IfOk result (IsLearned self.old number about taken) }
         ensures known { OnOk result (self.new ≡ known_by self.old number about taken) }
     {
-        let About { uri, saved, notes } = about;
+        let About {
+            uri,
+            named,
+            notes,
+            lack,
+        } = about;
         let Taken {
             verdict,
             change,
             ranged,
         } = taken;
-        let renamed = self.is_renamed(uri.as_deref(), &verdict);
+        let hint = hint_with(lack, self.hint_in(uri.as_deref(), &verdict));
         let last = self.last_in(uri.as_deref(), &verdict);
         let notes = notes_if(notes, &verdict);
         let rare = self.counts.rare(&notes)?;
@@ -192,9 +210,9 @@ impl Known {
             number,
             verdict,
             uri,
-            saved,
+            named,
             change,
-            renamed,
+            hint,
             last,
             notes,
             rare,
@@ -223,6 +241,28 @@ impl Known {
             (verdict_view verdict.now) }
     {
         is_not_open(verdict) && (is_new_name(&self.made, uri) && self.unread.is_none())
+    }
+
+    /// Returns what comes after the reason, if the documents refused a record about a document.
+    fn hint_in(&self, uri: Option<&str>, verdict: &Verdict) -> Option<Hint>
+        ensures { result ≡ hint_in self.now (option_map (λ uri. uri.now) uri.entry)
+            (verdict_view verdict.now) }
+    {
+        if self.is_renamed(uri, verdict) {
+            Some(Hint::Renamed)
+        } else {
+            None
+        }
+    }
+}
+
+/// Returns what a record lacks, and else another hint.
+fn hint_with(lack: Option<Lack>, hint: Option<Hint>) -> Option<Hint>
+    ensures { result ≡ hint_with lack hint }
+{
+    match lack {
+        Some(lack) => Some(Hint::Lacks(lack)),
+        None => hint,
     }
 }
 

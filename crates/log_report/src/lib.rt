@@ -7,6 +7,7 @@
 //! - `facts`: what `trace` and `check --explain` say of a record.
 //! - `notes`: what is suspicious of a message that wasn't refused.
 //! - `counts`: how often what came.
+//! - `lacks`: what a message lacks whose params can't be read.
 //! - `mentions`: which record opened, closed or refused a document last.
 //! - `openings`: which message opened each document first.
 //! - `members`: what a line of JSON is put together from.
@@ -16,6 +17,7 @@
 mod commands;
 mod counts;
 mod facts;
+mod lacks;
 mod laws;
 mod members;
 mod mentions;

@@ -1,5 +1,5 @@
 -- The line of `trace` for a record, and that of `replay` for a document.
-use Rattle.log_report.proofs.Prelude.{◌∙◌, ◌≡◌, ℕ, ℤ, ◌^◌, ◌<◌, Bool, true, false, List, [], ◌∷◌, ◌++◌, map, Option, Some, None, refl, sym, ap, ap₂, subst, arith, append_assoc, decimal, FitsSigned, IsUtf8, ◌&&◌, codes, flat_map, if◌then◌else◌, option_and_then, option_map, signed_decimal, one_line, and_parts, IsUtf8-append, IsUtf8-are_ascii, are_ascii, IsUtf8-quoted, Json, document, ItemsHaveNumbers, items_depth, compact_text, items_outline, items_text, outline, LimitsData, AreInRange, IdData, whole, text, reading, DocumentItem, IsProperDocument, IsProperId, AnswerData, Sent, IncomingData, incoming_of, Record, Details, Note, Known, is_renamed, known_after, last_in, uri_of, note_words, notes_of, notes_words, reason_words, renamed_words, Session, Judged, Verdict, answered, has_changed, is_refused, judge, IsJsonLine, body_value, document_value, id_value, integer, natural, notes_value, reason_value, text_value, trace_value, common_steps}
+use Rattle.log_report.proofs.Prelude.{◌∙◌, ◌≡◌, ℕ, ℤ, ◌^◌, ◌<◌, Bool, true, false, List, [], ◌∷◌, ◌++◌, map, Option, Some, None, refl, sym, ap, ap₂, subst, arith, append_assoc, decimal, FitsSigned, IsUtf8, ◌&&◌, codes, flat_map, if◌then◌else◌, option_and_then, option_map, signed_decimal, one_line, and_parts, IsUtf8-append, IsUtf8-are_ascii, are_ascii, IsUtf8-quoted, Json, document, ItemsHaveNumbers, items_depth, compact_text, items_outline, items_text, outline, LimitsData, AreInRange, IdData, whole, text, reading, DocumentItem, IsProperDocument, IsProperId, AnswerData, Sent, IncomingData, incoming_of, Record, Details, Note, Known, hint_of, known_after, last_in, uri_of, note_words, notes_of, notes_words, reason_words, hint_words, Hint, Session, Judged, Verdict, answered, has_changed, is_refused, judge, IsJsonLine, body_value, document_value, id_value, integer, natural, notes_value, reason_value, text_value, trace_value, common_steps}
 use Rattle.std.specs.Int.{w32}
 use Rattle.json.specs.Print.{escape_byte, quoted}
 use Rattle.log_session.specs.Canonical.{canonical_of_record, change_in}
@@ -41,19 +41,19 @@ text_if : (is_asked : Bool) (entry : Option DocumentItem) → OnSome HasText ent
 text_if true (Some entry) is = a_json_string entry.text is
 text_if _ _ is = tt
 
-reason_by : (b : Bool) (limits : LimitsData) (m : IncomingData) (renamed : Bool) (answer : AnswerData Sent)
-    → IsValueIf (if b then Some (codes "\"" ++ reason_words limits (change_in m) answer ++ renamed_words renamed
+reason_by : (b : Bool) (limits : LimitsData) (m : IncomingData) (hint : Option Hint) (answer : AnswerData Sent)
+    → IsValueIf (if b then Some (codes "\"" ++ reason_words limits (change_in m) answer ++ hint_words hint
     ++ codes "\"") else None)
-    (if b then Some (json.string (reason_words limits (change_in m) answer ++ renamed_words renamed)) else None)
-reason_by false limits m renamed answer = tt
-reason_by true limits m renamed answer =
-    a_plain (reason_words limits (change_in m) answer ++ renamed_words renamed)
-    (plain_reason_with limits (change_in m) answer renamed)
+    (if b then Some (json.string (reason_words limits (change_in m) answer ++ hint_words hint)) else None)
+reason_by false limits m hint answer = tt
+reason_by true limits m hint answer =
+    a_plain (reason_words limits (change_in m) answer ++ hint_words hint)
+    (plain_reason_with limits (change_in m) answer hint)
 
-reason_if : (limits : LimitsData) (m : IncomingData) (renamed : Bool) (verdict : Verdict)
-    → IsValueIf (reason_json limits (change_in m) renamed verdict) (reason_value limits m renamed verdict)
-reason_if limits m renamed (answered answer) = reason_by (is_refused answer) limits m renamed answer
-reason_if limits m renamed _ = tt
+reason_if : (limits : LimitsData) (m : IncomingData) (hint : Option Hint) (verdict : Verdict)
+    → IsValueIf (reason_json limits (change_in m) hint verdict) (reason_value limits m hint verdict)
+reason_if limits m hint (answered answer) = reason_by (is_refused answer) limits m hint answer
+reason_if limits m hint _ = tt
 
 -- ---- notes
 
@@ -180,9 +180,9 @@ module _ (limits : LimitsData) (ranges : AreInRange limits) (details : Details) 
       (values_if (λ n. n < 2 ^ 64) decimal natural a_natural (last_in known uri j.verdict)
       (last_fits known uri j.verdict fits.made fits.mentions fits.unread)) notes in
       let reason = a_member_if (codes "reason") _
-      (reason_json j.session.server.config.limits (change_in m) (is_renamed known uri j.verdict) j.verdict)
-      (reason_value j.session.server.config.limits m (is_renamed known uri j.verdict) j.verdict) _ refl
-      (reason_if j.session.server.config.limits m (is_renamed known uri j.verdict) j.verdict) last in
+      (reason_json j.session.server.config.limits (change_in m) (hint_of known r j m) j.verdict)
+      (reason_value j.session.server.config.limits m (hint_of known r j m) j.verdict) _ refl
+      (reason_if j.session.server.config.limits m (hint_of known r j m) j.verdict) last in
       let word = a_quoted (codes "word") (verdict_word j.verdict) _ _ refl (plain_verdict j.verdict) reason in
       let with_uri = a_member_if (codes "uri") _ (option_map json_string uri) (option_map json.string uri) _ refl
       (values_if IsUtf8 json_string json.string a_json_string uri (uri_utf8 r.head.side r.body)) word in

@@ -1,5 +1,9 @@
 -- The words of a line need no escape in a JSON string.
-use Rattle.log_report.proofs.Prelude.{Bool, ◌==◌, [], ◌++◌, Option, Some, None, refl, codes, list_all-append, LimitsData, Position, Range, EditFault, ErrorCode, ParseError, ChangeData, fault_code, StoreFault, AnswerData, reply, refused, exits, Sent, one_more, Sender, Client, Server, Note, code_word, verdict_word, note_words, past_words, side_words, edit_reason, end_words, error_reason, idle_words, is_idle, position_words, range_sent, reason_words, renamed_words, store_reason, version_words, Verdict, answered, side_word}
+use Rattle.log_report.proofs.Prelude.{Bool, ◌==◌, [], ◌++◌, Option, Some, None, refl, codes, list_all-append, LimitsData, Position, Range, EditFault, ErrorCode, ParseError, ChangeData, fault_code, StoreFault, AnswerData, reply, refused, exits, Sent, one_more, Sender, Client, Server, Note, code_word, verdict_word, note_words, past_words, side_words, edit_reason, end_words, error_reason, idle_words, is_idle, position_words, range_sent, reason_words, hint_words, Hint, store_reason, version_words, Verdict, answered, side_word}
+use Rattle.log_report.specs.Lacks.{lack_words}
+use Rattle.log_report.specs.declared.facts.Hint.TheVariants.{Lacks, Renamed}
+use Rattle.log_report.specs.declared.lacks.Lack.{Lack}
+use Rattle.log_report.specs.declared.lacks.Lack.TheVariants.{Change, Changes, Language, Text, Uri, Version}
 use Rattle.lsp_edit.specs.declared.fault.EditFault.TheVariants.{InsideCharacter, ReversedRange, NoMemory as NoMemoryToEdit}
 use Rattle.lsp_edit.specs.declared.fault.Side.{Side}
 use Rattle.lsp_edit.specs.declared.fault.Side.TheVariants.{Start, Stop}
@@ -82,11 +86,23 @@ plain_reason limits p (reply m) = plain_error m.code
 plain_reason limits p (refused (Store fault)) = plain_store limits p fault
 plain_reason limits p _ = refl
 
-pub plain_reason_with : (limits : LimitsData) (p : Option ChangeData) (answer : AnswerData Sent) (renamed : Bool)
-    → IsPlain (reason_words limits p answer ++ renamed_words renamed)
-plain_reason_with limits p answer renamed =
-    plain-append (reason_words limits p answer) (renamed_words renamed) (plain_reason limits p answer)
-    (either_plain renamed (codes "; its editor may have renamed a document that was open") [] refl refl)
+plain_lack : (lack : Lack) → IsPlain (lack_words lack)
+plain_lack Uri = refl
+plain_lack Language = refl
+plain_lack Version = refl
+plain_lack Text = refl
+plain_lack Changes = refl
+plain_lack Change = refl
+
+plain_hint : (hint : Option Hint) → IsPlain (hint_words hint)
+plain_hint None = refl
+plain_hint (Some Renamed) = refl
+plain_hint (Some (Lacks lack)) = plain_lack lack
+
+pub plain_reason_with : (limits : LimitsData) (p : Option ChangeData) (answer : AnswerData Sent) (hint : Option Hint)
+    → IsPlain (reason_words limits p answer ++ hint_words hint)
+plain_reason_with limits p answer hint =
+    plain-append (reason_words limits p answer) (hint_words hint) (plain_reason limits p answer) (plain_hint hint)
 
 -- ---- the words of a note
 

@@ -1,5 +1,5 @@
 -- `trace` beside `check` and `replay`.
-use Rattle.log_report.proofs.Prelude.{if◌then◌else◌, lines, Bool, List, None, Option, Some, [], ap, arith, codes, false, refl, true, ℕ, ◌&&◌, ◌++◌, ◌∙◌, ◌∷◌, ◌≡◌, common_steps, bytes_eq-Decides, Err, decimal, flat_map, option_map, Record, reading, DocumentItem, ErrorCode, ParseError, canonical_of_record, check_line, checking, code_word, followed_by, log_config, output_in, replaying, report_from, unless_bad, verdict_word, writes, Known, is_renamed, known_after, last_in, nothing_known, uri_of, notes_of, RunOutput, written_first, Judged, Session, Verdict, answered, bad, has_changed, judge, opened, body_json, document_after, id_json, id_of, is_json, json_string, member, method_of, notes_json, reason_json, side_word, text_json, trace_line, tracing, version_json, within, Details, run_output_in, Line, TraceLaw, checked_line, is_document, traced_line, written_text, reply, IncomingData, incoming_of, entry_at, BadLog, change_in}
+use Rattle.log_report.proofs.Prelude.{if◌then◌else◌, lines, Bool, List, None, Option, Some, [], ap, arith, codes, false, refl, true, ℕ, ◌&&◌, ◌++◌, ◌∙◌, ◌∷◌, ◌≡◌, common_steps, bytes_eq-Decides, Err, decimal, flat_map, option_map, Record, reading, DocumentItem, ErrorCode, ParseError, canonical_of_record, check_line, checking, code_word, followed_by, log_config, output_in, replaying, report_from, unless_bad, verdict_word, writes, Known, hint_of, known_after, last_in, nothing_known, uri_of, notes_of, RunOutput, written_first, Judged, Session, Verdict, answered, bad, has_changed, judge, opened, body_json, document_after, id_json, id_of, is_json, json_string, member, method_of, notes_json, reason_json, side_word, text_json, trace_line, tracing, version_json, within, Details, run_output_in, Line, TraceLaw, checked_line, is_document, traced_line, written_text, reply, IncomingData, incoming_of, entry_at, BadLog, change_in}
 use Rattle.std.specs.Str.{bytes_eq}
 use Rattle.log_report.proofs.Reports.MemberLemmas.{line_parts}
 use Rattle.log_report.proofs.Reports.TableLemmas.{record_keeps}
@@ -39,7 +39,7 @@ module _ (details : Details) (known : Known) (s : Session) (r : Record) (m : Inc
         (option_map id_json (id_of m));
     between =
         member (codes ",\"reason\":")
-        (reason_json j.session.server.config.limits (change_in m) (is_renamed known uri j.verdict) j.verdict)
+        (reason_json j.session.server.config.limits (change_in m) (hint_of known r j m) j.verdict)
         ++ member (codes ",\"last\":") (option_map decimal (last_in known uri j.verdict))
         ++ member (codes ",\"notes\":") (notes_json (notes_of s known.ranged r.body j.verdict))
         ++ member (codes ",\"version\":") (version_json document) ++ member (codes ",\"canonical\":")
@@ -57,7 +57,7 @@ module _ (details : Details) (known : Known) (s : Session) (r : Record) (m : Inc
       (member (codes ",\"uri\":") (option_map json_string uri))
       (codes ",\"word\":\"") (verdict_word j.verdict) (codes "\"")
       (member (codes ",\"reason\":")
-      (reason_json j.session.server.config.limits (change_in m) (is_renamed known uri j.verdict) j.verdict))
+      (reason_json j.session.server.config.limits (change_in m) (hint_of known r j m) j.verdict))
       (member (codes ",\"last\":") (option_map decimal (last_in known uri j.verdict)))
       (member (codes ",\"notes\":") (notes_json (notes_of s known.ranged r.body j.verdict)))
       (member (codes ",\"version\":") (version_json document))

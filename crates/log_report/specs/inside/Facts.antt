@@ -6,8 +6,8 @@ use Rattle.log_report.specs.declared.facts.About.{About}
 use Rattle.log_report.specs.declared.facts.Facts.{Facts}
 use Rattle.log_session.specs.declared.session.canonical.Appended.TheVariants.{Body}
 use Rattle.log_report.specs.Counts.{counts_after, rare_notes}
-use Rattle.log_report.specs.Explain.{noted_uri, saved_in}
-use Rattle.log_report.specs.Lines.{FactsData, Known, facts_of, is_renamed, is_strict_refusal, last_in, lead_of, unread_after, uri_of}
+use Rattle.log_report.specs.Lacks.{lack_in}
+use Rattle.log_report.specs.Lines.{FactsData, Known, facts_of, hint_in, hint_with, is_strict_refusal, last_in, lead_of, named_in, noted_uri, unread_after, uri_of}
 use Rattle.log_report.specs.Mentions.{is_mention, mentioned}
 use Rattle.log_report.specs.Notes.{notes_if, notes_of, notes_on}
 use Rattle.log_session.specs.Session.{Session, has_changed, judge}
@@ -21,10 +21,11 @@ pub record IsAbout (s : ServerData) (ranged : Bool) (body : Reading) (read : Bod
     (about : About) :
     Type 0 where
   pub uri : option_map string_bytes about.uri ≡ on_client None (uri_of Client) read
-  pub saved : option_map string_bytes about.saved
-      ≡ on_client None (λ m. saved_in Client m (notification_params body)) read
+  pub named : option_map string_bytes about.named
+      ≡ on_client None (λ m. named_in Client m (notification_params body)) read
   pub notes : about.notes.items
       ≡ on_client [] (notes_on s ranged (lengths_of body) (notification_params body)) read
+  pub lack : about.lack ≡ on_client None (λ m. lack_in Client m (notification_params body)) read
 
 -- ---- after it
 
@@ -35,7 +36,7 @@ facts_view facts = record {
   verdict = verdict_view facts.verdict;
   uri = option_map string_bytes facts.uri;
   change = option_map change_view facts.change;
-  renamed = facts.renamed;
+  hint = facts.hint;
   last = facts.last;
   notes = facts.notes.items;
 }
@@ -46,10 +47,10 @@ pub record IsLearned (known : Known) (n : ℕ) (about : About) (taken : Taken) (
   pub number : facts.number ≡ n
   pub verdict : facts.verdict ≡ taken.verdict
   pub uri : facts.uri ≡ about.uri
-  pub saved : facts.saved ≡ about.saved
+  pub named : facts.named ≡ about.named
   pub change : facts.change ≡ taken.change
-  pub renamed : facts.renamed
-      ≡ is_renamed known (option_map string_bytes about.uri) (verdict_view taken.verdict)
+  pub hint : facts.hint ≡ hint_with about.lack
+      (hint_in known (option_map string_bytes about.uri) (verdict_view taken.verdict))
   pub last : facts.last
       ≡ last_in known (option_map string_bytes about.uri) (verdict_view taken.verdict)
   pub notes : facts.notes.items ≡ notes_if about.notes.items (verdict_view taken.verdict)
@@ -79,8 +80,8 @@ pub record AreFacts (known : Known) (s : Session) (r : Record) (facts : Facts) :
       ≡ record (facts_of known s r (judge s r) (incoming_of (reading r.body))) {
         change = received_of s (body_read r.head.version r.head.side r.body);
       }
-  pub saved : option_map string_bytes facts.saved
-      ≡ saved_in r.head.side (incoming_of (reading r.body)) (notification_params (reading r.body))
+  pub named : option_map string_bytes facts.named
+      ≡ named_in r.head.side (incoming_of (reading r.body)) (notification_params (reading r.body))
   pub rare : facts.rare.items
       ≡ rare_notes known.counts (notes_of s known.ranged r.body (judge s r).verdict)
 
@@ -90,10 +91,10 @@ pub record AreFacts (known : Known) (s : Session) (r : Record) (facts : Facts) :
 abbrev pub listed_by : Listing → Facts → List Note
 listed_by listing facts = if listing.all then facts.notes.items else facts.rare.items
 
--- The document that notes are about.
+-- The document that the line names.
 abbrev pub noted_by : Facts → Option (List ℕ)
 noted_by facts =
-    noted_uri (option_map string_bytes facts.uri) (option_map string_bytes facts.saved)
+    noted_uri (option_map string_bytes facts.uri) (option_map string_bytes facts.named)
 
 -- The canonical message, if its body was appended.
 abbrev pub canonical_json : Option Appended → List ℕ → Option (List ℕ)

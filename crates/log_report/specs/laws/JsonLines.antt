@@ -11,9 +11,10 @@ use Rattle.log_session.specs.Canonical.{canonical_of_record, change_in}
 use Rattle.log_session.specs.Replay.{document_line}
 use Rattle.log_session.specs.Settings.{log_config}
 use Rattle.log_report.specs.Check.{verdict_word}
-use Rattle.log_report.specs.Lines.{Known, is_renamed, known_after, last_in, nothing_known, uri_of}
+use Rattle.log_report.specs.Lines.{Known, hint_of, known_after, last_in, nothing_known, uri_of}
 use Rattle.log_report.specs.Notes.{note_words, notes_of}
-use Rattle.log_report.specs.Reasons.{reason_words, renamed_words}
+use Rattle.log_report.specs.Reasons.{hint_words, reason_words}
+use Rattle.log_report.specs.declared.facts.Hint.{Hint}
 use Rattle.log_session.specs.Session.{Session, Judged, Verdict, answered, bad, has_changed, is_refused, judge, opened}
 use Rattle.log_report.specs.Trace.{document_after, id_of, is_json, method_of, side_word, traced, within}
 use Rattle.log_session.specs.OneLine.{one_line}
@@ -59,12 +60,11 @@ abbrev pub id_value : IdData → Json
 id_value (whole z) = integer z
 id_value (text s) = string s
 
--- Why a record was refused, if it counts as refused. `renamed`: may its document be another one
--- under a new name?
-abbrev pub reason_value : LimitsData → IncomingData → Bool → Verdict → Option Json
-reason_value limits m renamed (answered answer) = if is_refused answer then
-    Some (string (reason_words limits (change_in m) answer ++ renamed_words renamed)) else None
-reason_value limits m renamed verdict = None
+-- Why a record was refused, if it counts as refused. `hint`: what comes after the reason.
+abbrev pub reason_value : LimitsData → IncomingData → Option Hint → Verdict → Option Json
+reason_value limits m hint (answered answer) = if is_refused answer then
+    Some (string (reason_words limits (change_in m) answer ++ hint_words hint)) else None
+reason_value limits m hint verdict = None
 
 -- The notes of a record.
 abbrev pub notes_value : List Note → Option Json
@@ -94,8 +94,7 @@ trace_value details known s r j m = object (members_with (
     ∷ (codes "word", Some (string (verdict_word j.verdict)))
     ∷ (
       codes "reason",
-      reason_value j.session.server.config.limits m
-          (is_renamed known (uri_of r.head.side m) j.verdict) j.verdict,
+      reason_value j.session.server.config.limits m (hint_of known r j m) j.verdict,
     )
     ∷ (codes "last", option_map natural (last_in known (uri_of r.head.side m) j.verdict))
     ∷ (codes "notes", notes_value (notes_of s known.ranged r.body j.verdict))

@@ -1,22 +1,24 @@
 //! What is suspicious of a message on the documents before it.
 
-ghost use Rattle.std.specs.Prelude.{◌≡◌, IfOk, option_map, List, string_bytes, true, ℕ};
+ghost use Rattle.std.specs.Prelude.{◌≡◌, IfOk, if◌then◌else◌, option_map, string_bytes, true};
 ghost use Rattle.serde_json.specs.View.{view};
 ghost use Rattle.lsp_message.specs.Lengths.{is_save};
 ghost use Rattle.lsp_message.specs.Message.{reading};
 ghost use Rattle.lsp_message.specs.Seen.{change_view};
 ghost use Rattle.lsp_server.specs.Seen.{incoming_view};
 ghost use Rattle.lsp_store.specs.Table.{entry_at};
-ghost use Rattle.log_report.specs.Explain.{saved_in};
+ghost use Rattle.log_report.specs.Lines.{named_in};
 ghost use Rattle.log_report.specs.Notes.{changing_notes, notes_if, notes_on, opening_notes};
 ghost use Rattle.log_report.specs.Notes.{terms_in};
 ghost use Rattle.log_session.specs.inside.Bodies.{body_view};
 ghost use Rattle.log_report.specs.inside.Facts.{IsAbout};
+ghost use Rattle.log_report.specs.inside.Lacks.{is_broken};
 ghost use Rattle.log_session.specs.inside.Reads.{IsNotedOf};
 ghost use Rattle.log_session.specs.inside.Verdicts.{verdict_view};
 
 use crate::facts::About;
 use crate::facts::asked::uri_of;
+use crate::lacks::{broken_params, lack_in};
 use crate::notes::Note;
 use crate::notes::changes::{Terms, push_batch_notes};
 use crate::notes::returns::{has_feed, has_lone_return};
@@ -26,6 +28,7 @@ use lsp_log::Sender;
 use lsp_message::{ChangeParams, Noted, OpenParams};
 use lsp_server::{Answer, Incoming, Server};
 use lsp_text::Encoding;
+use serde_json::Value;
 use std::alloc::{AllocError, Global};
 
 /// Returns what a record is about that was read. A server's record is about no document.
@@ -33,22 +36,26 @@ pub(super) fn about_of(
     alloc: Global,
     server: &Server,
     ranged: bool,
+    body: &[u8],
     read: &RecordBody<'_>,
 ) -> Result<About, AllocError>
-    ensures { IfOk result (λ about. (body : List ℕ) → IsNotedOf true body read.now
-        → IsAbout server.now ranged (reading body) (body_view read.now) about) }
+    ensures { IfOk result (λ about. IsNotedOf true body.now read.now
+        → IsAbout server.now ranged (reading body.now) (body_view read.now) about) }
 {
     let RecordBody::Client(_, incoming, noted) = read else {
         return Ok(About {
             uri: None,
-            saved: None,
+            named: None,
             notes: Vec::new(alloc),
+            lack: None,
         });
     };
+    let params = broken_params(alloc, body, incoming)?;
     Ok(About {
         uri: copied_text(alloc, uri_of(Sender::Client, incoming))?,
-        saved: copied_text(alloc, saved_in(incoming, noted))?,
+        named: copied_text(alloc, named_in(incoming, noted, params.as_ref()))?,
         notes: notes_on(alloc, server, ranged, incoming, noted)?,
+        lack: lack_in(incoming, params.as_ref()),
     })
 }
 
@@ -59,12 +66,18 @@ fn is_save(method: &str) -> bool
     method == "textDocument/didSave"
 }
 
-/// Returns the URI of the document whose text was saved.
-fn saved_in<'a>(incoming: &Incoming, noted: &'a Noted) -> Option<&'a str>
-    ensures { option_map (λ uri. uri.now) result ≡ saved_in Sender.Client
-        (incoming_view incoming.now) (option_map view noted.now.params) }
+/// Returns the URI of the document whose text was saved, or that these params name, if they can't be
+/// read.
+fn named_in<'a>(incoming: &Incoming, noted: &'a Noted, params: Option<&'a Value>) -> Option<&'a str>
+    ensures { option_map (λ uri. uri.now) result ≡ named_in Sender.Client
+        (incoming_view incoming.now) (if is_broken (incoming_view incoming.now)
+        then option_map (λ params. view params.now) params.entry
+        else option_map view noted.now.params) }
 {
     match incoming {
+        Incoming::DidOpen(None) | Incoming::DidChange(None) | Incoming::DidClose(None) => {
+            saved_uri(params)
+        }
         Incoming::OtherNotification { method } if is_save(method) => {
             saved_uri(noted.params.as_ref())
         }

@@ -22,7 +22,7 @@ use crate::notes::Note;
 use crate::notes::kinds::note_kind;
 use crate::printer::check::push_verdict;
 use crate::printer::noted::push_notes;
-use crate::printer::reasons::{push_reason, push_renamed};
+use crate::printer::reasons::{push_hint, push_reason};
 use log_session::{
     Finished, Given, Nothing, Output, Printed, Printer, RecordBody, Session, Settings, Verdict,
     is_refused, refuses,
@@ -187,7 +187,8 @@ fn push_explanation(
     facts: &Facts,
 ) -> Result<(), AllocError>
     ensures { OnOk result (buffer.new.items ≡ buffer.old.items
-        ++ explanation limits (facts_view facts.now) (verdict_view facts.now.verdict)) }
+        ++ explanation limits (facts_view facts.now) (noted_by facts.now)
+        (verdict_view facts.now.verdict)) }
 {
     let Verdict::Answered(answer) = &facts.verdict else {
         return Ok(());
@@ -195,10 +196,10 @@ fn push_explanation(
     if !is_refused(answer) {
         return Ok(());
     }
-    push_document(alloc, buffer, facts.uri.as_deref())?;
+    push_document(alloc, buffer, facts.noted())?;
     buffer.extend_from_slice(b": ")?;
     push_reason(buffer, limits, facts.change.as_ref(), answer)?;
-    push_renamed(buffer, facts.renamed)?;
+    push_hint(buffer, facts.hint)?;
     push_see(buffer, facts.last)
 }
 

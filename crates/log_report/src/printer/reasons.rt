@@ -6,8 +6,10 @@ ghost use Rattle.lsp_edit.specs.declared.fault.Side.TheVariants.{Start, Stop};
 ghost use Rattle.lsp_message.specs.Seen.{change_view};
 ghost use Rattle.lsp_server.specs.Seen.{answer_view};
 ghost use Rattle.log_report.specs.Reasons.{change_words, edit_reason, end_words, error_reason, position_words, range_sent};
-ghost use Rattle.log_report.specs.Reasons.{idle_words, is_idle, reason_words, renamed_words, store_reason, version_words};
+ghost use Rattle.log_report.specs.Reasons.{hint_words, idle_words, is_idle, reason_words, store_reason, version_words};
 
+use crate::facts::Hint;
+use crate::lacks::lack_words;
 use crate::members::{push_if, push_number, push_signed, push_words};
 use log_session::one_more;
 use lsp_edit::{EditFault, Side};
@@ -130,15 +132,22 @@ pub fn is_idle(change: Option<&ChangeParams>) -> bool
     }
 }
 
-/// Writes that an editor may have renamed a document, if it may.
-pub fn push_renamed(buffer: &mut Vec<u8>, renamed: bool) -> Result<(), AllocError>
-    ensures { OnOk result (buffer.new.items ≡ buffer.old.items ++ renamed_words renamed) }
+/// Writes what comes after a reason, if something does.
+pub fn push_hint(buffer: &mut Vec<u8>, hint: Option<Hint>) -> Result<(), AllocError>
+    ensures { OnOk result (buffer.new.items ≡ buffer.old.items ++ hint_words hint) }
 {
-    push_if(
-        buffer,
-        renamed,
-        "; its editor may have renamed a document that was open",
-    )
+    push_words(buffer, hint_words(hint))
+}
+
+/// Returns what comes after a reason.
+fn hint_words(hint: Option<Hint>) -> &'static str
+    ensures { result.now ≡ hint_words hint }
+{
+    match hint {
+        None => "",
+        Some(Hint::Renamed) => "; its editor may have renamed a document that was open",
+        Some(Hint::Lacks(lack)) => lack_words(lack),
+    }
 }
 
 /// Writes the version that a change sends.

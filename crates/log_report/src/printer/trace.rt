@@ -25,7 +25,7 @@ use crate::members::{push_number, push_words};
 use crate::notes::Note;
 use crate::notes::saved::document_of;
 use crate::printer::noted::push_notes;
-use crate::printer::reasons::{push_reason, push_renamed};
+use crate::printer::reasons::{push_hint, push_reason};
 use crate::printer::trace::first::{is_json, push_first};
 use crate::printer::trace::values::{
     push_body, push_canonical, push_text, push_version, push_word,
@@ -172,7 +172,7 @@ impl Printer for Trace {
 fn push_why(buffer: &mut Vec<u8>, limits: Limits, facts: &Facts) -> Result<(), AllocError>
     ensures { OnOk result (buffer.new.items ≡ buffer.old.items
         ++ member (codes ",\"reason\":") (reason_json limits
-        (option_map change_view facts.now.change) facts.now.renamed
+        (option_map change_view facts.now.change) facts.now.hint
         (verdict_view facts.now.verdict))) }
 {
     let Verdict::Answered(answer) = &facts.verdict else {
@@ -184,7 +184,7 @@ fn push_why(buffer: &mut Vec<u8>, limits: Limits, facts: &Facts) -> Result<(), A
     buffer.extend_from_slice(b",\"reason\":")?;
     buffer.extend_from_slice(b"\"")?;
     push_reason(buffer, limits, facts.change.as_ref(), answer)?;
-    push_renamed(buffer, facts.renamed)?;
+    push_hint(buffer, facts.hint)?;
     buffer.extend_from_slice(b"\"")
 }
 

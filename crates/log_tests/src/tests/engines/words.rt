@@ -44,7 +44,7 @@ static WORDS: [Answered; 27] = [
     (
         r#"{"jsonrpc":"2.0","method":"textDocument/didOpen","params":{"textDocument":{"languageId":"plaintext","text":"abc","uri":"file:///a","version":"1"}}}"#,
         "refused M4",
-        ": the parameters can't be read",
+        " of \"file:///a\": the parameters can't be read: `textDocument.version` is missing, or no 32-bit integer",
     ),
     (OPEN, "changed", ""),
     (
@@ -166,5 +166,71 @@ fn every_answer_has_its_word_and_its_reason(rt: HostRuntime) -> Result<(), Fail>
     let answer = Ended(1, 27, 15).answer();
     assert!(rt; have_words(rt.alloc(), Command::Check, &WORDS, answer)?);
     assert!(rt; have_words(rt.alloc(), Command::Explain, &WORDS, answer)?);
+    Ok(())
+}
+
+/// The method and the params of a message that can't be read, and what `check` writes after its word.
+static LACKING: [(&str, &str, &str); 8] = [
+    (
+        "didOpen",
+        r#"{"textDocument":{"languageId":"c","text":"","version":1}}"#,
+        ": the parameters can't be read: `textDocument.uri` is missing, or no string",
+    ),
+    (
+        "didOpen",
+        r#"{"textDocument":{"text":"","uri":"file:///a","version":1}}"#,
+        " of \"file:///a\": the parameters can't be read: `textDocument.languageId` is missing, or no string",
+    ),
+    (
+        "didOpen",
+        r#"{"textDocument":{"languageId":"c","text":["x"],"uri":"file:///a","version":1}}"#,
+        " of \"file:///a\": the parameters can't be read: `textDocument.text` is missing, or no string",
+    ),
+    (
+        "didChange",
+        r#"{"contentChanges":[],"textDocument":{"uri":"file:///a","version":null}}"#,
+        " of \"file:///a\": the parameters can't be read: `textDocument.version` is missing, or no 32-bit integer",
+    ),
+    (
+        "didChange",
+        r#"{"contentChanges":{"text":"x"},"textDocument":{"uri":"file:///a","version":2}}"#,
+        " of \"file:///a\": the parameters can't be read: `contentChanges` is missing, or no array",
+    ),
+    (
+        "didChange",
+        r#"{"contentChanges":[{"text":"x"},{"range":{"start":{"line":0,"character":0}},"text":""}],"textDocument":{"uri":"file:///a","version":2}}"#,
+        " of \"file:///a\": the parameters can't be read: a change has no `text`, or a wrong `range`",
+    ),
+    (
+        "didClose",
+        r#"{"textDocument":"file:///a"}"#,
+        ": the parameters can't be read: `textDocument.uri` is missing, or no string",
+    ),
+    (
+        "didClose",
+        r#"[]"#,
+        ": the parameters can't be read: `textDocument.uri` is missing, or no string",
+    ),
+];
+
+/// Returns whether `check` writes this after the word of a message of this method with these params.
+fn is_lacking(alloc: Global, method: &str, params: &str, words: &str) -> Result<bool, Fail> {
+    let body = format!(in alloc;
+        r#"{{"jsonrpc":"2.0","method":"textDocument/{method}","params":{params}}}"#
+    )?;
+    let input = log(alloc, &[INITIALIZE, body.as_str()])?;
+    let run = run_with(alloc, Command::Brief, &input, settings()?, SMOOTH)?;
+    let line = format!(in alloc; "2 refused M4{words}\nmessages of the editor: 2,")?;
+    Ok(run.output.starts_with(line.as_bytes()))
+}
+
+#[test]
+fn what_a_message_lacks_is_named(rt: HostRuntime) -> Result<(), Fail> {
+    for (method, params, words) in &LACKING {
+        assert!(rt;
+            is_lacking(rt.alloc(), method, params, words)?,
+            "at {method} with {params}"
+        );
+    }
     Ok(())
 }
