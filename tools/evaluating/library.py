@@ -152,6 +152,7 @@ LIBRARY = {
     "Numbers": {
         "suc": (1, lambda n: n + 1), "pos": (1, lambda n: n), "negsuc": (1, lambda n: -n - 1), "min": (2, min), "max": (2, max),
         **{f"{kind}_{name}": (2, getattr(operator, name)) for kind in ("nat", "int") for name in ("lt", "le", "eq")},
+        "unsigned_abs": (1, abs),
         "not": (1, lambda b: not b), "decimal": (1, lambda n: list_of(b"%d" % n)), "signed_decimal": (1, lambda n: list_of(b"%d" % n)),
     },
     "Lists": {

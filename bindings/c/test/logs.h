@@ -191,14 +191,14 @@ static int explains(const laspidru_log_settings *how, part log, const char *begi
 
 #define NOTED(number) number " changed of \"file:///a\": it has no changes\n"
 
-/* Which lines and notes `explain` has: five notes of a kind are a habit. */
+/* Which lines and notes `explain` has: a fourth note of a kind is a habit. */
 static void test_log_listing(void) {
     static const char *const session[] = {initialize, open_a, EMPTY("7"), EMPTY("8"), EMPTY("9"), EMPTY("10"), EMPTY("11"), change_a, 0};
     laspidru_log_settings brief = log_settings, all = log_settings;
     brief.brief = all.all = 1;
-    CHECK(explains(&log_settings, log_of(session), "1 reply\n2 changed\n" NOTED("3") NOTED("4") NOTED("5") NOTED("6") "7 changed\n"));
+    CHECK(explains(&log_settings, log_of(session), "1 reply\n2 changed\n" NOTED("3") NOTED("4") NOTED("5") "6 changed\n7 changed\n"));
     CHECK(explains(&all, log_of(session), "1 reply\n2 changed\n" NOTED("3") NOTED("4") NOTED("5") NOTED("6") "7 changed of "));
-    CHECK(explains(&brief, log_of(session), NOTED("3") NOTED("4") NOTED("5") NOTED("6") "8 refused S5 of "));
+    CHECK(explains(&brief, log_of(session), NOTED("3") NOTED("4") NOTED("5") "8 refused S5 of "));
 }
 
 static void test_compare(void) {

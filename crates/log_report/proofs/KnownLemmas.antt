@@ -1,11 +1,12 @@
 -- The facts of a record, what is known after it, and the output of `trace` and `check --explain` from the record on.
-use Rattle.log_report.proofs.Prelude.{arith, common_steps, ◌≡◌, ◌≢◌, ℕ, Bool, List, ◌∷◌, option_map, string_bytes, refl, sym, ap, ap₂, ◌∙◌, reading, change_view, ChangeData, IncomingData, incoming_of, ServerData, Head, Sender, Client, Server, Version, Record, Facts, Taken, written_first, change_in, writes, rare_notes, Known, LineView, hint_in, hint_with, is_strict_refusal, known_after, last_in, lines, named_in, uri_of, is_mention, notes_if, notes_of, ranged_after, Session, bad, encoding_for, judge, judge_from, BodyData, body_read, AreFacts, IsAbout, IsLearned, known_by, judge_at, IsTaken, ranged_read, ranged_with, verdict_view, output_in, notification_params, None, Option, Some, [], lengths_of, learned, notes_on, is_some, on_client}
+use Rattle.log_report.proofs.Prelude.{arith, common_steps, ◌≡◌, ◌≢◌, ℕ, Bool, List, ◌∷◌, ◌++◌, Note, option_map, string_bytes, refl, sym, ap, ap₂, ◌∙◌, reading, change_view, ChangeData, IncomingData, incoming_of, ServerData, Head, Sender, Client, Server, Version, Record, Facts, Taken, written_first, change_in, writes, rare_notes, Known, LineView, habits_at, hint_in, hint_with, is_strict_in, known_after, last_in, lines, named_in, noted_in, noted_of, noted_uri, uri_of, is_mention, notes_if, notes_of, ranged_after, Session, bad, encoding_for, judge, judge_from, BodyData, body_read, AreFacts, IsAbout, IsLearned, known_by, judge_at, IsTaken, ranged_read, ranged_with, verdict_view, output_in, notification_params, None, Option, Some, [], lengths_of, learned, notes_on, odd_in, is_some, on_client}
+use Rattle.log_report.specs.Habits.{Habits, grown_in, version_rejected}
 use Rattle.log_report.specs.Lacks.{lack_in}
 use Rattle.log_report.specs.declared.facts.About.{About}
 use Rattle.log_session.proofs.Records.ChangeLemmas.{heard_as}
 use Rattle.log_session.proofs.Records.OutputLemmas.{output_after, unless_not}
 use Rattle.log_session.proofs.Records.OpeningLemmas.{on_side}
-use Rattle.log_report.proofs.Reports.ReasonLemmas.{mention_at, strict_at}
+use Rattle.log_report.proofs.Reports.ReasonLemmas.{hint_at, mention_at, rejected_at, strict_at}
 
 -- ---- what was read of a record's body, and the body itself
 
@@ -18,13 +19,17 @@ module _ (s : Session) (body : List ℕ) where
   ranged_at ranged version Client = refl
   ranged_at ranged version Server = refl
 
-  notes_at : (ranged : Bool) (version : Version) (side : Sender)
-      → notes_if (on_client [] (notes_on s.server ranged (lengths_of (reading body)) (notification_params (reading
-      body)))
-      (body_read version side body))
-      (judge_from s version side body).verdict ≡ notes_of s ranged body (judge_from s version side body).verdict
-  notes_at ranged version Client = refl
-  notes_at ranged version Server =
+  abbrev noted_on : List Habits → Bool → IncomingData → List Note
+  noted_on documents ranged m =
+      notes_on s.server ranged (lengths_of (reading body)) (notification_params (reading body)) m
+      ++ odd_in s.server documents m
+
+  notes_at : (documents : List Habits) (ranged : Bool) (version : Version) (side : Sender)
+      → notes_if (on_client [] (noted_on documents ranged) (body_read version side body))
+      (judge_from s version side body).verdict
+      ≡ notes_of s documents ranged body (judge_from s version side body).verdict
+  notes_at documents ranged version Client = refl
+  notes_at documents ranged version Server =
       grind (arith, common_steps, (heard_as s (encoding_for s.expected (reading body))))
 
 -- ---- a record, by what was read of it, what it is about, and what became of it
@@ -35,7 +40,8 @@ some_map f (Some a) = refl
 
 module _ (known : Known) (s : Session) (head : Head) (body : List ℕ) (read : BodyData)
     (is_read : read ≡ body_read head.version head.side body)
-    (about : About) (is_about : IsAbout s.server known.ranged (reading body) read about) (t : Session) (taken : Taken)
+    (about : About) (is_about : IsAbout s.server known.documents known.ranged (reading body) read about)
+    (t : Session) (taken : Taken)
     {Same : Type 0} {HasSeen : ServerData → ChangeData → Type 0} (is_taken : IsTaken Same HasSeen s t head body taken)
   where
     uri_is : option_map string_bytes about.uri ≡ uri_of head.side (incoming_of (reading body))
@@ -55,21 +61,45 @@ module _ (known : Known) (s : Session) (head : Head) (body : List ℕ) (read : B
         ∙ on_side None (λ side m. lack_in side m (notification_params (reading body))) (λ m. refl) head.version
         head.side body
 
+    noted_is : noted_of about
+        ≡ noted_in head.side (incoming_of (reading body)) (notification_params (reading body))
+    noted_is = ap₂ noted_uri uri_is named_is
+
+    grown_is : about.grown ≡ grown_in s.server known.documents head.side (incoming_of (reading body))
+    grown_is = is_about.grown ∙ ap (on_client None (grown_in s.server known.documents Client)) is_read
+        ∙ on_side None (grown_in s.server known.documents) (λ m. refl) head.version head.side body
+
+    rejected_is : version_rejected (option_map change_view taken.change) (verdict_view taken.verdict)
+        ≡ version_rejected (change_in (incoming_of (reading body))) (judge_at s head body).verdict
+    rejected_is = ap₂ version_rejected is_taken.change is_taken.judged ∙ rejected_at s head body
+
     mention_is : is_mention (is_some taken.change) (verdict_view taken.verdict)
         ≡ is_mention (is_some (change_in (incoming_of (reading body)))) (judge_at s head body).verdict
     mention_is = ap₂ is_mention (some_map change_view taken.change
         ∙ ap (λ (change : Option ChangeData). is_some change) is_taken.change) is_taken.judged ∙ mention_at s head body
 
-    notes_are : notes_if about.notes.items (verdict_view taken.verdict) ≡ notes_of s known.ranged body
+    notes_are : notes_if about.notes.items (verdict_view taken.verdict) ≡ notes_of s known.documents known.ranged body
         (judge_at s head body).verdict
     notes_are =
-        ap₂ notes_if (is_about.notes ∙ ap (on_client [] (notes_on s.server known.ranged
-        (lengths_of (reading body)) (notification_params (reading body)))) is_read) is_taken.judged
-        ∙ notes_at s body known.ranged head.version head.side
+        ap₂ notes_if (is_about.notes ∙ ap (on_client [] (noted_on s body known.documents known.ranged)) is_read)
+        is_taken.judged ∙ notes_at s body known.documents known.ranged head.version head.side
 
-    strict_is : is_strict_refusal (option_map change_view taken.change) (verdict_view taken.verdict)
-        ≡ is_strict_refusal (change_in (incoming_of (reading body))) (judge_at s head body).verdict
-    strict_is = ap₂ is_strict_refusal is_taken.change is_taken.judged ∙ strict_at s head body
+    abbrev its_uri : Option (List ℕ)
+    its_uri = uri_of head.side (incoming_of (reading body))
+
+    hint_is : hint_in known (option_map string_bytes about.uri) (option_map change_view taken.change)
+        (verdict_view taken.verdict)
+        ≡ hint_in known its_uri (change_in (incoming_of (reading body))) (judge_at s head body).verdict
+    hint_is = ap (λ (uri : Option (List ℕ)). hint_in known uri (option_map change_view taken.change)
+        (verdict_view taken.verdict)) uri_is
+        ∙ ap₂ (hint_in known its_uri) is_taken.change is_taken.judged ∙ hint_at known its_uri s head body
+
+    strict_is : is_strict_in known (option_map string_bytes about.uri) (option_map change_view taken.change)
+        (verdict_view taken.verdict)
+        ≡ is_strict_in known its_uri (change_in (incoming_of (reading body))) (judge_at s head body).verdict
+    strict_is = ap (λ (uri : Option (List ℕ)). is_strict_in known uri (option_map change_view taken.change)
+        (verdict_view taken.verdict)) uri_is
+        ∙ ap₂ (is_strict_in known its_uri) is_taken.change is_taken.judged ∙ strict_at known its_uri s head body
 
     ranged_is : ranged_with known.ranged taken.ranged ≡ ranged_after known.ranged s head.side body
     ranged_is = is_taken.heard known.ranged ∙ ranged_at s body known.ranged head.version head.side
@@ -86,17 +116,31 @@ module _ (known : Known) (s : Session) (head : Head) (body : List ℕ) (read : B
           verdict = (ap verdict_view learned.verdict ∙ is_taken.judged) i;
           uri = (ap (option_map string_bytes) learned.uri ∙ uri_is) i;
           change = (ap (option_map change_view) learned.change ∙ is_taken.change) i;
-          hint = (learned.hint ∙ ap₂ hint_with lack_is (ap₂ (hint_in known) uri_is is_taken.judged)) i;
+          hint = (learned.hint ∙ ap₂ hint_with lack_is hint_is) i;
           last = (learned.last ∙ ap₂ (last_in known) uri_is is_taken.judged) i;
           notes = (learned.notes ∙ notes_are) i;
         };
         named = ap (option_map string_bytes) learned.named ∙ named_is;
-        rare = learned.rare ∙ ap (rare_notes known.counts) notes_are;
+        rare = learned.rare
+            ∙ ap₂ (λ (noted : Option (List ℕ)) (notes : List Note). rare_notes (habits_at noted known.documents) notes)
+            noted_is notes_are;
       }
 
       pub known_is : (next : Known) → next ≡ known_by known number about taken
           → next ≡ known_after known s head body (judge_at s head body)
-      known_is next is = is ∙ rw (mention_is, notes_are, uri_is, strict_is, is_taken.judged, ranged_is, counted) refl
+      known_is next is = is
+          ∙ rw (
+            mention_is,
+            notes_are,
+            strict_is,
+            rejected_is,
+            noted_is,
+            uri_is,
+            grown_is,
+            is_taken.judged,
+            ranged_is,
+            counted,
+          ) refl
 
 -- ---- a line, and the output after it
 

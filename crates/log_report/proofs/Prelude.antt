@@ -23,11 +23,12 @@ pub use Rattle.json.specs.Tree.{HasNumbers, ItemsHaveNumbers, depth, items_depth
 pub use Rattle.json.specs.Word.{ends_word}
 pub use Rattle.log_report.specs.Check.{check_line, checking, code_word, verdict_word}
 pub use Rattle.log_report.specs.Compare.{comparing, learned, splices_from}
-pub use Rattle.log_report.specs.Counts.{rare_note, rare_notes, tallied_notes}
+pub use Rattle.log_report.specs.Counts.{tallied_notes}
 pub use Rattle.log_report.specs.Explain.{explained_line, explaining, few_from, few_notes, listed_line}
-pub use Rattle.log_report.specs.Lines.{FactsData, Known, LineView, facts_of, hint_in, hint_of, hint_with, is_not_open, is_stale_refusal, is_strict_refusal, is_unread, known_after, last_in, lead_of, lines, named_in, noted_in, noted_uri, nothing_known, or_unread, uri_of}
+pub use Rattle.log_report.specs.Habits.{Habits, all_but, habits_at, habits_of, notes_of, odd_in, rare_note, rare_notes}
+pub use Rattle.log_report.specs.Lines.{FactsData, Known, LineView, facts_of, hint_in, hint_of, hint_with, is_not_open, is_strict_in, is_stale_refusal, is_strict_refusal, is_unread, known_after, last_in, lead_of, lines, named_in, noted_in, noted_uri, nothing_known, or_unread, uri_of}
 pub use Rattle.log_report.specs.Mentions.{Mention, is_mention, last_for, last_record, mentioned, most_mentions, without}
-pub use Rattle.log_report.specs.Notes.{Terms, batch_notes, change_notes, differing_line, has_lone_return, if_left, left_by, note_words, notes_from, notes_if, notes_of, notes_on, notes_words, past_words, replaced_by, side_words, taken_as}
+pub use Rattle.log_report.specs.Notes.{Terms, batch_notes, change_notes, changes_words, differing_line, has_lone_return, if_left, left_by, note_words, notes_from, notes_if, notes_on, notes_words, past_words, replaced_by, side_words, taken_as, usual_words}
 pub use Rattle.log_report.specs.Openings.{listing_openings, no_openings, opening_words}
 pub use Rattle.log_report.specs.Reasons.{edit_reason, end_words, error_reason, hint_words, idle_words, is_idle, position_words, range_sent, reason_words, store_reason, version_words}
 pub use Rattle.log_report.specs.Tallies.{Tally, count_of, raised, tallied, tally_words}
@@ -37,7 +38,7 @@ pub use Rattle.log_report.specs.declared.commands.trace.Details.{Details}
 pub use Rattle.log_report.specs.declared.facts.Facts.{Facts}
 pub use Rattle.log_report.specs.declared.facts.Hint.{Hint}
 pub use Rattle.log_report.specs.declared.notes.Note.{Note}
-pub use Rattle.log_report.specs.inside.Facts.{AreFacts, IsAbout, IsLearned, canonical_json, facts_view, known_by, noted_by}
+pub use Rattle.log_report.specs.inside.Facts.{AreFacts, IsAbout, IsLearned, canonical_json, facts_view, known_by, noted_by, noted_of}
 pub use Rattle.log_report.specs.inside.Terms.{terms_view}
 pub use Rattle.log_report.specs.laws.JsonLines.{AreJsonLines, IsJsonLine, TraceJsonLaw, body_value, document_value, id_value, integer, member_if, natural, notes_value, reason_value, text_value, trace_value, unless_bad_value, values_from}
 pub use Rattle.log_report.specs.laws.Trace.{Line, TraceLaw, checked_line, is_document, traced_line, written_text}

@@ -1,12 +1,11 @@
 -- How often what came, for the last lines of `check --explain`.
-use Rattle.std.specs.Prelude.{◌&&◌, ◌||◌, ◌/◌, ◌++◌, if◌then◌else◌, ◌∷◌}
-use Rattle.log_report.specs.Prelude.{ℕ, Bool, true, false, not, nat_le, List, [], Option, Some, None, codes, decimal, flat_map, AnswerData, reply, dropped, refused, exits, Sent, server_refusal_code, Note}
-use Rattle.std.specs.List.{list_any}
+use Rattle.std.specs.Prelude.{◌==◌, ◌++◌, if◌then◌else◌, ◌∷◌}
+use Rattle.log_report.specs.Prelude.{ℕ, Bool, true, false, one_more, List, [], Option, Some, None, codes, decimal, flat_map, AnswerData, reply, dropped, refused, exits, Sent, server_refusal_code, Note}
 use Rattle.log_report.specs.Check.{code_word}
-use Rattle.log_report.specs.declared.notes.Note.TheVariants.{OtherSaved, PartSaved, SameText}
+use Rattle.log_report.specs.declared.counts.Hidden.{Hidden}
 use Rattle.log_report.specs.Notes.{note_kind}
 use Rattle.log_session.specs.Session.{Verdict, answered, count_if, has_changed, is_refused}
-use Rattle.log_report.specs.Tallies.{Tally, count_of, tallied, tallied_if, tally_words}
+use Rattle.log_report.specs.Tallies.{Tally, tallied, tallied_if, tally_words}
 
 -- ---- what is counted of each record
 
@@ -20,12 +19,18 @@ pub record Counts : Type 0 where
   pub refusals : List Tally
   -- the notes of all of them, by their kinds
   pub noted : List Tally
-  -- was a note on no line?
-  pub hides : Bool
+  -- those with notes that are on no line
+  pub hidden : Hidden
 
 -- Before the first record.
 abbrev pub nothing_counted : Counts
-nothing_counted = record { changes = 0; drops = []; refusals = []; noted = []; hides = false }
+nothing_counted = record {
+  changes = 0;
+  drops = [];
+  refusals = [];
+  noted = [];
+  hidden = record { count = 0; first = 0; last = 0 };
+}
 
 -- The word of a record that was dropped.
 abbrev pub dropped_word : Verdict → Option (List ℕ)
@@ -50,58 +55,28 @@ tallied_notes [] number ts = ts
 tallied_notes (note ∷ notes) number ts =
     tallied_notes notes number (tallied (note_kind note) number ts)
 
--- ---- habits
+-- ---- notes that are on no line
 
--- A kind of note is a habit, if it came so often already, and with about one of so many records that
--- changed documents. So a kind that comes often is said four times, and one that is rare each time.
-abbrev pub habit_count : ℕ
-habit_count = 4
+-- The first record with such notes, where one of this number has some.
+abbrev pub first_hidden : Hidden → ℕ → ℕ
+first_hidden hidden number = if hidden.count == 0 then number else hidden.first
 
-abbrev pub habit_rate : ℕ
-habit_rate = 100
-
--- Is a kind of note a habit that came so often, where so many records changed documents?
-abbrev pub is_frequent : ℕ → ℕ → Bool
-is_frequent changes count = nat_le habit_count count && nat_le (changes / habit_rate) count
-
--- Is the kind of a note a habit?
-abbrev pub is_habit : Counts → Note → Bool
-is_habit counts note = is_frequent counts.changes (count_of (note_kind note) counts.noted)
-
--- Is a note that a change's text is what it replaces? Many editors send such changes, and a copy is
--- as right as before.
-abbrev pub is_same_text : Note → Bool
-is_same_text (SameText index) = true
-is_same_text note = false
-
--- Is a note of a saved text? It may alone show that a copy is wrong.
-abbrev pub is_of_save : Note → Bool
-is_of_save (OtherSaved line) = true
-is_of_save PartSaved = true
-is_of_save note = false
-
--- Is a note on no line? A note of a saved text is on one each time.
-abbrev pub is_hidden : Counts → Note → Bool
-is_hidden counts note = is_same_text note || (not (is_of_save note) && is_habit counts note)
-
--- The note, unless it is on no line.
-abbrev pub rare_note : Counts → Note → List Note
-rare_note counts note = if is_hidden counts note then [] else note ∷ []
-
--- The notes that are on a line.
-abbrev pub rare_notes : Counts → List Note → List Note
-rare_notes counts notes = flat_map (rare_note counts) notes
+-- The records with such notes, after one of this number. `hides`: has it some?
+abbrev pub hidden_after : Hidden → ℕ → Bool → Hidden
+hidden_after hidden number true =
+    record { count = one_more hidden.count; first = first_hidden hidden number; last = number }
+hidden_after hidden number false = hidden
 
 -- ---- after a record
 
--- What is counted after a record with this number and these notes.
-abbrev pub counts_after : Counts → ℕ → Verdict → List Note → Counts
-counts_after counts number verdict notes = record {
+-- What is counted after a record with this number and these notes. `hides`: are some on no line?
+abbrev pub counts_after : Counts → ℕ → Verdict → List Note → Bool → Counts
+counts_after counts number verdict notes hides = record {
   changes = count_if (has_changed verdict) counts.changes;
   drops = tallied_if (dropped_word verdict) number counts.drops;
   refusals = tallied_if (counted_code verdict) number counts.refusals;
   noted = tallied_notes notes number counts.noted;
-  hides = counts.hides || list_any (is_hidden counts) notes;
+  hidden = hidden_after counts.hidden number hides;
 }
 
 -- ---- in words

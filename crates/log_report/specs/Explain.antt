@@ -1,15 +1,17 @@
 -- `check --explain`: a line of `check` for each record, with the reason where it was refused and
 -- the notes where it is suspicious; at the end what came how often, and what to do next.
-use Rattle.std.specs.Prelude.{◌==◌, ◌&&◌, ◌||◌, ◌-◌, ◌∷◌, ◌++◌, if◌then◌else◌}
+use Rattle.std.specs.Prelude.{◌==◌, ◌||◌, ◌-◌, ◌∷◌, ◌++◌, if◌then◌else◌}
 use Rattle.log_report.specs.Prelude.{ℕ, Bool, false, not, nat_lt, length, List, [], Option, Some, None, codes, decimal, LimitsData, notification_params, reading, IncomingData, incoming_of, Record, Settings, Listing, Note}
 use Rattle.log_session.specs.RunOutput.{RunOutput}
 use Rattle.log_session.specs.Settings.{log_config}
 use Rattle.log_session.specs.View.{output_in}
 use Rattle.log_report.specs.Check.{verdict_word}
-use Rattle.log_report.specs.Counts.{Counts, counts_words, rare_notes}
+use Rattle.log_report.specs.Counts.{counts_words}
+use Rattle.log_report.specs.Habits.{Habits, habits_at, notes_of, rare_notes}
+use Rattle.log_report.specs.declared.counts.Hidden.{Hidden}
 use Rattle.log_report.specs.Tallies.{Tally, count_of, has_tallies, tallied}
 use Rattle.log_report.specs.Lines.{FactsData, Known, LineView, facts_of, has_notes, lines, noted_in, nothing_known}
-use Rattle.log_report.specs.Notes.{note_kind, notes_of, notes_words}
+use Rattle.log_report.specs.Notes.{note_kind, notes_words}
 use Rattle.log_report.specs.Reasons.{hint_words, reason_words}
 use Rattle.log_session.specs.Run.{Engine, log_engine}
 use Rattle.log_session.specs.Session.{Session, Judged, Verdict, answered, is_new, is_refused, opened, refuses}
@@ -67,8 +69,8 @@ remark uri notes = if has_notes notes then
     else []
 
 -- The notes on a record's line: those that aren't hidden, and with `--all` each.
-abbrev pub listed_notes : Listing → Counts → List Note → List Note
-listed_notes listing counts notes = if listing.all then notes else rare_notes counts notes
+abbrev pub listed_notes : Listing → Habits → List Note → List Note
+listed_notes listing h notes = if listing.all then notes else rare_notes h notes
 
 -- Has a record a line? With `--brief` only one that counts as refused, or has notes on its line.
 abbrev pub is_listed : Listing → Verdict → List Note → Bool
@@ -91,7 +93,8 @@ abbrev pub explained_line : Listing → Known → Session → Record → Judged 
 explained_line listing known s r j m =
     listed_line listing j.session.server.config.limits (facts_of known s r j m)
     (noted_in r.head.side m (notification_params (reading r.body)))
-    (listed_notes listing known.counts (notes_of s known.ranged r.body j.verdict))
+    (listed_notes listing (habits_at (noted_in r.head.side m (notification_params (reading r.body)))
+    known.documents) (notes_of s known.documents known.ranged r.body j.verdict))
 
 -- ---- what to do next, after so many refusals
 
@@ -107,24 +110,24 @@ first_advice phase refusals suspicious = if is_new phase then
     else
     codes "Refused messages change nothing. `lspsync replay --at N`: the texts after message N.\n"
 
--- The line after it, by whether a record is refused with S1, or with S5 and changes.
+-- The line after it, by whether a record is refused that lenient limits wouldn't refuse.
 abbrev pub lenient_advice : Bool → List ℕ
 lenient_advice strict_refusal = if strict_refusal then
     codes "Many servers don't refuse what is S1 or S5 here. `--lenient` doesn't either.\n"
     else []
 
--- The line after that, by whether a note is on no line.
-abbrev pub hidden_advice : Bool → List ℕ
-hidden_advice hides = if hides then
-    codes "Some notes are on no line: `--all` has each on its line.\n"
-    else []
+-- The line after that, if messages have notes that are on no line.
+abbrev pub hidden_advice : Bool → Hidden → List ℕ
+hidden_advice all hidden = if all || hidden.count == 0 then [] else
+    codes "Messages with notes that are on no line: " ++ decimal hidden.count ++ codes ", from "
+    ++ decimal hidden.first ++ codes " to " ++ decimal hidden.last ++ codes "; `--all` has them.\n"
 
 -- The lines, by the session after all records and what is known of them.
 abbrev pub advice : Listing → Session → Known → List ℕ
 advice listing s known =
     first_advice s.server.phase s.refusals (has_tallies known.counts.noted)
     ++ lenient_advice known.strict_refusal
-    ++ hidden_advice (not listing.all && known.counts.hides)
+    ++ hidden_advice listing.all known.counts.hidden
 
 -- The lines at the end: what came how often, and what to do next.
 abbrev pub closing_lines : Listing → Known → Session → List ℕ

@@ -1,6 +1,6 @@
 -- What a message lacks whose params can't be read (LSP 3.17, DidOpenTextDocumentParams and the like).
 use Rattle.std.specs.Prelude.{if◌then◌else◌}
-use Rattle.log_report.specs.Prelude.{ℕ, Bool, true, false, not, List, Option, Some, None, codes, is_some, Data, IncomingData, did_open, did_change, did_close, Sender}
+use Rattle.log_report.specs.Prelude.{ℕ, Bool, not, List, Option, Some, None, codes, is_some, Data, IncomingData, did_open, did_change, did_close, Sender}
 use Rattle.lsp_log.specs.declared.record.Sender.TheVariants.{Client}
 use Rattle.lsp_message.specs.Params.{version_in}
 use Rattle.lsp_message.specs.Values.{array_in, member_at, text_in}

@@ -2,6 +2,8 @@ pub mod Check
 pub mod Compare
 pub mod Counts
 pub mod Explain
+pub mod Growths
+pub mod Habits
 pub mod Lacks
 pub mod Lines
 pub mod Mentions

@@ -6,13 +6,14 @@ use Rattle.lsp_log.specs.declared.record.Sender.TheVariants.{Client}
 use Rattle.log_session.specs.View.{View, unless_bad, writes}
 use Rattle.log_session.specs.Canonical.{change_in}
 use Rattle.log_report.specs.Counts.{Counts, counts_after, nothing_counted}
+use Rattle.log_report.specs.Habits.{Habits, documents_after, grown_in, habits_at, habits_of, hides, is_left_out, notes_of, version_rejected}
 use Rattle.log_report.specs.Lacks.{lack_in}
 use Rattle.log_report.specs.Mentions.{Mention, is_mention, last_for, last_record, mentioned}
-use Rattle.log_report.specs.Notes.{notes_of, saved_uri}
+use Rattle.log_report.specs.Notes.{saved_uri}
 use Rattle.log_session.specs.Session.{ranged_after, Session, Judged, Verdict, answered, has_changed, session_outcome}
 use Rattle.log_report.specs.Reasons.{is_empty, is_idle}
 use Rattle.log_report.specs.declared.facts.Hint.{Hint}
-use Rattle.log_report.specs.declared.facts.Hint.TheVariants.{Lacks, Renamed}
+use Rattle.log_report.specs.declared.facts.Hint.TheVariants.{Lacks, Renamed, Swapped}
 use Rattle.log_report.specs.declared.lacks.Lack.{Lack}
 use Rattle.lsp_server.specs.declared.answer.Refusal.{Refusal}
 use Rattle.lsp_server.specs.declared.answer.Refusal.TheVariants.{InvalidParams as BadParams}
@@ -50,11 +51,14 @@ pub record Known : Type 0 where
   pub mentions : List Mention
   -- the documents that were opened, changed or closed last
   pub made : List Mention
+  -- what is known of the documents that came last
+  pub documents : List Habits
   -- did the server ask for ranges?
   pub ranged : Bool
   -- the last one that couldn't be read, and may have opened a document
   pub unread : Option ℕ
-  -- is one of them refused with S1 or S5, which lenient limits never do, and meant to change a text?
+  -- is one of them refused with S1 or S5, which lenient limits never do, meant to change a text, and
+  -- not swapped with another?
   pub strict_refusal : Bool
   -- how often what came
   pub counts : Counts
@@ -64,6 +68,7 @@ abbrev pub nothing_known : Known
 nothing_known = record {
   mentions = [];
   made = [];
+  documents = [];
   ranged = false;
   unread = None;
   strict_refusal = false;
@@ -135,9 +140,24 @@ abbrev pub is_renamed : Known → Option (List ℕ) → Verdict → Bool
 is_renamed known uri verdict =
     is_not_open verdict && (is_new_name known.made uri && is_none known.unread)
 
+-- Is a record refused for its version, which was left out before? Then messages were swapped.
+abbrev pub was_left_out : List Habits → Option (List ℕ) → Option ChangeData → Bool
+was_left_out documents (Some uri) (Some p) = is_left_out p.version (habits_of uri documents).gaps
+was_left_out documents uri change = false
+
+abbrev pub is_swapped : Known → Option (List ℕ) → Option ChangeData → Verdict → Bool
+is_swapped known uri change verdict =
+    is_stale_refusal verdict && was_left_out known.documents uri change
+
+-- Is a record refused with S1, or with S5 and changes, and wasn't swapped with another?
+abbrev pub is_strict_in : Known → Option (List ℕ) → Option ChangeData → Verdict → Bool
+is_strict_in known uri change verdict =
+    is_strict_refusal change verdict && not (is_swapped known uri change verdict)
+
 -- What comes after the reason of a refusal by the documents.
-abbrev pub hint_in : Known → Option (List ℕ) → Verdict → Option Hint
-hint_in known uri verdict = if is_renamed known uri verdict then Some Renamed else None
+abbrev pub hint_in : Known → Option (List ℕ) → Option ChangeData → Verdict → Option Hint
+hint_in known uri change verdict = if is_renamed known uri verdict then Some Renamed
+    else if is_swapped known uri change verdict then Some Swapped else None
 
 -- What a record lacks, and else another hint.
 abbrev pub hint_with : Option Lack → Option Hint → Option Hint
@@ -148,7 +168,7 @@ hint_with (Some lack) hint = Some (Lacks lack)
 abbrev pub hint_of : Known → Record → Judged → IncomingData → Option Hint
 hint_of known r j m =
     hint_with (lack_in r.head.side m (notification_params (reading r.body)))
-    (hint_in known (uri_of r.head.side m) j.verdict)
+    (hint_in known (uri_of r.head.side m) (change_in m) j.verdict)
 
 -- The number that a record is known by, which has to look at another one: where its document isn't
 -- open, the number of that one, so that many such records lead to one.
@@ -165,12 +185,22 @@ known_after known s head body j = record {
       j.session.records j.verdict) known.mentions;
   made = mentioned (has_changed j.verdict) (uri_of head.side (incoming_of (reading body)))
       j.session.records known.made;
+  documents = documents_after (has_changed j.verdict)
+      (grown_in s.server known.documents head.side (incoming_of (reading body)))
+      (version_rejected (change_in (incoming_of (reading body))) j.verdict)
+      (notes_of s known.documents known.ranged body j.verdict)
+      (noted_in head.side (incoming_of (reading body)) (notification_params (reading body)))
+      known.documents;
   ranged = ranged_after known.ranged s head.side body;
   unread = unread_after known.unread j.session.records j.verdict;
   strict_refusal = known.strict_refusal
-      || is_strict_refusal (change_in (incoming_of (reading body))) j.verdict;
+      || is_strict_in known (uri_of head.side (incoming_of (reading body)))
+      (change_in (incoming_of (reading body))) j.verdict;
   counts = counts_after known.counts j.session.records j.verdict
-      (notes_of s known.ranged body j.verdict);
+      (notes_of s known.documents known.ranged body j.verdict)
+      (hides (habits_at (noted_in head.side (incoming_of (reading body))
+      (notification_params (reading body))) known.documents)
+      (notes_of s known.documents known.ranged body j.verdict));
 }
 
 -- What a line says of a record.
@@ -197,7 +227,7 @@ facts_of known s r j m = record {
   change = change_in m;
   hint = hint_of known r j m;
   last = last_in known (uri_of r.head.side m) j.verdict;
-  notes = notes_of s known.ranged r.body j.verdict;
+  notes = notes_of s known.documents known.ranged r.body j.verdict;
 }
 
 -- ---- the output

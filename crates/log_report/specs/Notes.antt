@@ -1,7 +1,7 @@
 -- What of a message that wasn't refused is suspicious: its notes, and their words.
 -- These are ASCII, with no quotation mark and no backslash.
 use Rattle.std.specs.Prelude.{◌&&◌, ◌||◌, ◌==◌, ◌++◌, if◌then◌else◌, ◌∷◌}
-use Rattle.log_report.specs.Prelude.{ℕ, ℤ, suc, Bool, true, false, not, nat_lt, int_le, length, map, slice_get, slice_range, sum_by, encode_utf8_all, List, [], Option, Some, None, option_and_then, option_map, Result, Ok, Err, codes, decimal, flat_map, signed_decimal, bytes_eq, chars, Data, units_in, Utf16, Utf32, Position, Range, ContentChange, Fault, meaning, ends_of, Side, Start, Stop, reading, DocumentItem, ChangeData, is_save, lengths_of, notification_params, entry_at, greatest_batch, changed, ignored, IncomingData, did_open, did_change, other_notification, incoming_of, ServerData, content_change_from_data, session_encoding, Note, is_some}
+use Rattle.log_report.specs.Prelude.{ℕ, ℤ, suc, Bool, true, false, not, nat_lt, int_le, length, map, slice_get, slice_range, sum_by, encode_utf8_all, List, [], Option, Some, None, option_and_then, option_map, Result, Ok, Err, codes, decimal, flat_map, signed_decimal, bytes_eq, chars, Data, units_in, Utf16, Utf32, Position, Range, ContentChange, Fault, meaning, ends_of, Side, Start, Stop, DocumentItem, ChangeData, is_save, entry_at, greatest_batch, changed, ignored, IncomingData, did_open, did_change, other_notification, ServerData, content_change_from_data, session_encoding, Note, is_some}
 use Rattle.std.specs.List.{list_any}
 use Rattle.std.specs.Result.{result_ok}
 use Rattle.line_diff.specs.Lines.{ends_line}
@@ -9,9 +9,9 @@ use Rattle.memchr.specs.Find.{first_of, matches}
 use Rattle.lsp_text.specs.Positions.{denoted, exact_position}
 use Rattle.lsp_edit.specs.Indexed.{text_within}
 use Rattle.lsp_message.specs.Values.{member_at, text_in}
-use Rattle.log_report.specs.declared.notes.Note.TheVariants.{OpenAlready, LoneReturn, OldVersion, NoChanges, WholeText, PastEnd, WrongLength, SameText, OtherSaved, PartSaved}
+use Rattle.log_report.specs.declared.notes.Note.TheVariants.{OpenAlready, LoneReturn, OldVersion, OddVersion, NoChanges, WholeText, PastEnd, WrongLength, SameText, OtherSaved, PartSaved}
 use Rattle.log_report.specs.Reasons.{change_words, is_empty, position_words}
-use Rattle.log_session.specs.Session.{Session, Verdict, answered}
+use Rattle.log_session.specs.Session.{Verdict, answered}
 
 -- ---- one change on the text before it (LSP 3.17, TextDocumentContentChangeEvent); a character `c`
 -- has `units c` units, and `index` is the change's index in its message
@@ -210,12 +210,6 @@ notes_if notes (answered changed) = notes
 notes_if notes (answered ignored) = notes
 notes_if notes verdict = []
 
--- The notes of a record, by the session before it, its body and its judgement.
-abbrev pub notes_of : Session → Bool → List ℕ → Verdict → List Note
-notes_of s ranged body verdict =
-    notes_if (notes_on s.server ranged (lengths_of (reading body))
-    (notification_params (reading body)) (incoming_of (reading body))) verdict
-
 -- ---- in words
 
 -- Which end of a change's range.
@@ -229,6 +223,15 @@ past_words sent taken =
     if sent.line == taken.line then codes ", past the line's end (taken as "
     else codes ", past the last line (taken as "
 
+-- How many changes.
+abbrev pub changes_words : ℕ → List ℕ
+changes_words count = if count == 1 then codes "1 change" else decimal count ++ codes " changes"
+
+-- What versions grew by: a number, else the number of changes.
+abbrev pub usual_words : Option ℕ → List ℕ
+usual_words None = codes "the number of changes"
+usual_words (Some step) = decimal step
+
 -- A note.
 abbrev pub note_words : Note → List ℕ
 note_words OpenAlready = codes "the document was open already"
@@ -236,6 +239,9 @@ note_words LoneReturn = codes "a CR alone ends a line, and an LF another"
 note_words (OldVersion sent current) =
     codes "version " ++ signed_decimal sent ++ codes " was sent, and the current one was "
     ++ signed_decimal current
+note_words (OddVersion sent before changes usual) =
+    codes "version " ++ signed_decimal sent ++ codes " came after " ++ signed_decimal before
+    ++ codes ", with " ++ changes_words changes ++ codes ", and until here it grew by " ++ usual_words usual
 note_words NoChanges = codes "it has no changes"
 note_words (WholeText index) =
     change_words index ++ codes " is the whole text, and the server asked for ranges"
@@ -263,6 +269,7 @@ abbrev pub note_kind : Note → List ℕ
 note_kind OpenAlready = codes "open already"
 note_kind LoneReturn = codes "a CR alone"
 note_kind (OldVersion sent current) = codes "an old version"
+note_kind (OddVersion sent before changes usual) = codes "an odd version"
 note_kind NoChanges = codes "no changes"
 note_kind (WholeText index) = codes "a whole text"
 note_kind (PastEnd index side sent taken) =

@@ -1,6 +1,6 @@
 -- What these definitions import from below, so that each names it by one line.
 pub use Rattle.std.specs.Fmt.{signed_decimal}
-pub use Rattle.std.specs.Prelude.{All, Bool, Err, IsUtf8, List, None, Ok, Option, Result, Some, [], codes, decimal, encode_utf8_all, false, flat_map, int_le, is_none, is_some, length, map, nat_le, nat_lt, not, option_and_then, option_map, slice_get, slice_range, suc, sum_by, take, true, ℕ, ℤ}
+pub use Rattle.std.specs.Prelude.{All, Bool, Err, IsUtf8, List, None, Ok, Option, Result, Some, [], codes, decimal, encode_utf8_all, false, flat_map, int_le, int_lt, is_none, is_some, length, map, nat_le, nat_lt, not, option_and_then, option_map, slice_get, slice_range, suc, sum_by, take, true, unsigned_abs, ℕ, ℤ}
 pub use Rattle.std.specs.Str.{bytes_eq, chars}
 pub use Rattle.std.specs.String.{string_bytes}
 pub use Rattle.line_diff.specs.Comparison.{ComparisonData, Followed, comparison_words, ended_by, equality, is_followed, refused_by, taken}

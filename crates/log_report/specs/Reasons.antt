@@ -6,7 +6,7 @@ use Rattle.lsp_edit.specs.declared.fault.EditFault.TheVariants.{InsideCharacter,
 use Rattle.lsp_store.specs.declared.fault.StoreFault.{StoreFault}
 use Rattle.log_report.specs.Lacks.{lack_words}
 use Rattle.log_report.specs.declared.facts.Hint.{Hint}
-use Rattle.log_report.specs.declared.facts.Hint.TheVariants.{Lacks, Renamed}
+use Rattle.log_report.specs.declared.facts.Hint.TheVariants.{Lacks, Renamed, Swapped}
 use Rattle.lsp_server.specs.declared.answer.Refusal.TheVariants.{InvalidParams as BadParams}
 
 -- ---- what was sent
@@ -96,9 +96,10 @@ reason_words limits p (refused (Store fault)) = store_reason limits p fault
 reason_words limits p (exits status) = codes "`exit` came without `shutdown`"
 reason_words limits p answer = []
 
--- What comes after the words: that the document was never open, and another one was, or what the
--- params lack.
+-- What comes after the words: that the document was never open, and another one was, that the
+-- version was left out before, or what the params lack.
 abbrev pub hint_words : Option Hint → List ℕ
 hint_words None = []
 hint_words (Some Renamed) = codes "; its editor may have renamed a document that was open"
+hint_words (Some Swapped) = codes "; the one that was sent was left out before: messages were swapped"
 hint_words (Some (Lacks lack)) = lack_words lack

@@ -1,15 +1,15 @@
 //! How often what came, for the last lines of `check --explain`.
 
-ghost use Rattle.std.specs.Prelude.{◌≡◌, IfOk, OnOk, option_map};
-ghost use Rattle.std.specs.List.{list_any};
+ghost use Rattle.std.specs.Prelude.{◌≡◌, OnOk, option_map};
 ghost use Rattle.lsp_server.specs.Seen.{answer_view};
-ghost use Rattle.log_report.specs.Counts.{answer_code, counted_code, counts_after, dropped_word, is_habit, is_hidden, is_of_save, is_same_text};
-ghost use Rattle.log_report.specs.Counts.{nothing_counted, rare_notes, tallied_notes};
+ghost use Rattle.log_report.specs.Counts.{answer_code, counted_code, counts_after, dropped_word, first_hidden, hidden_after};
+ghost use Rattle.log_report.specs.Counts.{nothing_counted, tallied_notes};
+ghost use Rattle.log_session.specs.Session.{count_if};
 ghost use Rattle.log_session.specs.inside.Verdicts.{verdict_view};
 
 pub(crate) mod tallies;
 
-use crate::counts::tallies::{Tally, add, add_if, count_of};
+use crate::counts::tallies::{Tally, add, add_if};
 use crate::notes::Note;
 use crate::notes::kinds::note_kind;
 use crate::printer::check::code_word;
@@ -18,11 +18,36 @@ use lsp_server::Answer;
 use std::alloc::{AllocError, Global};
 use std::marker::Model;
 
-/// A kind of note is a habit, if so many records had it already,
-const HABIT_COUNT: u64 = 4;
+/// The records with notes that are on no line: how many there are, the first and the last.
+#[derive(Clone, Copy)]
+pub struct Hidden {
+    pub count: u64,
+    pub first: u64,
+    pub last: u64,
+}
 
-/// and about one of so many records that changed documents.
-const HABIT_RATE: u64 = 100;
+impl Hidden {
+    /// Takes a record of this number, which may have such notes.
+    fn after(self, number: u64, hides: bool) -> Self
+        ensures { result ≡ hidden_after self number hides }
+    {
+        if !hides {
+            return self;
+        }
+        Hidden {
+            count: one_more(self.count),
+            first: self.first_after(number),
+            last: number,
+        }
+    }
+
+    /// Returns the first record with such notes, where one of this number has some.
+    fn first_after(self, number: u64) -> u64
+        ensures { result ≡ first_hidden self number }
+    {
+        if self.count == 0 { number } else { self.first }
+    }
+}
 
 /// What is counted of the records of a log.
 #[derive(Drop)]
@@ -36,8 +61,8 @@ pub struct Counts {
     pub refused: Vec<Tally>,
     /// The kinds of the notes.
     pub noted: Vec<Tally>,
-    /// Whether a note was on no line.
-    pub hides: bool,
+    /// Those with notes that are on no line.
+    pub hidden: Hidden,
 }
 
 impl Model for Counts {
@@ -50,7 +75,7 @@ impl Model for Counts {
       drops = counts.dropped.items;
       refusals = counts.refused.items;
       noted = counts.noted.items;
-      hides = counts.hides;
+      hidden = counts.hidden;
     } };
 }
 
@@ -65,77 +90,38 @@ impl Counts {
             dropped: Vec::new(alloc),
             refused: Vec::new(alloc),
             noted: Vec::new(alloc),
-            hides: false,
+            hidden: Hidden {
+                count: 0,
+                first: 0,
+                last: 0,
+            },
         }
     }
 
-    /// Counts a record with this number and these notes.
+    /// Counts a record with this number and these notes. `hides`: are some of them on no line?
     pub fn count(
         &mut self,
         number: u64,
         verdict: &Verdict,
         notes: &[Note],
+        hides: bool,
     ) -> Result<(), AllocError>
         ensures { OnOk result
-            (self.new ≡ counts_after self.old number (verdict_view verdict.now) notes.now) }
+            (self.new ≡ counts_after self.old number (verdict_view verdict.now) notes.now hides) }
     {
-        self.hides = self.hides || self.has_hidden(notes);
-        if has_changed(verdict) {
-            self.changed = one_more(self.changed);
-        }
+        self.hidden = self.hidden.after(number, hides);
+        self.changed = count_if(has_changed(verdict), self.changed);
         add_if(self.alloc, &mut self.dropped, dropped_word(verdict), number)?;
         add_if(self.alloc, &mut self.refused, counted_code(verdict), number)?;
         add_notes(self.alloc, &mut self.noted, notes, number)
     }
-
-    /// Returns whether the kind of a note is a habit.
-    fn is_habit(&self, note: Note) -> bool
-        ensures { result ≡ is_habit self.now note }
-    {
-        let count = count_of(self.noted.as_slice(), note_kind(note));
-        count >= HABIT_COUNT && self.changed / HABIT_RATE <= count
-    }
-
-    /// Returns whether a note is on no line.
-    fn is_hidden(&self, note: Note) -> bool
-        ensures { result ≡ is_hidden self.now note }
-    {
-        is_same_text(note) || !is_of_save(note) && self.is_habit(note)
-    }
-
-    /// Returns whether one of some notes is on no line.
-    fn has_hidden(&self, notes: &[Note]) -> bool
-        ensures { result ≡ list_any (is_hidden self.now) notes.now }
-    {
-        notes.iter().any(|note| self.is_hidden(*note))
-    }
-
-    /// Returns the notes that are on a line.
-    pub fn rare(&self, notes: &[Note]) -> Result<Vec<Note>, AllocError>
-        ensures { IfOk result (λ rare. rare.items ≡ rare_notes self.now notes.now) }
-    {
-        let mut rare = Vec::new(self.alloc);
-        for note in notes {
-            if !self.is_hidden(*note) {
-                rare.push(*note)?;
-            }
-        }
-        Ok(rare)
-    }
 }
 
-/// Returns whether a note is that a change's text is what it replaces.
-fn is_same_text(note: Note) -> bool
-    ensures { result ≡ is_same_text note }
+/// Counts once more, if something counts.
+pub fn count_if(counts: bool, count: u64) -> u64
+    ensures { result ≡ count_if counts count }
 {
-    matches!(note, Note::SameText { .. })
-}
-
-/// Returns whether a note is of a saved text.
-fn is_of_save(note: Note) -> bool
-    ensures { result ≡ is_of_save note }
-{
-    matches!(note, Note::OtherSaved { .. } | Note::PartSaved)
+    if counts { one_more(count) } else { count }
 }
 
 /// Returns the word of a record that was dropped.
@@ -174,7 +160,7 @@ fn answer_code(answer: &Answer) -> &'static str
 }
 
 /// Counts the notes that came with the record of this number.
-fn add_notes(
+pub fn add_notes(
     alloc: Global,
     tallies: &mut Vec<Tally>,
     notes: &[Note],

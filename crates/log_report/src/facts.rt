@@ -8,12 +8,14 @@ ghost use Rattle.lsp_log.specs.Splitting.{record_of};
 ghost use Rattle.lsp_message.specs.Seen.{change_view};
 ghost use Rattle.log_report.specs.Lines.{is_new_name, is_not_open, is_open_already};
 ghost use Rattle.log_report.specs.Lines.{is_bad_params, is_parse_error, is_unread, unread_after};
-ghost use Rattle.log_report.specs.Lines.{hint_in, hint_with, is_renamed, is_stale_refusal, is_strict_refusal, known_after};
+ghost use Rattle.log_report.specs.Habits.{version_rejected};
+ghost use Rattle.log_report.specs.Lines.{hint_in, hint_with, is_strict_in, is_swapped, noted_uri, was_left_out};
+ghost use Rattle.log_report.specs.Lines.{is_renamed, is_stale_refusal, is_strict_refusal, known_after};
 ghost use Rattle.log_report.specs.Lines.{last_in, lead_of, nothing_known, or_unread};
 ghost use Rattle.log_report.specs.Mentions.{is_mention, last_for};
 ghost use Rattle.log_session.specs.Session.{bad};
 ghost use Rattle.log_session.specs.inside.Bodies.{judge_at};
-ghost use Rattle.log_report.specs.inside.Facts.{AreFacts, IsLearned, known_by, noted_by};
+ghost use Rattle.log_report.specs.inside.Facts.{AreFacts, IsLearned, kept_by, known_by, noted_by};
 ghost use Rattle.log_session.specs.inside.Reads.{IsNotedOf, IsReadOf};
 ghost use Rattle.log_session.specs.inside.Taken.{IsShown, accepted_of, ranged_with};
 ghost use Rattle.log_session.specs.inside.Verdicts.{verdict_view};
@@ -23,6 +25,8 @@ mod noting;
 
 use crate::counts::Counts;
 use crate::facts::noting::{about_of, notes_if};
+use crate::growths::Grown;
+use crate::habits::Documents;
 use crate::lacks::Lack;
 use crate::mentions::Mentions;
 use crate::notes::Note;
@@ -41,6 +45,8 @@ use std::marker::Model;
 pub enum Hint {
     /// Its document may be another one under a new name.
     Renamed,
+    /// Its version was left out before, so messages were swapped.
+    Swapped,
     /// Its params lack this.
     Lacks(Lack),
 }
@@ -57,6 +63,8 @@ pub struct About {
     pub notes: Vec<Note>,
     /// What its params lack, if they can't be read.
     pub lack: Option<Lack>,
+    /// Its version and the one that was sent before, if it is a change and that is lower.
+    pub grown: Option<Grown>,
 }
 
 /// The facts of a record that was taken.
@@ -87,10 +95,7 @@ impl Facts {
     pub fn noted(&self) -> Option<&str>
         ensures { option_map (λ uri. uri.now) result ≡ noted_by self.now }
     {
-        match &self.uri {
-            Some(uri) => Some(uri.as_str()),
-            None => self.named.as_deref(),
-        }
+        noted_uri(self.uri.as_deref(), self.named.as_deref())
     }
 }
 
@@ -102,12 +107,14 @@ pub struct Known {
     mentions: Mentions,
     // The documents that were opened, changed or closed last.
     made: Mentions,
+    // What is known of the documents that came last.
+    documents: Documents,
     // Whether the server asked for ranges.
     ranged: bool,
     // The last record that couldn't be read, and may have opened a document.
     unread: Option<u64>,
-    /// Whether a record is refused with S1 or S5, which lenient limits never do, and was meant to
-    /// change a text.
+    /// Whether a record is refused with S1 or S5, which lenient limits never do, was meant to change
+    /// a text, and wasn't swapped with another.
     pub strict_refusal: bool,
     pub counts: Counts,
 }
@@ -120,6 +127,7 @@ impl Model for Known {
     ghost view = { λ known. record {
       mentions = known.mentions.newest.items;
       made = known.made.newest.items;
+      documents = known.documents.newest.items;
       ranged = known.ranged;
       unread = known.unread;
       strict_refusal = known.strict_refusal;
@@ -136,6 +144,7 @@ impl Known {
             alloc,
             mentions: Mentions::new(alloc),
             made: Mentions::new(alloc),
+            documents: Documents::new(alloc),
             ranged: false,
             unread: None,
             strict_refusal: false,
@@ -170,7 +179,14 @@ impl Known {
             ⊎ ((fault ≡ EngineFault.BadLog item.now.head.place)
             × ((judge_at session.old item.now.head item.now.body.now).verdict ≡ bad))) }
     {
-        let about = about_of(self.alloc, session.server(), self.ranged, item.body, &read)?;
+        let about = about_of(
+            self.alloc,
+            session.server(),
+            &self.documents,
+            self.ranged,
+            item.body,
+            &read,
+        )?;
         let taken = session.take(read, witness)?;
         in_log(&taken.verdict, item.head.place)?;
         Ok(self.learn(session.records(), about, taken)?)
@@ -186,26 +202,28 @@ impl Known {
             named,
             notes,
             lack,
+            grown,
         } = about;
         let Taken {
             verdict,
             change,
             ranged,
         } = taken;
-        let hint = hint_with(lack, self.hint_in(uri.as_deref(), &verdict));
+        let hint = self.hint_in(uri.as_deref(), change.as_ref(), &verdict);
+        let hint = hint_with(lack, hint);
+        let is_strict = self.is_strict_in(uri.as_deref(), change.as_ref(), &verdict);
         let last = self.last_in(uri.as_deref(), &verdict);
         let notes = notes_if(notes, &verdict);
-        let rare = self.counts.rare(&notes)?;
-        let mentioned = is_mention(change.is_some(), &verdict);
-        let lead = lead_of(last, number, &verdict);
-        self.mentions.keep(mentioned, uri.as_deref(), lead)?;
-        self.made
-            .keep(has_changed(&verdict), uri.as_deref(), number)?;
+        let noted = noted_uri(uri.as_deref(), named.as_deref());
+        let rare = self.documents.rare(noted, &notes)?;
+        let hides = self.documents.has_hidden(noted, &notes);
+        self.counts.count(number, &verdict, &notes, hides)?;
+        self.keep(number, uri.as_deref(), change.is_some(), &verdict)?;
+        let rejected = version_rejected(change.as_ref(), &verdict);
+        self.documents
+            .take(has_changed(&verdict), grown, rejected, &notes, noted)?;
         self.ranged = ranged_with(self.ranged, ranged);
-        self.unread = unread_after(self.unread, number, &verdict);
-        let is_strict = is_strict_refusal(change.as_ref(), &verdict);
         self.strict_refusal = self.strict_refusal || is_strict;
-        self.counts.count(number, &verdict, &notes)?;
         Ok(Facts {
             number,
             verdict,
@@ -217,6 +235,27 @@ impl Known {
             notes,
             rare,
         })
+    }
+
+    /// Keeps which documents a record of this number opened, changed, closed or refused, and whether
+    /// it couldn't be read.
+    fn keep(
+        &mut self,
+        number: u64,
+        uri: Option<&str>,
+        is_change: bool,
+        verdict: &Verdict,
+    ) -> Result<(), AllocError>
+        ensures { OnOk result (self.new ≡ kept_by self.old number
+            (option_map (λ uri. uri.now) uri.entry) is_change (verdict_view verdict.now)) }
+    {
+        let last = self.last_in(uri, verdict);
+        let lead = lead_of(last, number, verdict);
+        self.mentions
+            .keep(is_mention(is_change, verdict), uri, lead)?;
+        self.made.keep(has_changed(verdict), uri, number)?;
+        self.unread = unread_after(self.unread, number, verdict);
+        Ok(())
     }
 
     /// Returns the record to look at, if the documents refused one about a document: which made the
@@ -243,16 +282,84 @@ impl Known {
         is_not_open(verdict) && (is_new_name(&self.made, uri) && self.unread.is_none())
     }
 
+    /// Returns whether a record is refused for its version, which was left out before.
+    fn is_swapped(
+        &self,
+        uri: Option<&str>,
+        change: Option<&ChangeParams>,
+        verdict: &Verdict,
+    ) -> bool
+        ensures { result ≡ is_swapped self.now (option_map (λ uri. uri.now) uri.entry)
+            (option_map (λ p. change_view p.now) change.entry) (verdict_view verdict.now) }
+    {
+        is_stale_refusal(verdict) && was_left_out(&self.documents, uri, change)
+    }
+
+    /// Returns whether a record is refused with S1, or with S5 and changes, and wasn't swapped with
+    /// another.
+    fn is_strict_in(
+        &self,
+        uri: Option<&str>,
+        change: Option<&ChangeParams>,
+        verdict: &Verdict,
+    ) -> bool
+        ensures { result ≡ is_strict_in self.now (option_map (λ uri. uri.now) uri.entry)
+            (option_map (λ p. change_view p.now) change.entry) (verdict_view verdict.now) }
+    {
+        is_strict_refusal(change, verdict) && !self.is_swapped(uri, change, verdict)
+    }
+
     /// Returns what comes after the reason, if the documents refused a record about a document.
-    fn hint_in(&self, uri: Option<&str>, verdict: &Verdict) -> Option<Hint>
+    fn hint_in(
+        &self,
+        uri: Option<&str>,
+        change: Option<&ChangeParams>,
+        verdict: &Verdict,
+    ) -> Option<Hint>
         ensures { result ≡ hint_in self.now (option_map (λ uri. uri.now) uri.entry)
-            (verdict_view verdict.now) }
+            (option_map (λ p. change_view p.now) change.entry) (verdict_view verdict.now) }
     {
         if self.is_renamed(uri, verdict) {
             Some(Hint::Renamed)
+        } else if self.is_swapped(uri, change, verdict) {
+            Some(Hint::Swapped)
         } else {
             None
         }
+    }
+}
+
+/// Returns whether a version of a document was left out.
+fn was_left_out(documents: &Documents, uri: Option<&str>, change: Option<&ChangeParams>) -> bool
+    ensures { result ≡ was_left_out documents.now.newest.items
+        (option_map (λ uri. uri.now) uri.entry)
+        (option_map (λ p. change_view p.now) change.entry) }
+{
+    match (uri, change) {
+        (Some(uri), Some(params)) => documents.has_left_out(uri, params.version),
+        _ => false,
+    }
+}
+
+/// Returns the version of a change that the documents refused.
+fn version_rejected(change: Option<&ChangeParams>, verdict: &Verdict) -> Option<i32>
+    ensures { result ≡ version_rejected (option_map (λ p. change_view p.now) change.entry)
+        (verdict_view verdict.now) }
+{
+    match (change, verdict) {
+        (Some(params), Verdict::Answered(Answer::Refused(_))) => Some(params.version),
+        _ => None,
+    }
+}
+
+/// Returns the document that a line names: the record's, or the one that its params name.
+fn noted_uri<'a>(uri: Option<&'a str>, named: Option<&'a str>) -> Option<&'a str>
+    ensures { option_map (λ uri. uri.now) result ≡ noted_uri (option_map (λ uri. uri.now) uri.entry)
+        (option_map (λ named. named.now) named.entry) }
+{
+    match uri {
+        Some(uri) => Some(uri),
+        None => named,
     }
 }
 

@@ -7,6 +7,8 @@
 //! - `facts`: what `trace` and `check --explain` say of a record.
 //! - `notes`: what is suspicious of a message that wasn't refused.
 //! - `counts`: how often what came.
+//! - `growths`: how the versions of a document grow.
+//! - `habits`: what is known of a document by its records.
 //! - `lacks`: what a message lacks whose params can't be read.
 //! - `mentions`: which record opened, closed or refused a document last.
 //! - `openings`: which message opened each document first.
@@ -17,6 +19,8 @@
 mod commands;
 mod counts;
 mod facts;
+mod growths;
+mod habits;
 mod lacks;
 mod laws;
 mod members;

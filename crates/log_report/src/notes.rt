@@ -21,6 +21,14 @@ pub enum Note {
         sent: i32,
         current: i32,
     },
+    /// Its version breaks the habit of its document: until here versions grew by `usual`, else by the
+    /// number of changes.
+    OddVersion {
+        sent: i32,
+        before: i32,
+        changes: usize,
+        usual: Option<u64>,
+    },
     /// It is a `didChange` without changes.
     NoChanges,
     /// A change is the whole text, and the server asked for ranges.

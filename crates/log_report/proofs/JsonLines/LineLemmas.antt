@@ -172,9 +172,9 @@ module _ (limits : LimitsData) (ranges : AreInRange limits) (details : Details) 
       (values_if (λ (e : DocumentItem). FitsSigned w32 e.version) (λ (e : DocumentItem). signed_decimal e.version)
       (λ (e : DocumentItem). integer e.version) (λ e is. a_version e.version is) entry
       (document_fits j.session.server.table uri after.versions)) with_canonical in
-      let notes = a_member_if (codes "notes") _ (notes_json (notes_of s known.ranged r.body j.verdict))
-      (notes_value (notes_of s known.ranged r.body j.verdict)) _ refl
-      (notes_if (notes_of s known.ranged r.body j.verdict)) version in
+      let notes = a_member_if (codes "notes") _ (notes_json (notes_of s known.documents known.ranged r.body j.verdict))
+      (notes_value (notes_of s known.documents known.ranged r.body j.verdict)) _ refl
+      (notes_if (notes_of s known.documents known.ranged r.body j.verdict)) version in
       let last = a_member_if (codes "last") _ (option_map decimal (last_in known uri j.verdict))
       (option_map natural (last_in known uri j.verdict)) _ refl
       (values_if (λ n. n < 2 ^ 64) decimal natural a_natural (last_in known uri j.verdict)

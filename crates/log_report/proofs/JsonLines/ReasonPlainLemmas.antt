@@ -1,7 +1,7 @@
 -- The words of a line need no escape in a JSON string.
-use Rattle.log_report.proofs.Prelude.{Bool, ◌==◌, [], ◌++◌, Option, Some, None, refl, codes, list_all-append, LimitsData, Position, Range, EditFault, ErrorCode, ParseError, ChangeData, fault_code, StoreFault, AnswerData, reply, refused, exits, Sent, one_more, Sender, Client, Server, Note, code_word, verdict_word, note_words, past_words, side_words, edit_reason, end_words, error_reason, idle_words, is_idle, position_words, range_sent, reason_words, hint_words, Hint, store_reason, version_words, Verdict, answered, side_word}
+use Rattle.log_report.proofs.Prelude.{ℕ, changes_words, decimal, usual_words, ◌==◌, [], ◌++◌, Option, Some, None, refl, codes, list_all-append, LimitsData, Position, Range, EditFault, ErrorCode, ParseError, ChangeData, fault_code, StoreFault, AnswerData, reply, refused, exits, Sent, one_more, Sender, Client, Server, Note, code_word, verdict_word, note_words, past_words, side_words, edit_reason, end_words, error_reason, idle_words, is_idle, position_words, range_sent, reason_words, hint_words, Hint, store_reason, version_words, Verdict, answered, side_word}
 use Rattle.log_report.specs.Lacks.{lack_words}
-use Rattle.log_report.specs.declared.facts.Hint.TheVariants.{Lacks, Renamed}
+use Rattle.log_report.specs.declared.facts.Hint.TheVariants.{Lacks, Renamed, Swapped}
 use Rattle.log_report.specs.declared.lacks.Lack.{Lack}
 use Rattle.log_report.specs.declared.lacks.Lack.TheVariants.{Change, Changes, Language, Text, Uri, Version}
 use Rattle.lsp_edit.specs.declared.fault.EditFault.TheVariants.{InsideCharacter, ReversedRange, NoMemory as NoMemoryToEdit}
@@ -11,7 +11,7 @@ use Rattle.lsp_store.specs.declared.fault.StoreFault.TheVariants.{TooManyDocumen
 use Rattle.lsp_server.specs.Codes.{server_refusal_code}
 use Rattle.lsp_server.specs.declared.answer.Refusal.{Refusal}
 use Rattle.lsp_server.specs.declared.answer.Refusal.TheVariants.{InvalidParams as BadParams, Store}
-use Rattle.log_report.specs.declared.notes.Note.TheVariants.{LoneReturn, NoChanges, OpenAlready, PartSaved}
+use Rattle.log_report.specs.declared.notes.Note.TheVariants.{LoneReturn, NoChanges, OddVersion, OpenAlready, PartSaved}
 use Rattle.log_report.proofs.JsonLines.PlainLemmas.{IsPlain, either_plain, is_ascii_plain, plain-append, plain_decimal, plain_signed}
 
 -- ---- the word of an answer
@@ -97,6 +97,7 @@ plain_lack Change = refl
 plain_hint : (hint : Option Hint) → IsPlain (hint_words hint)
 plain_hint None = refl
 plain_hint (Some Renamed) = refl
+plain_hint (Some Swapped) = refl
 plain_hint (Some (Lacks lack)) = plain_lack lack
 
 pub plain_reason_with : (limits : LimitsData) (p : Option ChangeData) (answer : AnswerData Sent) (hint : Option Hint)
@@ -113,9 +114,20 @@ plain_from Stop = refl
 plain_past : (sent taken : Position) → IsPlain (past_words sent taken)
 plain_past sent taken = either_plain (sent.line == taken.line) _ _ refl refl
 
+plain_changes : (count : ℕ) → IsPlain (changes_words count)
+plain_changes count =
+    either_plain (count == 1) (codes "1 change") (decimal count ++ codes " changes") refl
+    (plain-append (decimal count) (codes " changes") (plain_decimal count) refl)
+
+plain_usual : (usual : Option ℕ) → IsPlain (usual_words usual)
+plain_usual None = refl
+plain_usual (Some step) = plain_decimal step
+
 pub plain_note : (note : Note) → IsPlain (note_words note)
 plain_note OpenAlready = refl
 plain_note LoneReturn = refl
 plain_note NoChanges = refl
 plain_note PartSaved = refl
+plain_note (OddVersion sent before changes usual) =
+    simp (list_all-append is_ascii_plain, plain_signed, plain_changes changes, plain_usual usual)
 plain_note _ = simp (list_all-append is_ascii_plain, plain_decimal, plain_signed, plain_from, plain_past)

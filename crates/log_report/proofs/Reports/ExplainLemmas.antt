@@ -1,5 +1,5 @@
 -- A line of `check --explain`, as it is written.
-use Rattle.log_report.proofs.Prelude.{◌≡◌, ℕ, List, [], ◌++◌, Option, option_map, string_bytes, if◌then◌else◌, refl, ap, ap₂, ◌∙◌, LimitsData, reading, incoming_of, Record, Listing, Facts, Note, explained_line, listed_line, named_in, noted_uri, FactsData, Known, facts_of, notes_of, rare_notes, Session, judge, AreFacts, facts_view, body_read, received_of, notification_params}
+use Rattle.log_report.proofs.Prelude.{◌≡◌, ℕ, List, [], ◌++◌, Option, option_map, string_bytes, if◌then◌else◌, refl, ap, ap₂, ◌∙◌, LimitsData, reading, incoming_of, Record, Listing, Facts, Note, explained_line, listed_line, named_in, noted_uri, FactsData, Known, facts_of, habits_at, noted_in, notes_of, rare_notes, Session, judge, AreFacts, facts_view, body_read, received_of, notification_params}
 use Rattle.log_report.proofs.Reports.ReasonLemmas.{by_received}
 
 module _ (listing : Listing) (known : Known) (s : Session) (r : Record) where
@@ -28,6 +28,7 @@ module _ (listing : Listing) (known : Known) (s : Session) (r : Record) where
       }) named rare) are.named are.rare
       ∙ by_received (λ change verdict. line_by limits_after (record its { change = change; verdict = verdict })
       (named_in r.head.side (incoming_of (reading r.body)) (notification_params (reading r.body)))
-      (rare_notes known.counts (notes_of s known.ranged r.body (judge s r).verdict))) (λ c. refl) (λ c. refl) (λ c.
-      refl)
+      (rare_notes (habits_at (noted_in r.head.side (incoming_of (reading r.body))
+      (notification_params (reading r.body))) known.documents)
+      (notes_of s known.documents known.ranged r.body (judge s r).verdict))) (λ c. refl) (λ c. refl) (λ c. refl)
       s r.head r.body

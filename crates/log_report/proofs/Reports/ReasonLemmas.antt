@@ -1,6 +1,7 @@
 -- The reason of a record, by the change that a running server received: a change that isn't received isn't refused.
-use Rattle.log_report.proofs.Prelude.{List, None, Option, Some, ap, inl, inr, refl, subst, sym, ℕ, ⊎_elim, ◌&&◌, ◌∙◌, ◌≡◌, ◌⊎◌, cond_both, is_none, ⊤, Head, Sender, Client, Server, Version, IdData, reading, ChangeData, change_in, is_strict_refusal, Session, Verdict, answered, bad, encoding_for, is_running, judge_client, judge_from, judge_server, recorded, body_read, judge_at, received_of, dropped, IncomingData, did_change, incoming_of, Phase, Down, Ended, New, Running, Encoding, is_some, is_mention}
+use Rattle.log_report.proofs.Prelude.{List, None, Option, Some, ap, inl, inr, refl, subst, sym, ℕ, ⊎_elim, ◌&&◌, ◌∙◌, ◌≡◌, ◌⊎◌, cond_both, is_none, ⊤, Head, Sender, Client, Server, Version, IdData, reading, ChangeData, change_in, Known, hint_in, is_strict_in, Session, Verdict, answered, bad, encoding_for, is_running, judge_client, judge_from, judge_server, recorded, body_read, judge_at, received_of, dropped, IncomingData, did_change, incoming_of, Phase, Down, Ended, New, Running, Encoding, is_some, is_mention}
 use Rattle.log_session.proofs.Records.JudgeLemmas.{asks_change}
+use Rattle.log_report.specs.Habits.{version_rejected}
 
 -- a verdict that has no reason, whatever was sent
 abbrev IsQuiet : Verdict → Type 0
@@ -76,7 +77,30 @@ pub mention_at : (s : Session) (head : Head) (body : List ℕ)
     ≡ is_mention (is_some (change_in (incoming_of (reading body)))) (judge_at s head body).verdict
 mention_at = by_received (λ change verdict. is_mention (is_some change) verdict) (λ c. refl) (λ c. refl) (λ c. refl)
 
-pub strict_at : (s : Session) (head : Head) (body : List ℕ)
-    → is_strict_refusal (received_of s (body_read head.version head.side body)) (judge_at s head body).verdict
-    ≡ is_strict_refusal (change_in (incoming_of (reading body))) (judge_at s head body).verdict
-strict_at = by_received is_strict_refusal (λ c. refl) (λ c. refl) (λ c. refl)
+quiet_rejected : (verdict : Verdict) (change : Option ChangeData) → IsQuiet verdict
+    → version_rejected change verdict ≡ version_rejected None verdict
+quiet_rejected recorded None q = refl
+quiet_rejected recorded (Some p) q = refl
+quiet_rejected bad None q = refl
+quiet_rejected bad (Some p) q = refl
+quiet_rejected (answered dropped) None q = refl
+quiet_rejected (answered dropped) (Some p) q = refl
+quiet_rejected _ _ q = absurd q
+
+pub rejected_at : (s : Session) (head : Head) (body : List ℕ)
+    → version_rejected (received_of s (body_read head.version head.side body)) (judge_at s head body).verdict
+    ≡ version_rejected (change_in (incoming_of (reading body))) (judge_at s head body).verdict
+rejected_at =
+    by_received version_rejected (λ change. quiet_rejected recorded change tt) (λ change. quiet_rejected bad change tt)
+    (λ change. quiet_rejected (answered dropped) change tt)
+
+module _ (known : Known) (uri : Option (List ℕ)) where
+  pub strict_at : (s : Session) (head : Head) (body : List ℕ)
+      → is_strict_in known uri (received_of s (body_read head.version head.side body)) (judge_at s head body).verdict
+      ≡ is_strict_in known uri (change_in (incoming_of (reading body))) (judge_at s head body).verdict
+  strict_at = by_received (is_strict_in known uri) (λ c. refl) (λ c. refl) (λ c. refl)
+
+  pub hint_at : (s : Session) (head : Head) (body : List ℕ)
+      → hint_in known uri (received_of s (body_read head.version head.side body)) (judge_at s head body).verdict
+      ≡ hint_in known uri (change_in (incoming_of (reading body))) (judge_at s head body).verdict
+  hint_at = by_received (hint_in known uri) (λ c. refl) (λ c. refl) (λ c. refl)

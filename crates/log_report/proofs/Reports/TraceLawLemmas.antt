@@ -41,7 +41,7 @@ module _ (details : Details) (known : Known) (s : Session) (r : Record) (m : Inc
         member (codes ",\"reason\":")
         (reason_json j.session.server.config.limits (change_in m) (hint_of known r j m) j.verdict)
         ++ member (codes ",\"last\":") (option_map decimal (last_in known uri j.verdict))
-        ++ member (codes ",\"notes\":") (notes_json (notes_of s known.ranged r.body j.verdict))
+        ++ member (codes ",\"notes\":") (notes_json (notes_of s known.documents known.ranged r.body j.verdict))
         ++ member (codes ",\"version\":") (version_json document) ++ member (codes ",\"canonical\":")
         (within s.server.config.limits.max_body (canonical_of_record s r.body j.verdict));
     after = member (codes ",\"body\":") (body_json (details.bodies && is_json m) r.body) ++ codes "}\n";
@@ -59,7 +59,7 @@ module _ (details : Details) (known : Known) (s : Session) (r : Record) (m : Inc
       (member (codes ",\"reason\":")
       (reason_json j.session.server.config.limits (change_in m) (hint_of known r j m) j.verdict))
       (member (codes ",\"last\":") (option_map decimal (last_in known uri j.verdict)))
-      (member (codes ",\"notes\":") (notes_json (notes_of s known.ranged r.body j.verdict)))
+      (member (codes ",\"notes\":") (notes_json (notes_of s known.documents known.ranged r.body j.verdict)))
       (member (codes ",\"version\":") (version_json document))
       (member (codes ",\"canonical\":")
       (within s.server.config.limits.max_body (canonical_of_record s r.body j.verdict)))

@@ -12,7 +12,8 @@ use Rattle.log_session.specs.Replay.{document_line}
 use Rattle.log_session.specs.Settings.{log_config}
 use Rattle.log_report.specs.Check.{verdict_word}
 use Rattle.log_report.specs.Lines.{Known, hint_of, known_after, last_in, nothing_known, uri_of}
-use Rattle.log_report.specs.Notes.{note_words, notes_of}
+use Rattle.log_report.specs.Notes.{note_words}
+use Rattle.log_report.specs.Habits.{notes_of}
 use Rattle.log_report.specs.Reasons.{hint_words, reason_words}
 use Rattle.log_report.specs.declared.facts.Hint.{Hint}
 use Rattle.log_session.specs.Session.{Session, Judged, Verdict, answered, bad, has_changed, is_refused, judge, opened}
@@ -97,7 +98,7 @@ trace_value details known s r j m = object (members_with (
       reason_value j.session.server.config.limits m (hint_of known r j m) j.verdict,
     )
     ∷ (codes "last", option_map natural (last_in known (uri_of r.head.side m) j.verdict))
-    ∷ (codes "notes", notes_value (notes_of s known.ranged r.body j.verdict))
+    ∷ (codes "notes", notes_value (notes_of s known.documents known.ranged r.body j.verdict))
     ∷ (
       codes "version",
       option_map (λ entry. integer entry.version)

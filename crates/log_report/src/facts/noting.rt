@@ -1,12 +1,14 @@
 //! What is suspicious of a message on the documents before it.
 
-ghost use Rattle.std.specs.Prelude.{◌≡◌, IfOk, if◌then◌else◌, option_map, string_bytes, true};
+ghost use Rattle.std.specs.Prelude.{◌≡◌, ◌++◌, IfOk, OnOk, if◌then◌else◌, option_map, string_bytes, true};
 ghost use Rattle.serde_json.specs.View.{view};
 ghost use Rattle.lsp_message.specs.Lengths.{is_save};
 ghost use Rattle.lsp_message.specs.Message.{reading};
 ghost use Rattle.lsp_message.specs.Seen.{change_view};
 ghost use Rattle.lsp_server.specs.Seen.{incoming_view};
 ghost use Rattle.lsp_store.specs.Table.{entry_at};
+ghost use Rattle.log_report.specs.Growths.{odd_notes};
+ghost use Rattle.log_report.specs.Habits.{grown_in, odd_with};
 ghost use Rattle.log_report.specs.Lines.{named_in};
 ghost use Rattle.log_report.specs.Notes.{changing_notes, notes_if, notes_on, opening_notes};
 ghost use Rattle.log_report.specs.Notes.{terms_in};
@@ -18,6 +20,8 @@ ghost use Rattle.log_session.specs.inside.Verdicts.{verdict_view};
 
 use crate::facts::About;
 use crate::facts::asked::uri_of;
+use crate::growths::{Grown, Pace, grown_by};
+use crate::habits::Documents;
 use crate::lacks::{broken_params, lack_in};
 use crate::notes::Note;
 use crate::notes::changes::{Terms, push_batch_notes};
@@ -35,12 +39,14 @@ use std::alloc::{AllocError, Global};
 pub(super) fn about_of(
     alloc: Global,
     server: &Server,
+    documents: &Documents,
     ranged: bool,
     body: &[u8],
     read: &RecordBody<'_>,
 ) -> Result<About, AllocError>
     ensures { IfOk result (λ about. IsNotedOf true body.now read.now
-        → IsAbout server.now ranged (reading body.now) (body_view read.now) about) }
+        → IsAbout server.now documents.now.newest.items ranged (reading body.now)
+        (body_view read.now) about) }
 {
     let RecordBody::Client(_, incoming, noted) = read else {
         return Ok(About {
@@ -48,14 +54,19 @@ pub(super) fn about_of(
             named: None,
             notes: Vec::new(alloc),
             lack: None,
+            grown: None,
         });
     };
     let params = broken_params(alloc, body, incoming)?;
+    let grown = grown_in(server, documents, incoming);
+    let mut notes = notes_on(alloc, server, ranged, incoming, noted)?;
+    push_odd_note(&mut notes, documents, incoming, grown)?;
     Ok(About {
         uri: copied_text(alloc, uri_of(Sender::Client, incoming))?,
         named: copied_text(alloc, named_in(incoming, noted, params.as_ref()))?,
-        notes: notes_on(alloc, server, ranged, incoming, noted)?,
+        notes,
         lack: lack_in(incoming, params.as_ref()),
+        grown,
     })
 }
 
@@ -83,6 +94,52 @@ fn named_in<'a>(incoming: &Incoming, noted: &'a Noted, params: Option<&'a Value>
         }
         _ => None,
     }
+}
+
+/// Returns the version of a change and the one that was sent before, if that is lower.
+fn grown_in(server: &Server, documents: &Documents, incoming: &Incoming) -> Option<Grown>
+    ensures { result ≡ grown_in server.now documents.now.newest.items Sender.Client
+        (incoming_view incoming.now) }
+{
+    let Incoming::DidChange(Some(params)) = incoming else {
+        return None;
+    };
+    let document = server.store().get(&params.uri)?;
+    let before = documents.sent_after(&params.uri, document.version());
+    grown_by(params.version, before, params.changes.len())
+}
+
+/// Notes a version that breaks the habit of its document.
+fn push_odd_note(
+    notes: &mut Vec<Note>,
+    documents: &Documents,
+    incoming: &Incoming,
+    grown: Option<Grown>,
+) -> Result<(), AllocError>
+    ensures { OnOk result (notes.new.items ≡ notes.old.items
+        ++ odd_with documents.now.newest.items (incoming_view incoming.now) grown) }
+{
+    let Incoming::DidChange(Some(params)) = incoming else {
+        return Ok(());
+    };
+    push_odd(notes, documents.pace(&params.uri), grown)
+}
+
+fn push_odd(notes: &mut Vec<Note>, pace: Pace, grown: Option<Grown>) -> Result<(), AllocError>
+    ensures { OnOk result (notes.new.items ≡ notes.old.items ++ odd_notes pace grown) }
+{
+    let Some(grown) = grown else {
+        return Ok(());
+    };
+    if pace.is_odd(grown) {
+        notes.push(Note::OddVersion {
+            sent: grown.sent,
+            before: grown.before,
+            changes: grown.changes,
+            usual: pace.usual_step(),
+        })?;
+    }
+    Ok(())
 }
 
 /// Returns what there is to note of a message, unless it is refused.

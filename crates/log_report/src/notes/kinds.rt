@@ -13,6 +13,7 @@ pub fn note_kind(note: Note) -> &'static str
         Note::OpenAlready => "open already",
         Note::LoneReturn => "a CR alone",
         Note::OldVersion { .. } => "an old version",
+        Note::OddVersion { .. } => "an odd version",
         Note::NoChanges => "no changes",
         Note::WholeText { .. } => "a whole text",
         Note::PastEnd { sent, taken, .. } if sent.line == taken.line => "past the line's end",

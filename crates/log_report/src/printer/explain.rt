@@ -1,21 +1,21 @@
 //! `check` with reasons: what a server answers to each record of a log, why it was refused, and
 //! what is suspicious of it.
 
-ghost use Rattle.std.specs.Prelude.{◌≡◌, ◌++◌, ◌&&◌, not, IfOk, OnOk, codes, decimal, flat_map, option_map, true};
+ghost use Rattle.std.specs.Prelude.{◌≡◌, ◌++◌, IfOk, OnOk, codes, decimal, flat_map, option_map, true};
 ghost use Rattle.log_report.specs.Counts.{counts_words};
 ghost use Rattle.log_session.specs.Settings.{log_config};
 ghost use Rattle.log_report.specs.Lines.{lines, nothing_known};
 ghost use Rattle.log_session.specs.Session.{is_new, opened};
 ghost use Rattle.log_report.specs.Tallies.{tally_words};
-ghost use Rattle.log_report.specs.Explain.{advice, closing_lines, document_words, explaining, explanation, few_note, few_notes, first_advice};
+ghost use Rattle.log_report.specs.Explain.{advice, closing_lines, document_words, explaining, explanation, few_note, few_notes, first_advice, hidden_advice};
 ghost use Rattle.log_report.specs.Explain.{is_listed, left_words, line_with, listed_line, remark, see_words};
 ghost use Rattle.log_session.specs.inside.Printer.{state_in};
 ghost use Rattle.log_report.specs.inside.Facts.{facts_view, listed_by, noted_by};
 ghost use Rattle.log_session.specs.inside.Verdicts.{verdict_view};
 
 use crate::commands::explain::Listing;
-use crate::counts::Counts;
 use crate::counts::tallies::{Tally, add, count_of, has_tallies};
+use crate::counts::{Counts, Hidden};
 use crate::facts::{Facts, Known};
 use crate::members::{push_if, push_json_string, push_number, push_words};
 use crate::notes::Note;
@@ -100,18 +100,7 @@ impl Explain {
             self.known.strict_refusal,
             "Many servers don't refuse what is S1 or S5 here. `--lenient` doesn't either.\n",
         )?;
-        push_if(
-            buffer,
-            self.hides_notes(),
-            "Some notes are on no line: `--all` has each on its line.\n",
-        )
-    }
-
-    /// Returns whether a note is on no line.
-    fn hides_notes(&self) -> bool
-        ensures { result ≡ (not self.now.listing.all && self.now.known.counts.hides) }
-    {
-        !self.listing.all && self.known.counts.hides
+        push_hidden(buffer, self.listing.all, self.known.counts.hidden)
     }
 }
 
@@ -140,6 +129,22 @@ impl Printer for Explain {
         self.push_end(buffer)?;
         Ok(Some(self.session.outcome()))
     }
+}
+
+/// Writes which messages have notes that are on no line, if some do.
+fn push_hidden(buffer: &mut Vec<u8>, all: bool, hidden: Hidden) -> Result<(), AllocError>
+    ensures { OnOk result (buffer.new.items ≡ buffer.old.items ++ hidden_advice all hidden) }
+{
+    if all || hidden.count == 0 {
+        return Ok(());
+    }
+    push_words(buffer, "Messages with notes that are on no line: ")?;
+    push_number(buffer, hidden.count)?;
+    push_words(buffer, ", from ")?;
+    push_number(buffer, hidden.first)?;
+    push_words(buffer, " to ")?;
+    push_number(buffer, hidden.last)?;
+    push_words(buffer, "; `--all` has them.\n")
 }
 
 /// Returns the notes on the line of a record: those that aren't hidden, or each.

@@ -2,7 +2,7 @@
 
 ghost use Rattle.std.specs.Prelude.{◌≡◌, ◌++◌, OnOk, codes, decimal};
 ghost use Rattle.std.specs.Fmt.{signed_decimal};
-ghost use Rattle.log_report.specs.Notes.{note_words, notes_words, past_words, side_words};
+ghost use Rattle.log_report.specs.Notes.{changes_words, note_words, notes_words, past_words, side_words, usual_words};
 ghost use Rattle.log_report.specs.Reasons.{change_words, position_words};
 
 use crate::members::{push_number, push_signed, push_words};
@@ -35,6 +35,12 @@ fn push_note(buffer: &mut Vec<u8>, note: Note) -> Result<(), AllocError>
         Note::OpenAlready => push_words(buffer, "the document was open already"),
         Note::LoneReturn => push_words(buffer, "a CR alone ends a line, and an LF another"),
         Note::OldVersion { sent, current } => push_old_version(buffer, sent, current),
+        Note::OddVersion {
+            sent,
+            before,
+            changes,
+            usual,
+        } => push_odd_version(buffer, sent, before, changes, usual),
         Note::NoChanges => push_words(buffer, "it has no changes"),
         Note::WholeText { change } => {
             push_remark(
@@ -71,6 +77,56 @@ fn push_old_version(buffer: &mut Vec<u8>, sent: i32, current: i32) -> Result<(),
     push_signed(buffer, i64::from(sent))?;
     buffer.extend_from_slice(b" was sent, and the current one was ")?;
     push_signed(buffer, i64::from(current))
+}
+
+/// Writes a version, the one before it, how many changes it has, and what versions grew by before.
+fn push_odd_version(
+    buffer: &mut Vec<u8>,
+    sent: i32,
+    before: i32,
+    changes: usize,
+    usual: Option<u64>,
+) -> Result<(), AllocError>
+    ensures { OnOk result (buffer.new.items ≡ buffer.old.items
+        ++ note_words (Note.OddVersion sent before changes usual)) }
+{
+    push_came_after(buffer, sent, before)?;
+    push_words(buffer, ", with ")?;
+    push_changes(buffer, changes)?;
+    push_words(buffer, ", and until here it grew by ")?;
+    push_usual(buffer, usual)
+}
+
+fn push_came_after(buffer: &mut Vec<u8>, sent: i32, before: i32) -> Result<(), AllocError>
+    ensures { OnOk result (buffer.new.items ≡ buffer.old.items
+        ++ codes "version " ++ signed_decimal sent ++ codes " came after "
+        ++ signed_decimal before) }
+{
+    buffer.extend_from_slice(b"version ")?;
+    push_signed(buffer, i64::from(sent))?;
+    buffer.extend_from_slice(b" came after ")?;
+    push_signed(buffer, i64::from(before))
+}
+
+/// Writes how many changes there are.
+fn push_changes(buffer: &mut Vec<u8>, count: usize) -> Result<(), AllocError>
+    ensures { OnOk result (buffer.new.items ≡ buffer.old.items ++ changes_words count) }
+{
+    if count == 1 {
+        return push_words(buffer, "1 change");
+    }
+    push_number(buffer, count as u64)?;
+    push_words(buffer, " changes")
+}
+
+/// Writes what versions grew by: a number, else the number of changes.
+fn push_usual(buffer: &mut Vec<u8>, usual: Option<u64>) -> Result<(), AllocError>
+    ensures { OnOk result (buffer.new.items ≡ buffer.old.items ++ usual_words usual) }
+{
+    match usual {
+        Some(step) => push_number(buffer, step),
+        None => push_words(buffer, "the number of changes"),
+    }
 }
 
 /// Writes that an end of a change's range is past an end, and what it is taken as.

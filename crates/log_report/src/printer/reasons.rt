@@ -146,6 +146,9 @@ fn hint_words(hint: Option<Hint>) -> &'static str
     match hint {
         None => "",
         Some(Hint::Renamed) => "; its editor may have renamed a document that was open",
+        Some(Hint::Swapped) => {
+            "; the one that was sent was left out before: messages were swapped"
+        }
         Some(Hint::Lacks(lack)) => lack_words(lack),
     }
 }

@@ -164,6 +164,9 @@ fn whole_texts_are_noted_where_ranges_were_asked_for(rt: HostRuntime) -> Result<
 const LENIENT: &str =
     "1 reply\n2 changed\n3 changed of \"file:///a\": the document was open already\n4 changed\n5 changed of \"file:///a\": version 2 was sent, and the current one was 2\nmessages of the editor: 5, changed documents: 4\nnoted open already: 1, first message 3\nnoted an old version: 1, first message 5\nnoted changes nothing: 1, first message 5\n";
 
+const LENIENT_HIDDEN: &str =
+    "Messages with notes that are on no line: 1, from 5 to 5; `--all` has them.\n";
+
 /// Returns whether what lenient limits accept is noted.
 fn is_accepted(alloc: Global) -> Result<bool, Fail> {
     let settings = settings()?;
@@ -173,7 +176,7 @@ fn is_accepted(alloc: Global) -> Result<bool, Fail> {
     };
     let input = log(alloc, &[INITIALIZE, OPEN, OPEN, WHOLE, WHOLE])?;
     let run = run_with(alloc, Command::Explain, &input, settings, SMOOTH)?;
-    let output = format!(in alloc; "{LENIENT}{SEE}{HIDDEN}")?;
+    let output = format!(in alloc; "{LENIENT}{SEE}{LENIENT_HIDDEN}")?;
     Ok(run.answer == Ended(0, 5, 0).answer() && run.output.as_slice() == output.as_bytes())
 }
 
@@ -198,7 +201,7 @@ static SAME: [&str; 6] = [
 const SAME_COUNTED: &str =
     "messages of the editor: 6, changed documents: 5\nnoted a CR alone: 1, first message 2\nnoted changes nothing: 3, first message 4\nNothing was refused; see the notes. `lspsync replay --at N`: the texts after message N.\n";
 
-const HIDDEN: &str = "Some notes are on no line: `--all` has each on its line.\n";
+const HIDDEN: &str = "Messages with notes that are on no line: 3, from 4 to 6; `--all` has them.\n";
 
 /// What `check` with reasons writes of this session: without the notes that changes change nothing,
 /// with each note, and only lines with a reason or notes.
@@ -389,5 +392,179 @@ fn has_few_notes(alloc: Global) -> Result<bool, Fail> {
 #[test]
 fn a_line_has_few_notes_of_a_kind(rt: HostRuntime) -> Result<(), Fail> {
     assert!(rt; has_few_notes(rt.alloc())?);
+    Ok(())
+}
+
+/// The whole text is a character of two units; then a change is inside of it.
+const EMOJI: &str = r#"{"text":"😀"}"#;
+
+const INSIDE: &str =
+    r#"{"range":{"start":{"line":0,"character":1},"end":{"line":0,"character":1}},"text":""}"#;
+
+const TWICE: &str = r#"{"text":""},{"text":"😀"}"#;
+
+/// The versions of changes after an opening with version 1, and the first lines of what
+/// `check --brief` writes. Where 5 comes after 2, versions 3 and 4 were left out. A version that was
+/// refused was not.
+static VERSIONS: [(&[(i32, &str)], &str); 7] = [
+    (
+        &[(2, EMOJI), (5, EMOJI), (3, EMOJI), (4, EMOJI)],
+        "5 refused S5 of \"file:///a\": version 3 was sent, and the current one is 5; the one that was sent was left out before: messages were swapped; see message 4\n6 refused S5 of \"file:///a\": version 4 was sent, and the current one is 5; the one that was sent was left out before: messages were swapped; see message 4\nmessages of the editor: 6, changed documents: 3\nrefused by S5: 2, first message 5\nnoted changes nothing: 1, first message 4\nRefused messages change nothing. `lspsync replay --at N`: the texts after message N.\nMessages with notes",
+    ),
+    (
+        &[(2, EMOJI), (5, EMOJI), (2, EMOJI)],
+        "5 refused S5 of \"file:///a\": version 2 was sent, and the current one is 5; see message 4\n",
+    ),
+    (
+        &[(6, EMOJI), (7, INSIDE), (8, EMOJI), (7, EMOJI)],
+        "4 refused E1 of \"file:///a\": change 1 starts at line 0, character 1, inside a character; see message 2\n6 refused S5 of \"file:///a\": version 7 was sent, and the current one is 8; see message 5\n",
+    ),
+    // Versions grow by one, and 9 after 6 breaks that: so short a habit is over. They grow by the number
+    // of changes, and 11 after 9 breaks that.
+    (
+        &[
+            (2, EMOJI),
+            (3, EMOJI),
+            (4, EMOJI),
+            (5, EMOJI),
+            (6, EMOJI),
+            (9, EMOJI),
+            (12, EMOJI),
+        ],
+        "8 changed of \"file:///a\": version 9 came after 6, with 1 change, and until here it grew by 1\nmessages of the editor: 9, changed documents: 8\nnoted changes nothing: 6, first message 4\nnoted an odd version: 1, first message 8\n",
+    ),
+    (
+        &[
+            (3, TWICE),
+            (5, TWICE),
+            (6, EMOJI),
+            (8, TWICE),
+            (9, EMOJI),
+            (11, EMOJI),
+        ],
+        "8 changed of \"file:///a\": version 11 came after 9, with 1 change, and until here it grew by the number of changes\n",
+    ),
+    // The first four changes have no habit, and a refused version is one that was sent.
+    (
+        &[(2, EMOJI), (3, EMOJI), (4, EMOJI), (6, EMOJI)],
+        "messages of the editor: 6, changed documents: 5\n",
+    ),
+    (
+        &[
+            (2, EMOJI),
+            (3, EMOJI),
+            (4, EMOJI),
+            (5, EMOJI),
+            (6, INSIDE),
+            (7, EMOJI),
+        ],
+        "7 refused E1 of \"file:///a\": change 1 starts at line 0, character 1, inside a character; see message 2\nmessages of the editor: 8,",
+    ),
+];
+
+/// Returns whether `check --brief` writes these lines of changes with these versions.
+fn has_versions(alloc: Global, versions: &[(i32, &str)], lines: &str) -> Result<bool, Fail> {
+    let mut input = log(alloc, &[INITIALIZE, OPEN])?;
+    for (version, changes) in versions {
+        let changed = change(alloc, *version, changes)?;
+        input.extend_from_slice(&frame(alloc, changed.as_bytes())?)?;
+    }
+    let run = run_with(alloc, Command::Brief, &input, settings()?, SMOOTH)?;
+    Ok(run.output.starts_with(lines.as_bytes()))
+}
+
+#[test]
+fn versions_that_were_left_out_or_break_a_habit_are_called_that(
+    rt: HostRuntime,
+) -> Result<(), Fail> {
+    for (versions, lines) in &VERSIONS {
+        assert!(rt; has_versions(rt.alloc(), versions, lines)?, "at {lines}");
+    }
+    Ok(())
+}
+
+/// Appends changes of the document with this name, one for each version.
+fn push_versions(
+    alloc: Global,
+    input: &mut Vec<u8>,
+    name: &str,
+    versions: &[i32],
+) -> Result<(), Fail> {
+    for version in versions {
+        let body = format!(in alloc;
+            r#"{{"jsonrpc":"2.0","method":"textDocument/didChange","params":{{"contentChanges":[{{"text":"x"}}],"textDocument":{{"uri":"file:///{name}","version":{version}}}}}}}"#
+        )?;
+        input.extend_from_slice(&frame(alloc, body.as_bytes())?)?;
+    }
+    Ok(())
+}
+
+/// What `check --brief` writes first where `b` sends version 3 again, `a` one that was left out, and
+/// once `a` was opened anew one that wasn't.
+const LATE_VERSIONS: &str =
+    "9 refused S5 of \"file:///b\": version 3 was sent, and the current one is 4; see message 8\n10 refused S5 of \"file:///a\": version 3 was sent, and the current one is 5; the one that was sent was left out before: messages were swapped; see message 5\n16 refused S5 of \"file:///a\": version 3 was sent, and the current one is 4; see message 15\n";
+
+/// Returns whether versions are left out of one document, until it is closed.
+fn are_left_out_of_one(alloc: Global) -> Result<bool, Fail> {
+    let mut input = log(alloc, &[INITIALIZE, OPEN, OTHER[0]])?;
+    push_versions(alloc, &mut input, "a", &[2, 5])?;
+    push_versions(alloc, &mut input, "b", &[2, 3, 4, 3])?;
+    push_versions(alloc, &mut input, "a", &[3])?;
+    input.extend_from_slice(&log(alloc, &[CLOSE, OPEN])?)?;
+    push_versions(alloc, &mut input, "a", &[2, 3, 4, 3])?;
+    let run = run_with(alloc, Command::Brief, &input, settings()?, SMOOTH)?;
+    Ok(run.output.starts_with(LATE_VERSIONS.as_bytes()))
+}
+
+/// Versions after 1 that grow by one, but for two.
+static BROKEN: [i32; 19] = [
+    2, 3, 4, 5, 6, 7, 8, 9, 10, 11, 12, 13, 14, 15, 16, 17, 20, 21, 25,
+];
+
+const BROKEN_TWICE: &str =
+    "19 changed of \"file:///a\": version 20 came after 17, with 1 change, and until here it grew by 1\n21 changed of \"file:///a\": version 25 came after 21, with 1 change, and until here it grew by 1\nmessages of the editor: 21,";
+
+/// Returns whether a habit of sixteen changes that one breaks is still a habit.
+fn outlives_a_break(alloc: Global) -> Result<bool, Fail> {
+    let mut input = log(alloc, &[INITIALIZE, OPEN])?;
+    push_versions(alloc, &mut input, "a", &BROKEN)?;
+    let run = run_with(alloc, Command::Brief, &input, settings()?, SMOOTH)?;
+    Ok(run.output.starts_with(BROKEN_TWICE.as_bytes()))
+}
+
+#[test]
+fn versions_are_those_of_one_document_and_a_long_habit_outlives_a_break(
+    rt: HostRuntime,
+) -> Result<(), Fail> {
+    assert!(rt; are_left_out_of_one(rt.alloc())?);
+    assert!(rt; outlives_a_break(rt.alloc())?);
+    Ok(())
+}
+
+/// Five changes of a document have a note, and then one of another document.
+const HABIT: &str =
+    "3 changed of \"file:///a\": it has no changes\n4 changed of \"file:///a\": it has no changes\n5 changed of \"file:///a\": it has no changes\n9 changed of \"file:///b\": it has no changes\nmessages of the editor: 9, changed documents: 8\nnoted no changes: 6, first message 3\nNothing was refused; see the notes. `lspsync replay --at N`: the texts after message N.\nMessages with notes that are on no line: 2, from 6 to 7; `--all` has them.\n";
+
+/// Returns whether what often comes of one document is still on a line of another.
+fn has_habits(alloc: Global) -> Result<bool, Fail> {
+    let mut input = log(alloc, &[INITIALIZE, OPEN])?;
+    for version in [2, 3, 4, 5, 6] {
+        let changed = change(alloc, version, "")?;
+        input.extend_from_slice(&frame(alloc, changed.as_bytes())?)?;
+    }
+    input.extend_from_slice(&log(alloc, &OTHER)?)?;
+    let run = run_with(alloc, Command::Brief, &input, settings()?, SMOOTH)?;
+    Ok(run.output.as_slice() == HABIT.as_bytes())
+}
+
+/// The other document.
+static OTHER: [&str; 2] = [
+    r#"{"jsonrpc":"2.0","method":"textDocument/didOpen","params":{"textDocument":{"languageId":"c","text":"","uri":"file:///b","version":1}}}"#,
+    r#"{"jsonrpc":"2.0","method":"textDocument/didChange","params":{"contentChanges":[],"textDocument":{"uri":"file:///b","version":2}}}"#,
+];
+
+#[test]
+fn a_habit_is_one_of_a_document(rt: HostRuntime) -> Result<(), Fail> {
+    assert!(rt; has_habits(rt.alloc())?);
     Ok(())
 }

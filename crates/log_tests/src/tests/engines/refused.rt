@@ -193,9 +193,9 @@ static RUNS: [Wanted; 17] = [
             "1 reply\n",
             "2 changed\n",
             "3 changed of \"file:///a\": change 2 starts at line 1, character 0, past the last line (taken as line 0, character 3)\n",
-            "messages of the editor: 3, changed documents: 2\nnoted changes nothing: 1, first message 3\nnoted past the last line: 1, first message 3\nNothing was refused; see the notes. `lspsync replay --at N`: the texts after message N.\nSome notes are on no line: `--all` has each on its line.\n",
+            "messages of the editor: 3, changed documents: 2\nnoted changes nothing: 1, first message 3\nnoted past the last line: 1, first message 3\nNothing was refused; see the notes. `lspsync replay --at N`: the texts after message N.\nMessages with notes that are on no line: 1, from 3 to 3; `--all` has them.\n",
         ],
-        lengths: &[8, 18, 134, 414],
+        lengths: &[8, 18, 134, 432],
         end: Ended(0, 3, 0),
     },
     // A text is saved that isn't the document's.

@@ -4,7 +4,7 @@ use Rattle.log_report.proofs.facts.Known.take.Goals as goal
 
 pub returns-clause-facts : goal.returns-clause-facts
 returns-clause-facts g c =
-    let about = rw (c.server.ensures, ap (λ k. k.ranged) c.self.view_is) at
+    let about = rw (c.server.ensures, ap (λ k. k.documents) c.self.view_is, ap (λ k. k.ranged) c.self.view_is) at
     (c.in_ok-about.ensures c.requires.noted) in
     let taken = c.in_ok-taken.ensures c.args.item.now.head c.args.item.now.body.now c.requires.is_read in
     facts_are c.args.self.now c.args.session.now c.args.item.now.head c.args.item.now.body.now
@@ -14,7 +14,7 @@ returns-clause-facts g c =
 
 pub returns-clause-known : goal.returns-clause-known
 returns-clause-known g c =
-    let about = rw (c.server.ensures, ap (λ k. k.ranged) c.self.view_is) at
+    let about = rw (c.server.ensures, ap (λ k. k.documents) c.self.view_is, ap (λ k. k.ranged) c.self.view_is) at
     (c.in_ok-about.ensures c.requires.noted) in
     let taken = c.in_ok-taken.ensures c.args.item.now.head c.args.item.now.body.now c.requires.is_read in
     known_is c.args.self.now c.args.session.now c.args.item.now.head c.args.item.now.body.now

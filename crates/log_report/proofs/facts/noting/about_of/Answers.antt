@@ -1,9 +1,10 @@
-use Rattle.log_report.proofs.Prelude.{◌≡◌, ℕ, Bool, true, false, List, [], Option, Some, None, option_and_then, option_map, refl, rules, ap, ap₂, ◌∙◌, if◌then◌else◌, Reading, reading, IncomingData, did_change, did_close, did_open, other_notification, ServerData, Client, is_save, lengths_of, named_in, notification_params, notes_on}
+use Rattle.log_report.proofs.Prelude.{◌≡◌, ◌++◌, ℕ, Bool, true, false, List, [], Option, Some, None, option_and_then, option_map, refl, rules, ap, ap₂, ◌∙◌, if◌then◌else◌, Reading, reading, IncomingData, did_change, did_close, did_open, other_notification, ServerData, Client, is_save, lengths_of, named_in, notification_params, notes_on}
 use Rattle.serde_json.specs.Data.{Data}
 use Rattle.serde_json.specs.View.{view}
 use Rattle.lsp_message.specs.Lengths.{lengths_noted, params_noted}
 use Rattle.lsp_server.specs.Seen.{incoming_view}
 use Rattle.lsp_store.specs.Table.{entry_at}
+use Rattle.log_report.specs.Habits.{odd_with}
 use Rattle.log_report.specs.Lacks.{lack_in}
 use Rattle.log_report.specs.Notes.{saved_notes, saved_text, saved_uri}
 use Rattle.log_report.specs.inside.Lacks.{is_broken}
@@ -60,18 +61,20 @@ returns c = λ given.
     let read = rw c.in-Client.is at given in
     let m = incoming_view c.in-Client.incoming in
     let first : option_map (λ params. view params.now) c.as_ref.result ≡ broken m (reading body) =
-        search rules ∙ c.in_ok-params.ensures in
+    search rules ∙ c.in_ok-params.ensures in
     let second : option_map (λ params. view params.now) c.as_ref-2.result ≡ broken m (reading body) =
-        search rules ∙ c.in_ok-params.ensures in
+    search rules ∙ c.in_ok-params.ensures in
     rw c.in-Client.is (record {
       uri = c.in_ok-copied_text.ensures ∙ c.uri_of.ensures;
       named = c.in_ok-copied_text-2.ensures ∙ c.named_in.ensures
           ∙ ap₂ (λ (again noted : Option Data). named_in Client m (if is_broken m then again else noted))
           first read.params
           ∙ named_same m (reading body);
-      notes = c.in_ok-notes_on.ensures
+      notes = c.in_ok-push_odd_note.ensures ∙ ap₂ ◌++◌ (c.in_ok-notes.ensures
           ∙ ap₂ (λ (lengths : List (Option ℕ)) (params : Option Data). notes_on c.args.server.now c.args.ranged lengths
           params m) read.lengths read.params
-          ∙ notes_same c.args.server.now c.args.ranged m (reading body);
+          ∙ notes_same c.args.server.now c.args.ranged m (reading body))
+          (ap (odd_with c.args.documents.now.newest.items m) c.grown_in-grown.ensures);
       lack = c.lack_in.ensures ∙ ap (lack_in Client m) second ∙ lack_same m (reading body);
+      grown = c.grown_in-grown.ensures;
     })

@@ -2,7 +2,6 @@ use Rattle.log_report.proofs.Prelude.{[], ap, refl, ◌∙◌, comparing, readin
 use Rattle.log_report.specs.Compare.{closed_text, if_ends_so, splices_in}
 use Rattle.log_session.proofs.Records.OutputLemmas.{output_after, unless_not}
 use Rattle.log_session.specs.Session.{Session, Verdict}
-use Rattle.log_session.specs.inside.Bodies.{body_view}
 use Rattle.log_session.specs.inside.Verdicts.{verdict_view}
 use Rattle.log_report.proofs.Reports.CompareLemmas.{learned_at, learned_read}
 use Rattle.log_report.proofs.printer.compare.ComparePrinter.print.Goals as goal

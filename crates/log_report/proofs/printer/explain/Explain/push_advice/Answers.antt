@@ -1,4 +1,4 @@
-use Rattle.log_report.proofs.Prelude.{rules, ℕ, List, Bool, subst, ◌≡◌, ◌++◌, ◌&&◌, not}
+use Rattle.log_report.proofs.Prelude.{rules, ℕ, List, Bool, subst, ◌≡◌, ◌++◌}
 use Rattle.log_report.specs.Explain.{first_advice, hidden_advice, lenient_advice}
 use Rattle.log_report.specs.Tallies.{has_tallies}
 use Rattle.log_report.proofs.Reports.MemberLemmas.{three_words}
@@ -13,7 +13,7 @@ returns c =
     let s = c.args.self.now.session in
     let advice = first_advice s.server.phase s.refusals (has_tallies known.counts.noted) in
     let first : c.push_words.new.buffer.items ≡ c.args.buffer.now.items ++ advice = search rules in
-    three_words c.push_if-2.result _ c.args.buffer.now.items _ _ advice (lenient_advice known.strict_refusal)
-    (hidden_advice (not c.args.self.now.listing.all && known.counts.hides)) first
+    three_words c.push_hidden.result _ c.args.buffer.now.items _ _ advice (lenient_advice known.strict_refusal)
+    (hidden_advice c.args.self.now.listing.all known.counts.hidden) first
     (advised c.push_words.new.buffer.items c.push_if.new.buffer.items c.in_ok-push_if.ensures (search rules))
-    (rw c.hides_notes.ensures at c.push_if-2.ensures)
+    (search rules)
