@@ -5,6 +5,7 @@ import json
 import math
 import operator
 import re
+import unicodedata
 
 from .values import NONE, CannotRun, apply, case, codes_of, equal, joined, list_of, some, text_of, utf8
 
@@ -185,6 +186,9 @@ LIBRARY = {
     "Characters and bytes": {
         "codes": (1, lambda text: text), "chars": (1, chars), "encode_utf8_all": (1, lambda xs: list_of(text_of(xs).encode())),
         "encode_utf8": (1, lambda c: list_of(chr(c).encode())), "len_utf8": (1, lambda c: 1 + (c > 0x7f) + (c > 0x7ff) + (c > 0xffff)),
+        "is_control": (1, lambda c: unicodedata.category(chr(c)) == "Cc"), "is_in_range": (3, lambda low, high, c: low <= c <= high),
+        "is_whitespace": (1, lambda c: chr(c).isspace() and not 0x1c <= c <= 0x1f),
+        "escape_unicode": (1, lambda c: codes_of("\\u{%x}" % c)),
         "is_utf8": (1, lambda data: bytes(data).decode(errors="replace").encode() == bytes(data)), "bytes_eq": (2, equal),
         "str_eq_ignore_ascii_case": (2, lambda a, b: bytes(a).lower() == bytes(b).lower()),
         "string_bytes": (1, lambda text: text), "quoted": (1, quoted), "percent_decode": (1, percent_decode),

@@ -1,11 +1,12 @@
 -- A line, with what can't be seen in it.
-use Rattle.std.specs.Prelude.{ℕ, ◌-◌, Bool, nat_lt, ◌==◌, if◌then◌else◌, length, drop, take, List, [], Option, Some, None, ◌++◌, codes, flat_map}
+use Rattle.std.specs.Prelude.{ℕ, ◌-◌, Bool, not, nat_lt, ◌&&◌, ◌||◌, ◌==◌, if◌then◌else◌, length, drop, take, List, [], Option, Some, None, ◌++◌, codes, flat_map}
 use Rattle.std.specs.Option.{unwrap_or}
-use Rattle.std.specs.Char.{encode_utf8}
-use Rattle.std.specs.Str.{chars}
+use Rattle.std.specs.Char.{encode_utf8, is_control, is_whitespace}
+use Rattle.std.specs.Char.Escape.{escape_unicode}
+use Rattle.std.specs.Int.{is_in_range}
+use Rattle.std.specs.Str.{chars, encode_utf8_all}
 
--- What stands for a character that can't be seen or that a string escapes: line ends and tabs, two
--- signs, some controls, and blanks and marks of Unicode. Nothing stands for others.
+-- The short escape of a character in a string. Most have none.
 unfoldable pub sign_of : ℕ → Option (List ℕ)
 sign_of character =
     if character == 10 then Some (codes "\\n")
@@ -14,19 +15,28 @@ sign_of character =
     else if character == 34 then Some (codes "\\\"")
     else if character == 92 then Some (codes "\\\\")
     else if character == 0 then Some (codes "\\0")
-    else if character == 12 then Some (codes "\\u{c}")
-    else if character == 27 then Some (codes "\\u{1b}")
-    else if character == 0xa0 then Some (codes "\\u{a0}")
-    else if character == 0xad then Some (codes "\\u{ad}")
-    else if character == 0x200b then Some (codes "\\u{200b}")
-    else if character == 0x2028 then Some (codes "\\u{2028}")
-    else if character == 0x3000 then Some (codes "\\u{3000}")
-    else if character == 0xfeff then Some (codes "\\u{feff}")
     else None
 
--- A character, or what stands for it.
+-- Is a character one that Unicode calls default ignorable, the empty pattern of Braille, or a format
+-- character of annotations or of hieroglyphs?
+unfoldable pub is_ignorable : ℕ → Bool
+is_ignorable c =
+    c == 0xad || c == 0x34f || c == 0x61c || is_in_range 0x115f 0x1160 c
+    || is_in_range 0x17b4 0x17b5 c || is_in_range 0x180b 0x180f c || is_in_range 0x200b 0x200f c
+    || is_in_range 0x202a 0x202e c || is_in_range 0x2060 0x206f c || c == 0x2800 || c == 0x3164
+    || is_in_range 0xfe00 0xfe0f c || c == 0xfeff || c == 0xffa0 || is_in_range 0xfff0 0xfffb c
+    || is_in_range 0x13430 0x1343f c || is_in_range 0x1bca0 0x1bca3 c
+    || is_in_range 0x1d173 0x1d17a c || is_in_range 0xe0000 0xe0fff c
+
+-- Does a character show nothing but a gap, turn text around or control a terminal? The space
+-- doesn't count.
+unfoldable pub is_unseen : ℕ → Bool
+is_unseen c = not (c == 32) && (is_control c || is_whitespace c || is_ignorable c)
+
+-- A character, or the escape that stands for it: a short one, or its number, as in `\u{a0}`.
 unfoldable pub shown_char : ℕ → List ℕ
-shown_char character = unwrap_or (sign_of character) (encode_utf8 character)
+shown_char character = unwrap_or (sign_of character)
+    (if is_unseen character then encode_utf8_all (escape_unicode character) else encode_utf8 character)
 
 -- Characters in quotes, with what can't be seen in them.
 abbrev pub quoted : List ℕ → List ℕ

@@ -1,9 +1,11 @@
 //! A line, with what can't be seen in it.
 
 ghost use Rattle.std.specs.Prelude.{◌≡◌, ◌≤◌, ◌++◌, IfOk, OnOk, drop, flat_map, length, option_map, take};
-ghost use Rattle.std.specs.Str.{chars};
+ghost use Rattle.std.specs.Char.{encode_utf8};
+ghost use Rattle.std.specs.Char.Escape.{escape_unicode};
+ghost use Rattle.std.specs.Str.{chars, encode_utf8_all};
 ghost use Rattle.line_diff.specs.Common.{common_front};
-ghost use Rattle.line_diff.specs.Shown.{dots, quoted, shown, shown_around, shown_char, shown_part, sign_of};
+ghost use Rattle.line_diff.specs.Shown.{dots, is_ignorable, is_unseen, quoted, shown, shown_around, shown_char, shown_part, sign_of};
 
 use std::alloc::{AllocError, Global};
 
@@ -15,7 +17,7 @@ const BEFORE: usize = 40;
 
 const SHOWN: usize = 160;
 
-/// Returns what stands for a character that can't be seen or that a string escapes.
+/// Returns the short escape of a character in a string, if it has one.
 #[tactic(auto, unfolding(crate::specs::Shown::sign_of))]
 fn sign_of(character: char) -> Option<&'static str>
     ensures { option_map (λ sign. sign.now) result ≡ sign_of character }
@@ -27,28 +29,75 @@ fn sign_of(character: char) -> Option<&'static str>
         '"' => Some("\\\""),
         '\\' => Some("\\\\"),
         '\0' => Some("\\0"),
-        '\u{c}' => Some("\\u{c}"),
-        '\u{1b}' => Some("\\u{1b}"),
-        '\u{a0}' => Some("\\u{a0}"),
-        '\u{ad}' => Some("\\u{ad}"),
-        '\u{200b}' => Some("\\u{200b}"),
-        '\u{2028}' => Some("\\u{2028}"),
-        '\u{3000}' => Some("\\u{3000}"),
-        '\u{feff}' => Some("\\u{feff}"),
         _ => None,
     }
 }
 
-/// Writes a character, or what stands for it.
+/// Returns whether a character that is neither a control nor white space shows nothing by itself.
+#[tactic(auto, unfolding(crate::specs::Shown::is_ignorable))]
+fn is_ignorable(character: char) -> bool
+    ensures { result ≡ is_ignorable character }
+{
+    matches!(
+        character,
+        '\u{ad}'
+            | '\u{34f}'
+            | '\u{61c}'
+            | '\u{115f}'..='\u{1160}'
+            | '\u{17b4}'..='\u{17b5}'
+            | '\u{180b}'..='\u{180f}'
+            | '\u{200b}'..='\u{200f}'
+            | '\u{202a}'..='\u{202e}'
+            | '\u{2060}'..='\u{206f}'
+            | '\u{2800}'
+            | '\u{3164}'
+            | '\u{fe00}'..='\u{fe0f}'
+            | '\u{feff}'
+            | '\u{ffa0}'
+            | '\u{fff0}'..='\u{fffb}'
+            | '\u{13430}'..='\u{1343f}'
+            | '\u{1bca0}'..='\u{1bca3}'
+            | '\u{1d173}'..='\u{1d17a}'
+            | '\u{e0000}'..='\u{e0fff}'
+    )
+}
+
+/// Returns whether a character shows nothing but a gap, turns text around or controls a terminal.
+#[tactic(auto, unfolding(crate::specs::Shown::is_unseen))]
+fn is_unseen(character: char) -> bool
+    ensures { result ≡ is_unseen character }
+{
+    character != ' '
+        && (character.is_control() || character.is_whitespace() || is_ignorable(character))
+}
+
+/// Writes a character itself.
+fn push_plain(buffer: &mut Vec<u8>, character: char) -> Result<(), AllocError>
+    ensures { OnOk result (buffer.new.items ≡ buffer.old.items ++ encode_utf8 character) }
+{
+    let mut units = [0; 4];
+    buffer.extend_from_slice(character.encode_utf8(&mut units).as_bytes())
+}
+
+/// Writes the number of a character, as in `\u{a0}`.
+fn push_number_escape(buffer: &mut Vec<u8>, character: char) -> Result<(), AllocError>
+    ensures { OnOk result
+        (buffer.new.items ≡ buffer.old.items ++ encode_utf8_all (escape_unicode character)) }
+{
+    for each in character.escape_unicode() {
+        push_plain(buffer, each)?;
+    }
+    Ok(())
+}
+
+/// Writes a character, or the escape that stands for it.
 fn push_character(buffer: &mut Vec<u8>, character: char) -> Result<(), AllocError>
     ensures { OnOk result (buffer.new.items ≡ buffer.old.items ++ shown_char character) }
 {
     match sign_of(character) {
         Some(sign) => buffer.extend_from_slice(sign.as_bytes()),
-        None => {
-            let mut units = [0; 4];
-            buffer.extend_from_slice(character.encode_utf8(&mut units).as_bytes())
-        }
+        None if is_unseen(character) => push_number_escape(buffer, character),
+        None => push_plain(buffer, character),
     }
 }
 

@@ -8,4 +8,8 @@ returns-in-Some c = rw (← c.sign_of.ensures, c.in-Some.is) (search rules)
 
 pub returns-in-None : goal.returns-in-None
 unfolding shown_char
-returns-in-None c = rw (← c.sign_of.ensures, c.in-None.is) (search rules)
+returns-in-None c = rw (← c.sign_of.ensures, c.in-None.is, ← c.is_unseen.ensures, c.if-is_unseen.true) (search rules)
+
+pub returns-in-None-2 : goal.returns-in-None-2
+unfolding shown_char
+returns-in-None-2 c = rw (← c.sign_of.ensures, c.in-None.is, ← c.is_unseen.ensures, c.if-is_unseen.false) (search rules)

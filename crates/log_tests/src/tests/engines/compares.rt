@@ -34,7 +34,7 @@ const ANOTHER: &str =
     r#"{"jsonrpc":"2.0","method":"textDocument/didOpen","params":{"textDocument":{"languageId":"c","text":"","uri":"file:///b","version":1}}}"#;
 
 /// The session, the file, the end, and what is written.
-static ROWS: [(&[&str], &str, End, &str); 16] = [
+static ROWS: [(&[&str], &str, End, &str); 17] = [
     (
         &[INITIALIZE, OPEN, WHOLE],
         "aXc",
@@ -128,6 +128,13 @@ static ROWS: [(&[&str], &str, End, &str); 16] = [
         "abcxxxxxxxxxxxxxxxxxxxxxxxxxxxxxxxxxxxxxxxxxxxxxxxxxxxxxxxxxxxxxxxxxxxxxxxxxxxxxxxxxxxxxxxxxxxxxxxxxxxxxxxxxxxxxxxxxxxxxxxxxxxxxxxxxxxxxxxxxxxxxxxxxxxxxxxxxxxxxxxxxxxxxxxxxxxxxxxxxxxxxxxxxxxxxxxxxxxxxxxxxxxxxxxxxx",
         Ended(1, 2, 0),
         "\"file:///a\" after message 2: the text is not the file's:\nline 1 (made by message 2): \"abc\"\n  the file, which differs from character 4 on, has: \"abcxxxxxxxxxxxxxxxxxxxxxxxxxxxxxxxxxxxxxxxxxxxxxxxxxxxxxxxxxxxxxxxxxxxxxxxxxxxxxxxxxxxxxxxxxxxxxxxxxxxxxxxxxxxxxxxxxxxxxxxxxxxxxxxxxxxxxxxxxxxxxxxxxxxxxxxxxxxxx\"..\nFor each line, a message named is wrong, a later one is missing or wrong, or an earlier mistake led it to the wrong line. Look at the lowest numbers after the opening first.\n",
+    ),
+    // What can't be seen, turns text around or controls a terminal is escaped.
+    (
+        &[INITIALIZE, OPEN],
+        "\u{b}\u{9b}\u{2009}\u{202e}\u{2069}\u{fe0f}\u{e0020}é",
+        Ended(1, 2, 0),
+        "\"file:///a\" after message 2: the text is not the file's:\nline 1 (made by message 2): \"abc\"\n  the file has: \"\\u{b}\\u{9b}\\u{2009}\\u{202e}\\u{2069}\\u{fe0f}\\u{e0020}é\"\nFor each line, a message named is wrong, a later one is missing or wrong, or an earlier mistake led it to the wrong line. Look at the lowest numbers after the opening first.\n",
     ),
     (
         &[INITIALIZE, OPEN, OTHER],
