@@ -21,7 +21,7 @@ module _ (farthest start other_start : ℕ) (lines others : List (List ℕ)) whe
 
   pub last_left : (n m steps : ℕ) → length lines ≡ n → length others ≡ m
       → (steps ≡ 0) ⊎ (None ≡ next_gap farthest (drop start lines) (drop other_start others))
-      → hunk_of start other_start (record { lines = n - start; others = m - other_start })
+      → hunk_of start other_start (record { lines = n - start; others = m - other_start; agreed = 0 })
       ≡ hunks_from steps farthest start other_start (drop start lines) (drop other_start others)
   last_left n m zero lines_are others_are why =
       rw (← lines_are, ← others_are, length-drop start lines, length-drop other_start others) refl

@@ -6,7 +6,7 @@ pub use Rattle.std.proofs.lemmas.List.{at_drop_more, drop-drop, drop-map, drop_m
 pub use Rattle.std.specs.List.{between}
 pub use Rattle.std.specs.Prelude.{codes, drop, false, flat_map, length, map, not, slice_get, take, ◌++◌, ◌-◌, ◌==◌, ◌≡◌, ◌≤◌}
 pub use Rattle.line_diff.specs.Common.{are_equal, common_back, common_front, differ_at, differ_back_at, first_with}
-pub use Rattle.line_diff.specs.Hunks.{first_found, gap_at, gap_of, hunk_of, hunks_from, hunks_of, next_gap}
+pub use Rattle.line_diff.specs.Hunks.{agreed, best_from, best_gap, better, differ_from, first_found, gap_at, gap_of, hunk_of, hunks_from, hunks_of, next_gap}
 pub use Rattle.line_diff.specs.Lines.{ends_line, lines_begun, lines_of}
 pub use Rattle.line_diff.specs.Makers.{greatest, rows_of, seconds, with_numbers}
 pub use Rattle.line_diff.specs.Repeats.{numbers_in, numbers_of, row_numbers, stacked}

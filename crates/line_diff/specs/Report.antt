@@ -113,7 +113,8 @@ hunk_words sides hunk =
 abbrev pub last_words : List ℕ
 last_words = codes "For each line, a message named is wrong, a later one is missing or wrong, or an earlier mistake led it to the wrong line. Look at the lowest numbers after the opening first.\n"
 
--- How they differ, line by line. The next common line is sought in 2,000 lines of both.
+-- How they differ, line by line. Lines that agree are sought where fewer than 2,000 of each text come
+-- before them.
 unfoldable pub difference_words : List ℕ → List (List ℕ) → List (List ℕ) → List ℕ
 difference_words numbers lines others =
     let rows = rows_of numbers lines in

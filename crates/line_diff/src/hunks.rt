@@ -1,8 +1,8 @@
 //! Where two texts have other lines.
 
-ghost use Rattle.std.specs.Prelude.{◌≡◌, ◌<◌, ◌+◌, ◌^◌, ◌++◌, IfOk, IfSome, OnOk, length, map, option_map};
+ghost use Rattle.std.specs.Prelude.{◌≡◌, ◌<◌, ◌+◌, ◌^◌, ◌++◌, IfOk, IfSome, OnOk, drop, length, map, option_map};
 ghost use Rattle.line_diff.specs.Common.{are_equal};
-ghost use Rattle.line_diff.specs.Hunks.{hunk_of, hunks_of, next_gap};
+ghost use Rattle.line_diff.specs.Hunks.{agreed, best_gap, better, gap_at, gap_of, hunk_of, hunks_of, next_gap};
 
 use crate::lines::line_at;
 use std::alloc::{AllocError, Global};
@@ -17,12 +17,17 @@ pub struct Hunk {
     pub other_end: usize,
 }
 
-/// So many lines of one text, and so many of another, come before a line that is common to both.
+/// So many lines of one text, and so many of another, come before lines that agree. `agreed` says how
+/// many those are, as far as they are counted.
 #[derive(Clone, Copy, Debug)]
 struct Gap {
     lines: usize,
     others: usize,
+    agreed: usize,
 }
+
+/// So many lines after a gap are counted.
+const COUNTED: usize = 100;
 
 /// Returns whether two lines are there, and are equal.
 fn are_equal(line: Option<&str>, other: Option<&str>) -> bool
@@ -35,23 +40,109 @@ fn are_equal(line: Option<&str>, other: Option<&str>) -> bool
     }
 }
 
-/// Returns what comes before the nearest line that is common to both texts, if this is fewer lines
-/// than a limit. Looks no farther than both texts go.
+/// Returns how many lines agree from the first on, as far as they are counted.
+fn agreed(lines: &[&str], others: &[&str]) -> usize
+    ensures value { result ≡ agreed (map (λ line. line.now) lines.entry.now)
+        (map (λ line. line.now) others.entry.now) }
+    ensures within { 0 < result → (0 < length lines.now) × (0 < length others.now) }
+{
+    for count in 0..COUNTED {
+        if !are_equal(line_at(lines, count), line_at(others, count)) {
+            return count;
+        }
+    }
+    COUNTED
+}
+
+/// Returns the lines from an index on.
+fn lines_from<'a, 'b>(lines: &'b [&'a str], start: usize) -> &'b [&'a str]
+    ensures { result.now ≡ drop start lines.now }
+{
+    if start < lines.len() {
+        &lines[start..]
+    } else {
+        &[]
+    }
+}
+
+/// Returns a gap of so many lines of both texts.
+fn gap_of(lines: &[&str], others: &[&str], first: usize, second: usize) -> Gap
+    ensures value { result ≡ gap_of (map (λ line. line.now) lines.entry.now)
+        (map (λ line. line.now) others.entry.now) first second }
+    ensures within { 0 < result.agreed → (result.lines < length lines.now)
+        × (result.others < length others.now) }
+{
+    Gap {
+        lines: first,
+        others: second,
+        agreed: agreed(lines_from(lines, first), lines_from(others, second)),
+    }
+}
+
+/// Returns the gap after which more lines agree, or else the first.
+fn better(gap: Gap, other: Gap) -> Gap
+    ensures { result ≡ better gap other }
+{
+    if gap.agreed < other.agreed {
+        other
+    } else {
+        gap
+    }
+}
+
+/// Returns the best of the gaps that have so many lines of one text, and no more of the other. The
+/// first is the one with as many of both.
+fn best_gap(lines: &[&str], others: &[&str], most: usize) -> Gap
+    ensures value { result ≡ best_gap (map (λ line. line.now) lines.entry.now)
+        (map (λ line. line.now) others.entry.now) most }
+    ensures within { 0 < result.agreed → (result.lines < length lines.now)
+        × (result.others < length others.now) }
+{
+    let mut best = gap_of(lines, others, most, most);
+    for fewer in 0..most {
+        best = better(best, gap_of(lines, others, fewer, most));
+        best = better(best, gap_of(lines, others, most, fewer));
+    }
+    best
+}
+
+/// Returns the best gap with at most so many lines of each text, if any line agrees after it. Where
+/// a single one does, a gap with a line more may be better.
+fn gap_at(lines: &[&str], others: &[&str], most: usize) -> Option<Gap>
+    requires { most + 1 < 2 ^ 64 }
+    ensures value { result ≡ gap_at (map (λ line. line.now) lines.entry.now)
+        (map (λ line. line.now) others.entry.now) most }
+    ensures within { IfSome result (λ gap. (gap.lines < length lines.now)
+        × (gap.others < length others.now)) }
+{
+    let gap = best_gap(lines, others, most);
+    match gap.agreed {
+        0 => None,
+        1 => Some(better(gap, best_gap(lines, others, most + 1))),
+        _ => Some(gap),
+    }
+}
+
+/// Returns what comes before the next lines that agree, if this is fewer lines of each text than a
+/// limit. Looks no farther than the longer text goes.
 fn next_gap(farthest: usize, lines: &[&str], others: &[&str]) -> Option<Gap>
     ensures value { result ≡ next_gap farthest (map (λ line. line.now) lines.entry.now)
         (map (λ line. line.now) others.entry.now) }
     ensures within { IfSome result (λ gap. (gap.lines < length lines.now)
         × (gap.others < length others.now)) }
 {
-    let most = farthest.min(lines.len() + others.len());
-    for sum in 0..most {
-        for first in 0..sum + 1 {
-            if are_equal(line_at(lines, first), line_at(others, sum - first)) {
-                return Some(Gap {
-                    lines: first,
-                    others: sum - first,
-                });
-            }
+    if are_equal(line_at(lines, 0), line_at(others, 0)) {
+        return Some(Gap {
+            lines: 0,
+            others: 0,
+            agreed: 1,
+        });
+    }
+    let limit = farthest.min(lines.len().max(others.len()));
+    for most in 1..limit {
+        let found = gap_at(lines, others, most);
+        if found.is_some() {
+            return found;
         }
     }
     None
@@ -80,12 +171,14 @@ fn push_hunk(
     Ok(())
 }
 
-/// Returns the places at which two texts have other lines, from the first on. After a place comes
-/// the nearest line that is common to both: the lines of both before it are the fewest together.
-/// Where they aren't fewer than `farthest`, all that is left is one place.
+/// Returns the places at which two texts have other lines, from the first on. After a place lines
+/// agree. It is the shortest, by its lines in the text that has more there; of those as short it is
+/// the one after which most lines agree. If that is a single line, a place that is a line longer is
+/// taken if more lines agree after it. Where none has fewer than `farthest` lines, all that is left
+/// is one place.
 ///
-/// Fails only where memory runs out. Linear where texts are near; between two places it compares at
-/// most the square of `farthest` lines.
+/// Fails only where memory runs out. Linear where texts are near; between two places it compares
+/// fewer lines than `farthest` times `farthest + 300`.
 pub fn hunks_of(
     alloc: Global,
     farthest: usize,
@@ -110,6 +203,7 @@ pub fn hunks_of(
     let rest = Gap {
         lines: lines.len() - start,
         others: others.len() - other_start,
+        agreed: 0,
     };
     push_hunk(&mut found, start, other_start, rest)?;
     Ok(found)

@@ -16,7 +16,7 @@ use itoa::Buffer;
 use std::alloc::{AllocError, Global};
 use std::marker::Model;
 
-/// How far the next common line is sought: in so many lines of both texts together.
+/// Lines that agree are sought where fewer lines than this come before them in each text.
 const FARTHEST: usize = 2_000;
 
 /// What follows from a report.

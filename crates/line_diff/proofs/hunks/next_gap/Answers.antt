@@ -1,21 +1,25 @@
-use Rattle.line_diff.proofs.Prelude.{◌≡◌, ◌+◌, ◌-◌, ℕ, suc, ap, map, arith, length-map, first_found, gap_at, common_steps}
-use Rattle.line_diff.specs.Hunks.{gap_of, next_gap}
+use Rattle.line_diff.proofs.Prelude.{arith, common_steps, length-map, rules}
+use Rattle.line_diff.specs.Hunks.{next_gap}
 use Rattle.line_diff.proofs.GapLemmas.{found_later}
 use Rattle.line_diff.proofs.hunks.next_gap.Goals as goal
 
-pub loop-sum-init : goal.loop-sum-init
+pub returns-then-are_equal-clause-value : goal.returns-then-are_equal-clause-value
 unfolding next_gap
-loop-sum-init c = grind (arith, common_steps, length-map)
+returns-then-are_equal-clause-value c = search rules
 
-pub loop-first-init : goal.loop-first-init
-unfolding gap_of
-loop-first-init c =
-    let all : suc c.loop-sum.sum ≡ (c.loop-sum.sum + 1) - 0 = omega arith in
-    ap (λ (n : ℕ). first_found (gap_at (map (λ line. line.now) c.args.lines.now)
-    (map (λ line. line.now) c.args.others.now) c.loop-sum.sum) n 0) all
+pub loop-most-init : goal.loop-most-init
+unfolding next_gap
+loop-most-init c =
+    grind (
+      arith,
+      common_steps,
+      length-map,
+      c.line_at.ensures,
+      c.line_at-2.ensures,
+      c.are_equal.ensures,
+      c.if-are_equal.false,
+    )
 
-pub loop-first-preserved : goal.loop-first-preserved
-loop-first-preserved c = grind (arith, common_steps, found_later, c.loop-first.invariant)
-
-pub loop-sum-preserved : goal.loop-sum-preserved
-loop-sum-preserved c = grind (arith, common_steps, found_later, c.loop-sum.invariant, c.loop-first.invariant)
+pub loop-most-preserved : goal.loop-most-preserved
+loop-most-preserved c =
+    grind (arith, common_steps, found_later, c.loop-most.invariant, c.gap_at-found.ensures.value, c.if-is_some.false)

@@ -33,8 +33,12 @@ const OTHER: &str =
 const ANOTHER: &str =
     r#"{"jsonrpc":"2.0","method":"textDocument/didOpen","params":{"textDocument":{"languageId":"c","text":"","uri":"file:///b","version":1}}}"#;
 
+/// Opens a document of five equal lines and another one.
+const EQUAL_LINES: &str =
+    r#"{"jsonrpc":"2.0","method":"textDocument/didOpen","params":{"textDocument":{"languageId":"csv","text":"0,0\n0,0\n0,0\n0,0\n0,0\nend\n","uri":"file:///a","version":1}}}"#;
+
 /// The session, the file, the end, and what is written.
-static ROWS: [(&[&str], &str, End, &str); 17] = [
+static ROWS: [(&[&str], &str, End, &str); 19] = [
     (
         &[INITIALIZE, OPEN, WHOLE],
         "aXc",
@@ -79,6 +83,19 @@ static ROWS: [(&[&str], &str, End, &str); 17] = [
         "one\ntwo\u{a0}\nthree\nfour\n",
         Ended(1, 3, 0),
         "\"file:///a\" after message 3: the text is not the file's:\nline 2 (made by message 3): \"2\\t\\n\"\n  the file has: \"two\\u{a0}\\n\"\nafter line 3 (made by message 2):\n  the file has: \"four\\n\"\nFor each line, a message named is wrong, a later one is missing or wrong, or an earlier mistake led it to the wrong line. Look at the lowest numbers after the opening first.\n",
+    ),
+    // Of equal lines the one that differs is named, and one too many is one place.
+    (
+        &[INITIALIZE, EQUAL_LINES],
+        "0,0\n0,0\n0,1\n0,0\n0,0\nend\n",
+        Ended(1, 2, 0),
+        "\"file:///a\" after message 2: the text is not the file's:\nline 3 (made by message 2): \"0,0\\n\"\n  the file, which differs from character 3 on, has: \"0,1\\n\"\nFor each line, a message named is wrong, a later one is missing or wrong, or an earlier mistake led it to the wrong line. Look at the lowest numbers after the opening first.\n",
+    ),
+    (
+        &[INITIALIZE, EQUAL_LINES],
+        "0,0\n0,0\n0,0\n0,0\nend\n",
+        Ended(1, 2, 0),
+        "\"file:///a\" after message 2: the text is not the file's:\nline 5 (made by message 2): \"0,0\\n\"\nFor each line, a message named is wrong, a later one is missing or wrong, or an earlier mistake led it to the wrong line. Look at the lowest numbers after the opening first.\n",
     ),
     // A line is missing at the beginning, and there are two too many at the end.
     (
