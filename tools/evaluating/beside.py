@@ -8,7 +8,7 @@ import tempfile
 
 from .logs import ENCODINGS, run_log
 from .pair import run_events
-from .values import CannotRun, some, utf8
+from .values import CannotRun, case, some, utf8
 
 COMMANDS = """
 check, check --lenient, check --explain, check --brief, check --all, check --explain --lenient, check --explain --encoding utf-8,
@@ -90,8 +90,9 @@ def may_follow(run, words, path, data, saved, said, line):
         return line.count(b"\n") <= 1
     if words[0] != "compare" or said.status != 1 or not line:
         return not line
-    return any(line == bytes(run("error_line", some(utf8(path)), run("equal_text", encoding)))
-               and said_of(run, [*words, "--encoding", name], path, data, saved).status == 0 for name, encoding in ENCODINGS.items())
+    settings = {("--encoding", name): case("Encoding", encoding) for name, encoding in ENCODINGS.items()} | {("--lenient",): case("Lenient")}
+    return any(line == bytes(run("error_line", some(utf8(path)), run("equal_text", setting)))
+               and said_of(run, [*words, *more], path, data, saved).status == 0 for more, setting in settings.items())
 
 
 GIVEN = []  # to each process

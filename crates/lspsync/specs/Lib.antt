@@ -1,10 +1,10 @@
 pub mod Prelude
 pub mod Call
 pub mod CommandLine
-pub mod Encodings
 pub mod FaultText
 pub mod Loaded
 pub mod Openings
+pub mod OtherSettings
 pub mod Reached
 pub mod Run
 pub mod Wanted

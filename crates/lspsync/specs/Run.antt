@@ -1,6 +1,6 @@
 -- What the program writes, and the status that it ends with.
 use Rattle.std.specs.Prelude.{◌≡◌, ◌⊎◌, ◌++◌, ◌∷◌, if◌then◌else◌}
-use Rattle.lspsync.specs.Prelude.{ℕ, [], Bool, true, false, List, length, max, nat_lt, codes, Option, Some, None, option_map, unwrap_or, IfSome, Result, Ok, Err, String, Vec, Global, Keeps, string_bytes, kind_of, Error, EngineFault, Ports, ReaderState, WriterState, ports, IsFlushed, IsPrinted, IsTextPrinted, Streams, allowed_turns, Missing, Outcome, new_comparison, compare_engine, part_engine, Engine, IsEngineRun, check_engine, convert_engine, live, replay_engine, serve_engine, Call, Task, Wanted, Encoding}
+use Rattle.lspsync.specs.Prelude.{ℕ, [], Bool, true, false, List, length, max, nat_lt, codes, Option, Some, None, option_map, unwrap_or, IfSome, Result, Ok, Err, String, Vec, Global, Keeps, string_bytes, kind_of, Error, EngineFault, Ports, ReaderState, WriterState, ports, IsFlushed, IsPrinted, IsTextPrinted, Streams, allowed_turns, Missing, Outcome, new_comparison, compare_engine, part_engine, Engine, IsEngineRun, check_engine, convert_engine, live, replay_engine, serve_engine, Call, Task, Wanted}
 use Rattle.std.specs.Result.{result_and}
 use Rattle.clap.specs.declared.error.kind.ErrorKind.{ErrorKind}
 use Rattle.clap.specs.declared.error.kind.ErrorKind.TheVariants as kind
@@ -14,7 +14,8 @@ use Rattle.lspsync.specs.declared.ends.Ending.{Ending}
 use Rattle.lspsync.specs.Call.{AreWordsReadAs, file_of, saved_of}
 use Rattle.lspsync.specs.Loaded.{with_text}
 use Rattle.lspsync.specs.FaultText.{blame_text, fault_cause, fault_text}
-use Rattle.lspsync.specs.Encodings.{IsEncodingNamed, equal_text}
+use Rattle.lspsync.specs.OtherSettings.{IsSettingNamed, equal_text}
+use Rattle.lspsync.specs.declared.other_settings.OtherSetting.{OtherSetting}
 use Rattle.lspsync.specs.Openings.{AreListed, file_opened}
 use Rattle.lspsync.specs.Wanted.{IsWanted}
 
@@ -194,12 +195,12 @@ IsUnlistedEnd name outcome before after ending = (outcome.missing ≡ Some missi
     × Ends outcome.status (error_line (Some name) (missing_text missing.Document)
     ++ error_line (Some name) unlisted_text) false before after ending
 
--- A line names an encoding in which the texts are equal that were compared.
+-- A line names a setting with which the texts are equal that were compared.
 abbrev pub IsEqualEnd : List ℕ → Option Wanted → Option (List ℕ) → Outcome → WriterState →
     WriterState → Ending → Type 0
-IsEqualEnd name wanted known outcome before after ending = (encoding : Encoding)
-    × IsEncodingNamed wanted known outcome encoding
-    × Ends outcome.status (error_line (Some name) (equal_text encoding)) false before after ending
+IsEqualEnd name wanted known outcome before after ending = (setting : OtherSetting)
+    × IsSettingNamed wanted known outcome setting
+    × Ends outcome.status (error_line (Some name) (equal_text setting)) false before after ending
 
 -- The end of a run over a file, of whose bytes this may be known. A document that is missing may be
 -- reported with the list of those that the file has, or with a line that they can't be listed.

@@ -9,10 +9,10 @@ ghost use Rattle.lspsync.specs.Run.{status_of};
 
 use crate::beginning::hint;
 use crate::command_line::Call;
-use crate::encodings::{encoding_for, equal_text};
 use crate::ends::{Ending, end_missing, end_unlisted, end_well, report, say, status_of};
 use crate::fault_text::{cause_of, text_of};
 use crate::openings::openings;
+use crate::other_settings::{equal_text, setting_for};
 use crate::reached::{last_before, settings_of};
 use crate::wanted::Wanted;
 use itoa::Buffer;
@@ -106,7 +106,7 @@ pub fn end_file<T, F: Folder, E: Sink>(
 }
 
 /// Ends with an outcome. If the document is missing that the call names, it lists those that the
-/// file has, or says that it can't. If texts differ that are equal in another encoding, it names
+/// file has, or says that it can't. If texts differ that are equal with another setting, it names
 /// that one.
 fn end_outcome<F: Folder, E: Sink>(
     alloc: Global,
@@ -119,8 +119,8 @@ fn end_outcome<F: Folder, E: Sink>(
     ensures { IsFileEnding name.now wanted (F.bytes folder.now name.now) (Ok outcome)
         (E.seen errors.old) (E.seen errors.new) result }
 {
-    if let Some(encoding) = encoding_for(alloc, name, &wanted, outcome, folder) {
-        return say(outcome.status, Some(name), equal_text(encoding), errors);
+    if let Some(setting) = setting_for(alloc, name, &wanted, outcome, folder) {
+        return say(outcome.status, Some(name), equal_text(setting), errors);
     }
     match openings(alloc, name, wanted, outcome, folder) {
         Ok(Some(list)) => end_missing(name, outcome.status, &list, errors),

@@ -7,7 +7,7 @@
 //! - `command_line`: the words that the program is called with.
 //! - `fault_text`: the text of a fault's line, and its cause.
 //! - `beginning`: what a file that is no log seems to be.
-//! - `encodings`: by which other encoding of positions a log gives a saved text.
+//! - `other_settings`: by which other settings a log gives a saved text.
 //! - `openings`: which messages opened the documents of a log.
 //! - `reached`: up to which record a faulty log can be replayed.
 //! - `wanted`: the document that a call names.
@@ -16,11 +16,11 @@
 
 mod beginning;
 mod command_line;
-mod encodings;
 mod ends;
 mod fault_text;
 mod files;
 mod openings;
+mod other_settings;
 mod process;
 mod reached;
 mod run;

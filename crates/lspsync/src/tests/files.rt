@@ -62,6 +62,12 @@ const OTHER: &str =
 
 const BY_UTF_32: &str = "lspsync: emoji.log: with `--encoding utf-32` the texts are equal\n";
 
+const BY_LENIENCE: &str = "lspsync: stale.log: with `--lenient` the texts are equal\n";
+
+/// A change under the version that the document has already.
+const STALE: &str =
+    r#"{"jsonrpc":"2.0","method":"textDocument/didChange","params":{"contentChanges":[{"text":"aXc"}],"textDocument":{"uri":"file:///a","version":1}}}"#;
+
 const BYTES: &str = "lspsync: nvim.bin: stream did not contain valid UTF-8\n";
 
 const NO_SAVED: &str = "lspsync: gone.txt: entity not found\n";
@@ -108,13 +114,15 @@ static ROWS: [(&str, u8, &str, &str); 28] = [
 
 /// Words by which texts differ, and what is printed on standard error: in UTF-16 and UTF-8 the change
 /// is inside a character, and in UTF-32 it isn't.
-static DIFFERING: [(&str, &str); 4] = [
+static DIFFERING: [(&str, &str); 6] = [
     ("lspsync compare --uri=a emoji.txt emoji.log", BY_UTF_32),
     (
         "lspsync compare --encoding=utf-8 --uri=a emoji.txt emoji.log",
         BY_UTF_32,
     ),
     ("lspsync compare --uri=a saved.txt emoji.log", ""),
+    ("lspsync compare a stale.log", BY_LENIENCE),
+    ("lspsync compare --lenient --uri=a saved.txt stale.log", ""),
     // It can't be read once more.
     ("lspsync compare --uri=a emoji.txt emoji.pipe", ""),
 ];
@@ -125,7 +133,8 @@ fn answered(alloc: Global, words: &str) -> Result<Answer, AllocError> {
     let cut = Vec::from_slice(alloc, good.get(..400).unwrap_or(&[]))?;
     let begun = log(alloc, &[INITIALIZE])?;
     let emoji = log(alloc, &[INITIALIZE, OPEN_EMOJI, AFTER_ONE_UNIT])?;
-    let files: [Held<'_>; 15] = [
+    let stale = log(alloc, &[INITIALIZE, OPEN, STALE])?;
+    let files: [Held<'_>; 16] = [
         ("a", b"aXc", &[Take(1)]),
         ("saved.txt", b"abc\n", &[]),
         ("nvim.bin", b"a\xff", &[]),
@@ -134,6 +143,7 @@ fn answered(alloc: Global, words: &str) -> Result<Answer, AllocError> {
         ("emoji.txt", "😀b".as_bytes(), &[]),
         ("emoji.log", &emoji, &[]),
         ("emoji.pipe", &emoji, &[]),
+        ("stale.log", &stale, &[]),
         ("good.log", &good, &[Take(1), Take(30)]),
         ("cut.log", &cut, &[]),
         ("begun.log", &begun, &[]),
@@ -158,7 +168,7 @@ fn files_are_read_by_name(rt: HostRuntime) -> Result<(), Fail> {
 }
 
 #[test]
-fn another_encoding_is_named(rt: HostRuntime) -> Result<(), Fail> {
+fn another_setting_is_named(rt: HostRuntime) -> Result<(), Fail> {
     for (words, errors) in &DIFFERING {
         let answer = answered(rt.alloc(), words)?;
         assert_eq!(rt; answer.status, 1);
