@@ -1,6 +1,8 @@
 -- A file, and the document of a session that is compared with it.
 use Rattle.std.specs.Prelude.{ℕ, ◌-◌, ◌+◌, Bool, false, not, ◌&&◌, min, nat_lt, if◌then◌else◌, List, [], ◌++◌, Option, Some, None, option_map, codes, decimal}
+use Rattle.std.specs.Option.{option_or}
 use Rattle.std.specs.Str.{bytes_eq}
+use Rattle.line_diff.specs.Names.{is_exactly}
 use Rattle.line_diff.specs.Report.{report_words}
 use Rattle.line_diff.specs.Shown.{shown}
 use Rattle.line_diff.specs.Tracked.{Tracked, changed_by, opened_by}
@@ -21,7 +23,7 @@ pub record ComparisonData : Type 0 where
   -- how the document's URI ends, and the file's text
   pub ending : List ℕ
   pub file : List ℕ
-  -- the first document that ends so, if one was open, and the URI of another one
+  -- the document, if one that ends so was open, and the URI of another one that may be meant
   pub document : Option Followed
   pub second : Option (List ℕ)
 
@@ -47,23 +49,25 @@ abbrev pub given : ℕ → ℕ → Option (List Splice) → Followed → Followe
 given number len None d = opened_as number d.uri len
 given number len (Some splices) d = record d { origins = changed_by number splices d.origins }
 
--- The document. The first one stays.
-abbrev pub followed_after : ℕ → List ℕ → ℕ → Option (List Splice) → Option Followed → Followed
-followed_after number uri len splices None = opened_as number uri len
-followed_after number uri len splices (Some d) =
-    if bytes_eq d.uri uri then given number len splices d else d
+-- Another document than the one that was there before. That one stays, unless this one alone is
+-- exactly what was asked for; the first of the others is kept where neither is.
+abbrev pub taken_after : ℕ → List ℕ → ℕ → Followed → ComparisonData → ComparisonData
+taken_after number uri len d c =
+    if is_exactly d.uri c.ending then c
+    else if is_exactly uri c.ending
+    then record c { document = Some (opened_as number uri len); second = None }
+    else record c { second = option_or c.second (Some uri) }
 
--- The URI of another document.
-abbrev pub second_after : List ℕ → Option Followed → Option (List ℕ) → Option (List ℕ)
-second_after uri document (Some second) = Some second
-second_after uri None None = None
-second_after uri (Some d) None = if bytes_eq d.uri uri then None else Some uri
+abbrev pub taken_by : ℕ → List ℕ → ℕ → Option (List Splice) → Option Followed → ComparisonData →
+    ComparisonData
+taken_by number uri len splices None c =
+    record c { document = Some (opened_as number uri len) }
+taken_by number uri len splices (Some d) c = if bytes_eq d.uri uri
+    then record c { document = Some (given number len splices d) }
+    else taken_after number uri len d c
 
 abbrev pub taken : ℕ → List ℕ → ℕ → Option (List Splice) → ComparisonData → ComparisonData
-taken number uri len splices c = record c {
-  document = Some (followed_after number uri len splices c.document);
-  second = second_after uri c.document c.second;
-}
+taken number uri len splices c = taken_by number uri len splices c.document c
 
 -- ---- after a message about a document that was refused with this code
 

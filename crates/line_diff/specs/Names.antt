@@ -1,5 +1,5 @@
 -- Names of files as a person types them, and URIs that end so. Both are bytes.
-use Rattle.std.specs.Prelude.{ℕ, ◌-◌, Bool, ◌||◌, if◌then◌else◌, length, drop, List, [], ◌∷◌, codes}
+use Rattle.std.specs.Prelude.{ℕ, ◌-◌, Bool, ◌||◌, ◌&&◌, if◌then◌else◌, length, drop, take, List, [], ◌∷◌, codes}
 use Rattle.std.specs.Str.{bytes_eq}
 use Rattle.percent_encoding.specs.Percent.{percent_decode}
 
@@ -18,3 +18,12 @@ ends_in text ending = bytes_eq (drop (length text - length ending) text) ending
 -- escape, of one byte.
 unfoldable pub ends_so : List ℕ → List ℕ → Bool
 ends_so uri name = ends_in uri (bare name) || ends_in (percent_decode uri) (bare name)
+
+-- Is a URI that of a file?
+abbrev pub is_file : List ℕ → Bool
+is_file uri = bytes_eq (take 7 uri) (codes "file://")
+
+-- Is a URI this one, or that of the file with this path, as it is written or with each escape read?
+unfoldable pub is_exactly : List ℕ → List ℕ → Bool
+is_exactly uri name = bytes_eq uri name || bytes_eq (percent_decode uri) name
+    || (is_file uri && bytes_eq (drop 7 (percent_decode uri)) name)

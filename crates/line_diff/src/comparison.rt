@@ -3,9 +3,9 @@
 ghost use Rattle.std.specs.Prelude.{◌≡◌, ◌++◌, IfOk, OnErr, OnOk, option_map, string_bytes};
 ghost use Rattle.line_diff.specs.Comparison.{choice_words, followed_words, equality, new_comparison};
 ghost use Rattle.line_diff.specs.Comparison.{comparison_words, ended_by, given, is_followed, opened_as, refused_by, refused_message, refused_of, refusals_words, taken};
-ghost use Rattle.line_diff.specs.Names.{ends_so};
+ghost use Rattle.line_diff.specs.Names.{ends_so, is_exactly};
 
-use crate::names::ends_so;
+use crate::names::{ends_so, is_exactly};
 use crate::owners::Splice;
 use crate::report::{push_number, push_words};
 use crate::shown::push_shown;
@@ -17,7 +17,7 @@ use std::marker::Model;
 const NAMED: u64 = 5;
 
 /// A file's text, and the text of a document that is to be the same. The document is the first one
-/// that is taken.
+/// that is taken, or one that is exactly what was asked for.
 #[derive(Drop)]
 pub struct Comparison {
     ending: String,
@@ -160,6 +160,14 @@ impl Comparison {
         };
         if document.uri.as_str() == uri {
             return document.take(alloc, number, len, splices);
+        }
+        if is_exactly(&document.uri, &self.ending) {
+            return Ok(());
+        }
+        if is_exactly(uri, &self.ending) {
+            self.document = Some(Followed::new(alloc, number, uri, len)?);
+            self.second = None;
+            return Ok(());
         }
         if self.second.is_none() {
             self.second = Some(String::from_str(alloc, uri)?);

@@ -25,6 +25,6 @@ mod shown;
 mod tracked;
 
 pub use comparison::Comparison;
-pub use names::ends_so;
+pub use names::{ends_so, is_exactly};
 pub use owners::Splice;
 pub use tracked::TrackedText;

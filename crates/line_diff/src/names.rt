@@ -1,11 +1,14 @@
 //! Names of files as a person types them, and URIs that end so.
 
-ghost use Rattle.std.specs.Prelude.{◌≡◌, codes, drop, length, take};
+ghost use Rattle.std.specs.Prelude.{◌≡◌, ◌||◌, ◌&&◌, codes, drop, length, take};
 ghost use Rattle.std.specs.Str.{bytes_eq};
 ghost use Rattle.percent_encoding.specs.Percent.{percent_decode};
-ghost use Rattle.line_diff.specs.Names.{bare, ends_in, ends_so};
+ghost use Rattle.line_diff.specs.Names.{bare, ends_in, ends_so, is_exactly, is_file};
 
 use percent_encoding::percent_decode;
+
+/// How the URI of a file begins.
+const FILE: &[u8] = b"file://";
 
 /// Returns whether a name begins with `./`.
 fn has_dot(name: &[u8]) -> bool
@@ -78,4 +81,23 @@ pub fn ends_so(uri: &str, name: &str) -> bool
 {
     let name = bare(name.as_bytes());
     ends_in(uri.as_bytes(), name) || decodes_to(uri.as_bytes(), name)
+}
+
+/// Returns whether a URI is that of a file.
+fn is_file(uri: &[u8]) -> bool
+    ensures { result ≡ is_file uri.now }
+{
+    uri.starts_with(FILE)
+}
+
+/// Returns whether a URI is this one, or that of the file with this path, or would be with each
+/// escape read. Allocates nothing; linear in both.
+#[tactic(auto, unfolding(crate::specs::Names::is_exactly))]
+pub fn is_exactly(uri: &str, name: &str) -> bool
+    ensures { result ≡ is_exactly uri.now name.now }
+{
+    let (uri, name) = (uri.as_bytes(), name.as_bytes());
+    uri == name
+        || decodes_after(uri, 0, name)
+        || (is_file(uri) && decodes_after(uri, FILE.len(), name))
 }

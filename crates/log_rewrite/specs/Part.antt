@@ -1,6 +1,6 @@
 -- `replay` of a part of a log: the documents after a record, or the last text of one document.
 use Rattle.std.specs.Prelude.{◌==◌, ◌&&◌, ◌||◌, if◌then◌else◌}
-use Rattle.log_rewrite.specs.Prelude.{ℕ, Bool, false, not, List, [], Option, Some, None, is_some, option_map, Ok, bytes_eq, string_bytes, ends_so, DocumentItem, entry_at, Record, Settings, Outcome}
+use Rattle.log_rewrite.specs.Prelude.{ℕ, Bool, false, not, List, [], Option, Some, None, is_some, option_map, Ok, bytes_eq, string_bytes, ends_so, is_exactly, DocumentItem, entry_at, Record, Settings, Outcome}
 use Rattle.log_rewrite.specs.declared.commands.part.Part.{Part}
 use Rattle.log_session.specs.RunOutput.{RunOutput}
 use Rattle.log_session.specs.View.{RecordOutput, View, writes, ends, output_in, unless_bad}
@@ -52,10 +52,10 @@ none_found = record { uri = None; several = false; text = None }
 abbrev pub only : List ℕ → Found
 only uri = record { uri = Some uri; several = false; text = None }
 
--- Does it have the very URI that was asked for?
+-- Is it exactly what was asked for?
 abbrev pub is_named : List ℕ → Option (List ℕ) → Bool
 is_named asked None = false
-is_named asked (Some uri) = bytes_eq uri asked
+is_named asked (Some uri) = is_exactly uri asked
 
 -- One was opened whose URI ends so. The first one stays.
 abbrev pub with_ending : List ℕ → Option (List ℕ) → Found → Found
@@ -63,12 +63,12 @@ with_ending uri None found = only uri
 with_ending uri (Some other) found =
     record found { several = found.several || not (bytes_eq other uri) }
 
--- What is found after a record that may open one, if one was asked for. One with the very URI counts
--- alone.
+-- What is found after a record that may open one, if one was asked for. One that is exactly that
+-- counts alone.
 abbrev pub found_if : Option (List ℕ) → Option (List ℕ) → Found → Found
 found_if None opened found = found
 found_if (Some asked) None found = found
-found_if (Some asked) (Some uri) found = if bytes_eq uri asked then only uri
+found_if (Some asked) (Some uri) found = if is_exactly uri asked then only uri
     else if ends_so uri asked && not (is_named asked found.uri)
     then with_ending uri found.uri found else found
 

@@ -3,7 +3,7 @@ pub use Rattle.std.specs.Io.KnownBytes.{Appends, Consumes}
 pub use Rattle.std.specs.Prelude.{Bool, Err, IfOk, List, None, Ok, Option, Result, Some, [], codes, false, flat_map, is_none, is_some, length, map, nat_lt, not, option_map, true, ℕ, ⊤}
 pub use Rattle.std.specs.Str.{bytes_eq}
 pub use Rattle.std.specs.String.{string_bytes}
-pub use Rattle.line_diff.specs.Names.{ends_so}
+pub use Rattle.line_diff.specs.Names.{ends_so, is_exactly}
 pub use Rattle.log_session.specs.declared.outcome.Outcome.{Outcome}
 pub use Rattle.log_session.specs.declared.settings.Settings.{Settings}
 pub use Rattle.lsp_frame.specs.Frame.{frame}

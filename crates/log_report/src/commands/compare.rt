@@ -17,7 +17,7 @@ use std::alloc::Global;
 ///
 /// The status is 0 if the texts are equal, byte for byte, else 1, whatever was refused. If no
 /// document's URI ends as the comparison wants, nothing is written, and the outcome says that it is
-/// missing. If another one ends so too, both are named.
+/// missing. If another one ends so too, and none has just that URI or file path, both are named.
 ///
 /// Errors are those of [`check`](crate::check). A change costs what it costs `check`, and what lies
 /// between it and the one before it. The memory is for the open documents, at most 32 bytes for each

@@ -23,7 +23,7 @@ pub struct Part {
 
 /// Writes the documents that are open after a record of a log, as [`replay`](log_session::replay) does at
 /// its end; or the last text of one document, byte for byte, also if it was closed. A document with
-/// the very URI comes first; else it is the one whose URI ends so. After the part's last record
+/// that URI or file path comes first; else it is the one whose URI ends so. After the part's last record
 /// nothing is read. The status is 1 if something was refused up to there, else 0. If the log has
 /// fewer records, or the document was not open up to there, or the URIs of several end so, nothing
 /// is written: the outcome says which is missing, and the status is 1.

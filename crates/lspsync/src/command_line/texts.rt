@@ -62,10 +62,10 @@ log is faulty.
 
 With `--at N` it is the documents after the Nth record, as `check` counts; what
 comes after it isn't read. With `--uri URI` it is the last text of one document
-alone, byte for byte, also after its `didClose`: of that with this URI, else of
-the one whose URI ends so. Where there is no such record or document, a line on
-standard error says so, and the status is 1; of a file it also says then which
-messages opened its documents.
+alone, byte for byte, also after its `didClose`: of that with this URI or path,
+else of the one whose URI ends so. Where there is no such record or document, a
+line on standard error says so, and the status is 1; of a file it also says then
+which messages opened its documents.
 
 Example, and a document's text alone, then and after the third record:
   lspsync replay examples/typing.log

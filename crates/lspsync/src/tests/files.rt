@@ -57,12 +57,21 @@ const NO_MEMORY: &str = "lspsync: out of memory\n";
 
 const SAME: &str = "\"file:///a\" after message 3: the text is the file's\n";
 
-const OTHER: &str =
+const DIFFERENT: &str =
     "\"file:///a\" after message 3: the text is not the file's:\nline 1 (made by messages 3, 2): \"aXc\"\n  the file, which differs from character 2 on, has: \"abc\\n\"\nFor each line, a message named is wrong, a later one is missing or wrong, or an earlier mistake led it to the wrong line. Look at the lowest numbers after the opening first.\n";
 
 const BY_UTF_32: &str = "lspsync: emoji.log: with `--encoding utf-32` the texts are equal\n";
 
 const BY_LENIENCE: &str = "lspsync: stale.log: with `--lenient` the texts are equal\n";
+
+/// Other documents that end in `/a`, and what is said of the one that is `/a`.
+const OTHER: &str =
+    r#"{"jsonrpc":"2.0","method":"textDocument/didOpen","params":{"textDocument":{"languageId":"","text":"","uri":"file:///b/a","version":1}}}"#;
+
+const THIRD: &str =
+    r#"{"jsonrpc":"2.0","method":"textDocument/didOpen","params":{"textDocument":{"languageId":"","text":"","uri":"file:///c/a","version":1}}}"#;
+
+const ONE_OF_SEVERAL: &str = "\"file:///a\" after message 4: the text is the file's\n";
 
 /// A change under the version that the document has already.
 const STALE: &str =
@@ -73,10 +82,17 @@ const BYTES: &str = "lspsync: nvim.bin: stream did not contain valid UTF-8\n";
 const NO_SAVED: &str = "lspsync: gone.txt: entity not found\n";
 
 /// Words, the status, the output, and what is printed on standard error.
-static ROWS: [(&str, u8, &str, &str); 28] = [
+static ROWS: [(&str, u8, &str, &str); 36] = [
     ("lspsync compare a good.log", 0, SAME, ""),
+    // a whole path comes before URIs that only end so
+    (
+        "lspsync compare --uri=/a a several.log",
+        0,
+        ONE_OF_SEVERAL,
+        "",
+    ),
     ("lspsync compare good.log nvim.log", 5, "", SWAPPED),
-    ("lspsync compare --uri=a saved.txt -", 1, OTHER, ""),
+    ("lspsync compare --uri=a saved.txt -", 1, DIFFERENT, ""),
     ("lspsync compare nvim.bin good.log", 3, "", BYTES),
     ("lspsync compare gone.txt", 3, "", NO_SAVED),
     ("lspsync compare heavy good.log", 4, "", NO_MEMORY),
@@ -134,7 +150,9 @@ fn answered(alloc: Global, words: &str) -> Result<Answer, AllocError> {
     let begun = log(alloc, &[INITIALIZE])?;
     let emoji = log(alloc, &[INITIALIZE, OPEN_EMOJI, AFTER_ONE_UNIT])?;
     let stale = log(alloc, &[INITIALIZE, OPEN, STALE])?;
-    let files: [Held<'_>; 16] = [
+    let marks = marked(alloc)?;
+    let several = log(alloc, &[INITIALIZE, OTHER, OPEN, WHOLE, THIRD])?;
+    let files: [Held<'_>; 19] = [
         ("a", b"aXc", &[Take(1)]),
         ("saved.txt", b"abc\n", &[]),
         ("nvim.bin", b"a\xff", &[]),
@@ -146,6 +164,9 @@ fn answered(alloc: Global, words: &str) -> Result<Answer, AllocError> {
         ("stale.log", &stale, &[]),
         ("good.log", &good, &[Take(1), Take(30)]),
         ("cut.log", &cut, &[]),
+        ("cut.pipe", &cut, &[]),
+        ("marks.log", &marks, &[]),
+        ("several.log", &several, &[]),
         ("begun.log", &begun, &[]),
         ("pipe", &good, &[]),
         ("short.log", &good, &[Take(172), Fails]),

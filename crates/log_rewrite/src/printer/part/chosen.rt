@@ -1,17 +1,17 @@
 //! The document whose text is printed.
 
 ghost use Rattle.std.specs.Prelude.{◌≡◌, ◌&&◌, IfOk, not, option_map, string_bytes};
-ghost use Rattle.line_diff.specs.Names.{ends_so};
+ghost use Rattle.line_diff.specs.Names.{ends_so, is_exactly};
 ghost use Rattle.log_rewrite.specs.Part.{found_if, is_named, none_found, only, refreshed, text_found, with_ending};
 ghost use Rattle.log_session.specs.inside.Kept.{kept_after};
 
-use line_diff::ends_so;
+use line_diff::{ends_so, is_exactly};
 use log_session::copied_text;
 use lsp_store::Store;
 use std::alloc::{AllocError, Global};
 use std::marker::Model;
 
-/// The document with the URI that was asked for, else the one whose URI ends so.
+/// The document that is exactly what was asked for, else the one whose URI ends so.
 #[derive(Drop)]
 pub struct Chosen {
     uri: Option<String>,
@@ -64,12 +64,12 @@ impl Chosen {
         self.uri.as_deref()
     }
 
-    /// Returns whether the document has the very URI that was asked for.
+    /// Returns whether the document is exactly what was asked for.
     fn is_named(&self, asked: &str) -> bool
         ensures { result ≡ is_named asked.now self.now.uri }
     {
         match &self.uri {
-            Some(uri) => uri.as_str() == asked,
+            Some(uri) => is_exactly(uri, asked),
             None => false,
         }
     }
@@ -97,7 +97,7 @@ impl Chosen {
         let Some(uri) = opened else {
             return;
         };
-        if uri.as_str() == asked {
+        if is_exactly(&uri, asked) {
             *self = Chosen::only(uri);
             return;
         }
@@ -107,7 +107,7 @@ impl Chosen {
     }
 
     /// Returns whether a document that was opened may be the one: its URI ends as was asked for,
-    /// and none with the very URI was opened.
+    /// and none that is exactly that was opened.
     fn is_taken(&self, uri: &str, asked: &str) -> bool
         ensures { result ≡ (ends_so uri.now asked.now && not (is_named asked.now self.now.uri)) }
     {

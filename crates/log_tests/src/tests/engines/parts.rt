@@ -22,7 +22,7 @@ const ODD: &str =
     r#"{"jsonrpc":"2.0","method":"textDocument/didOpen","params":{"textDocument":{"languageId":"c","text":"w","uri":"file:///%C3%bc%2541%.c","version":1}}}"#;
 
 /// The session, how the URI ends, and the text, if there is one document alone.
-static ROWS: [(&[&str], &str, Option<&str>); 13] = [
+static ROWS: [(&[&str], &str, Option<&str>); 15] = [
     (&[INITIALIZE, OPEN, WHOLE], "///a", Some("aXc")),
     (&[INITIALIZE, OPEN, WHOLE, CLOSE], "a", Some("aXc")),
     (&[INITIALIZE, OPEN, OTHER], "a", None),
@@ -36,6 +36,9 @@ static ROWS: [(&[&str], &str, Option<&str>); 13] = [
         "a",
         Some("y"),
     ),
+    // So does a whole path of a file.
+    (&[INITIALIZE, OPEN, OTHER, WHOLE], "/a", Some("aXc")),
+    (&[INITIALIZE, OPEN, OTHER, WHOLE], "/b/a", Some("x")),
     // One that was refused isn't open.
     (&[OPEN, INITIALIZE], "a", None),
     // A name is found as a person types it, and as the URI has it.
