@@ -161,16 +161,50 @@ def run_log(run, words, data, saved=None, name=None):
     if command == "normalise" and "squash" in options and ("whole" in options or "live" in options):  # (`is_contrary`)
         return Output(b"", 2, bytes(run("error_line", NONE, run("contrary_text"))))
     result, out = run_engine(run, run("engine_of", asked), data)
-    name, end = NONE if name is None else some(utf8(name)), result.args[0]
+    path, name, end = name, NONE if name is None else some(utf8(name)), result.args[0]
     if result.tag == "Err":
-        text, cause = run("fault_text", end), run("fault_cause", end)
-        line = run("blame_lines", name.args[0], text, cause.args[0], NONE) if name.args and cause.args else run("error_line", NONE, text)
-        return Output(out, run("status_of", end), bytes(line))
+        text, cause, hint = run("fault_text", end), run("fault_cause", end), NONE
+        if not (name.args and cause.args):
+            return Output(out, run("status_of", end), bytes(run("error_line", NONE, text)))
+        front, count = front_of(run, run("engine_of", asked), data) if run("prints_last", asked) else (b"", 0)
+        again = Output(b"", 0, b"")
+        if count:
+            hint = some(utf8(f"the output is of the log up to message {count}"))
+            again = run_log(run, words, front, saved, path)
+        why = run("reason_text", reason_for(run, asked, data, end.args[0])) if end.tag == "BadLog" else cause.args[0]
+        line = bytes(run("blame_lines", name.args[0], text, why, hint))
+        return Output(out + again.out, run("status_of", end), line + again.error)
     line = b"".join(bytes(run("error_line", name, run("missing_text", it))) for it in end.x_missing.args)
     if name.args and end.x_missing.args and end.x_missing.args[0].tag == "Document":
-        listed, words = run_engine(run, run("openings_engine", asked.args[0], utf8(options["uri"])), data)
-        line += words if listed.tag == "Ok" else bytes(run("error_line", name, run("unlisted_text")))
+        engine = run("openings_engine", asked.args[0], utf8(options["uri"]))
+        listed, found = run_engine(run, engine, data)
+        line += found if listed.tag == "Ok" else run_engine(run, engine, front_of(run, engine, data)[0])[1]
     return Output(out, end.x_status, line)
+
+
+def front_of(run, engine, data):
+    """The bytes of a faulty log before its fault, and how many records they are."""
+    rules = engine.x_log_rules
+    log, result = run.shared(Log, run, data, rules.x_max_body, rules.x_versions, rules.x_refuses_two), run_engine(run, engine, data)[0]
+    at = result.args[0].args[0] if result.args[0].tag == "BadLog" else log.at
+    return data[:at], sum(it.x_head.x_place < at for it in log.records)
+
+
+def reason_for(run, asked, data, place):
+    """Why the record at a byte offset can't come there, by what `check` says of the bytes before it, with others in its place."""
+    engine, more = run("check_engine", asked.args[0]), {it: bytes(run(it)) for it in ("nothing_probe", "change_probe")}
+
+    def is_bad(length, name=None):
+        return run_engine(run, engine, data[:length] + more.get(name, b""))[0].tag == "Err"
+    if place == 0:
+        return case("HasReplies")
+    if not data.startswith(bytes(run("version_line"))):
+        return case("AfterExit")
+    if data[place:place + 1] not in MARKS:
+        return case("NoMark")
+    if not is_bad(place + 1, "change_probe"):
+        return case("BadResult")
+    return case("AfterExit" if is_bad(place, "nothing_probe") else "EarlyChange")
 
 
 def run_engine(run, engine, data):

@@ -1,5 +1,5 @@
 -- Tasks one after another.
-use Rattle.lspsync.proofs.Prelude.{◌≡◌, inl, inr, refl, subst, sym, true, false, Bool, List, [], ◌∷◌, Streams, AreDone, IsTaskDone, KnownFiles, both_ends, Task, Ending}
+use Rattle.lspsync.proofs.Prelude.{◌≡◌, inl, inr, refl, subst, true, false, Bool, List, [], ◌∷◌, Streams, AreDone, IsTaskDone, KnownFiles, both_ends, Task, Ending}
 
 -- The first task was done, and so are the others after it.
 pub one_more : (known : KnownFiles) (is_headed : Bool) (so_far one next ending : Ending) (tasks rest : List Task)

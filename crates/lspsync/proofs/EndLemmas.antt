@@ -43,7 +43,7 @@ ends status text lines printed before after ending is same wrote = record {
 
 -- A fault of a file is reported as its cause says, one of reading as that of standard input.
 pub file_ending : (name : List ℕ) (wanted : Option Wanted) (known : Option (List ℕ)) (fault : EngineFault)
-    (before after : WriterState) (ending : Ending) → IsBlamed name fault (fault_cause fault) before after ending
+    (before after : WriterState) (ending : Ending) → IsBlamed name known fault (fault_cause fault) before after ending
     → IsFileEnding name wanted known (Err fault) before after ending
 file_ending name wanted known engine.Read before after ending blamed = inr blamed
 file_ending name wanted known fault before after ending blamed = blamed

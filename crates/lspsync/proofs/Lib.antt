@@ -4,6 +4,7 @@
 -- `DoneLemmas`; lines on standard error are those of `EndLemmas`.
 pub mod DoneLemmas
 pub mod EndLemmas
+pub mod FrontLemmas
 pub mod OptionLemmas
 mod Prelude
 pub mod ProgramLemmas

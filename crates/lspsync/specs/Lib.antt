@@ -6,6 +6,7 @@ pub mod Loaded
 pub mod Openings
 pub mod OtherSettings
 pub mod Reached
+pub mod Reasons
 pub mod Run
 pub mod Wanted
 pub mod inside

@@ -1,6 +1,6 @@
 -- Which messages opened the documents of a log, where the one that is asked for isn't there.
-use Rattle.std.specs.Prelude.{◌≡◌}
-use Rattle.lspsync.specs.Prelude.{ℕ, true, false, [], List, Option, Some, Ok, Keeps, string_bytes, ReaderState, WriterState, ports, uncounted, allowed_turns, Missing, Outcome, IsEngineRun, Wanted}
+use Rattle.std.specs.Prelude.{◌≡◌, ◌⊎◌}
+use Rattle.lspsync.specs.Prelude.{ℕ, true, false, [], List, take, Option, Some, option_map, Ok, Keeps, string_bytes, ReaderState, WriterState, ports, uncounted, allowed_turns, Missing, Outcome, IsEngineRun, Wanted}
 use Rattle.log_session.specs.declared.outcome.Missing.TheVariants as missing
 use Rattle.log_report.specs.Openings.{openings_engine}
 
@@ -8,6 +8,10 @@ use Rattle.log_report.specs.Openings.{openings_engine}
 abbrev pub file_opened : Option (List ℕ) → ReaderState
 file_opened left =
     record { left = left; failed = false; calls = 0; calls_left = uncounted 0; ended = false }
+
+-- What is known of so many bytes at the front of a file, by what is known of the file.
+abbrev pub front_known : ℕ → Option (List ℕ) → Option (List ℕ)
+front_known len known = option_map (take len) known
 
 -- Nothing was written so far.
 abbrev pub nothing_written : WriterState
@@ -24,9 +28,11 @@ pub record IsListOf (wanted : Wanted) (left : Option (List ℕ)) (words : List �
       (ports (file_opened left) nothing_written) (ports file writer) (Ok outcome)
   pub is : writer.written ≡ Some words
 
--- The same of a file that was read from its beginning on. Of its bytes this may be known.
+-- The same of a file that was read from its beginning on, or of so many bytes at its front. Of its
+-- bytes this may be known.
 abbrev pub IsList : Wanted → Option (List ℕ) → List ℕ → Type 0
-IsList wanted known words = (left : Option (List ℕ)) × Keeps known left
+IsList wanted known words = (left : Option (List ℕ))
+    × (Keeps known left ⊎ ((len : ℕ) × Keeps (front_known len known) left))
     × IsListOf wanted left words
 
 -- The same, where a document is missing that was asked for.

@@ -1,6 +1,6 @@
 -- What these definitions import from below, so that each names it by one line.
 pub use Rattle.std.specs.Io.KnownBytes.{Keeps}
-pub use Rattle.std.specs.Prelude.{All, Bool, Err, IfSome, List, None, Ok, Option, Result, Some, String, Vec, [], codes, decimal, false, if◌then◌else◌, is_some, length, map, max, nat_lt, not, option_and_then, option_map, true, unwrap_or, ℕ, ◌&&◌, ◌++◌, ◌||◌, ◌∷◌, ◌≡◌, ◌⊎◌}
+pub use Rattle.std.specs.Prelude.{All, Bool, Err, IfSome, List, None, Ok, Option, Result, Some, String, Vec, [], codes, decimal, false, if◌then◌else◌, is_some, length, map, max, nat_lt, not, option_and_then, option_map, take, true, unwrap_or, ℕ, ◌&&◌, ◌++◌, ◌||◌, ◌∷◌, ◌≡◌, ◌⊎◌}
 pub use Rattle.std.specs.String.{string_bytes}
 pub use Rattle.std.specs.declared.alloc.Global.{Global}
 pub use Rattle.clap.specs.Simple.{new_shape, subcommand_of, subcommand_rows_of}

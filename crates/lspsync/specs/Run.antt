@@ -1,6 +1,6 @@
 -- What the program writes, and the status that it ends with.
 use Rattle.std.specs.Prelude.{◌≡◌, ◌⊎◌, ◌++◌, ◌∷◌, if◌then◌else◌}
-use Rattle.lspsync.specs.Prelude.{ℕ, [], Bool, true, false, List, length, max, nat_lt, codes, Option, Some, None, option_map, unwrap_or, IfSome, Result, Ok, Err, String, Vec, Global, Keeps, string_bytes, kind_of, Error, EngineFault, Ports, ReaderState, WriterState, ports, IsFlushed, IsPrinted, IsTextPrinted, Streams, allowed_turns, Missing, Outcome, new_comparison, compare_engine, part_engine, Engine, IsEngineRun, check_engine, convert_engine, live, replay_engine, serve_engine, Call, Task, Wanted}
+use Rattle.lspsync.specs.Prelude.{ℕ, [], Bool, true, false, not, is_some, List, length, max, nat_lt, codes, Option, Some, None, option_map, unwrap_or, IfSome, Result, Ok, Err, String, Vec, Global, Keeps, string_bytes, kind_of, Error, EngineFault, Ports, ReaderState, WriterState, ports, IsFlushed, IsPrinted, IsTextPrinted, Streams, allowed_turns, Missing, Outcome, new_comparison, compare_engine, part_engine, Engine, IsEngineRun, check_engine, convert_engine, live, replay_engine, serve_engine, Call, Task, Wanted}
 use Rattle.std.specs.Result.{result_and}
 use Rattle.clap.specs.declared.error.kind.ErrorKind.{ErrorKind}
 use Rattle.clap.specs.declared.error.kind.ErrorKind.TheVariants as kind
@@ -16,7 +16,8 @@ use Rattle.lspsync.specs.Loaded.{with_text}
 use Rattle.lspsync.specs.FaultText.{blame_text, fault_cause, fault_text}
 use Rattle.lspsync.specs.OtherSettings.{IsSettingNamed, equal_text}
 use Rattle.lspsync.specs.declared.other_settings.OtherSetting.{OtherSetting}
-use Rattle.lspsync.specs.Openings.{AreListed, file_opened}
+use Rattle.lspsync.specs.Openings.{AreListed, file_opened, front_known}
+use Rattle.lspsync.specs.Reasons.{IsCauseOf}
 use Rattle.lspsync.specs.Wanted.{IsWanted}
 
 -- The status of a fault: 3 if a stream failed, 4 if out of memory, 5 if the input is no log.
@@ -162,12 +163,13 @@ blame_lines name text cause None = error_line (Some name) (blame_text text cause
 blame_lines name text cause (Some hint) =
     error_line (Some name) (blame_text text cause) ++ error_line (Some name) hint
 
--- A fault of the log is reported with its cause, and perhaps with a hint. Another one is reported as
--- that of standard input.
-abbrev pub IsBlamed : List ℕ → EngineFault → Option (List ℕ) → WriterState → WriterState →
-    Ending → Type 0
-IsBlamed name fault None before after ending = IsFaultEnd fault before after ending
-IsBlamed name fault (Some cause) before after ending = (hint : Option (List ℕ))
+-- A fault of the log has a cause, and is reported with it or with the reason, and perhaps with a
+-- hint. Another one is reported as that of standard input.
+abbrev pub IsBlamed : List ℕ → Option (List ℕ) → EngineFault → Option (List ℕ) → WriterState →
+    WriterState → Ending → Type 0
+IsBlamed name known fault None before after ending = IsFaultEnd fault before after ending
+IsBlamed name known fault (Some _) before after ending = (cause : List ℕ)
+    × IsCauseOf known fault cause × (hint : Option (List ℕ))
     × Ends (status_of fault) (blame_lines name (fault_text fault) cause hint) false before after
     ending
 
@@ -214,7 +216,7 @@ IsFileEnding name wanted known (Ok outcome) before after ending =
 IsFileEnding name wanted known (Err Read) before after ending =
     IsUnreadable name before after ending ⊎ IsFaultEnd Read before after ending
 IsFileEnding name wanted known (Err fault) before after ending =
-    IsBlamed name fault (fault_cause fault) before after ending
+    IsBlamed name known fault (fault_cause fault) before after ending
 
 -- The engine of a call ran over a file from its beginning on. Of its bytes this may be known.
 pub record IsFileRun (asked : Call) (name : List ℕ) (known : Option (List ℕ))
@@ -237,11 +239,44 @@ pub record IsFileRun (asked : Call) (name : List ℕ) (known : Option (List ℕ)
   pub lost : IsEndAfter second first errors errors_after ending
 
 -- The engine ran over a file; or the file couldn't be opened, and then nothing is written.
+abbrev pub IsFileTried : Call → List ℕ → Option (List ℕ) → WriterState → WriterState →
+    WriterState → WriterState → Ending → Type 0
+IsFileTried asked name known before after errors_before errors ending =
+    IsFileRun asked name known before after errors_before errors ending
+    ⊎ ((after ≡ before) × IsUnreadable name errors_before errors ending)
+
+-- Does a call print only at the end of its log?
+abbrev pub prints_last : Call → Bool
+prints_last (call.Replay settings) = true
+prints_last (call.ReplayPart settings part) = not (is_some part.at)
+prints_last (call.Compare settings against) = true
+prints_last asked = false
+
+-- Such a call met a fault of its log, and then it was made on the first bytes of the file alone. Of
+-- the file's bytes this may be known.
+pub record IsFrontDone (asked : Call) (name : List ℕ) (known : Option (List ℕ))
+    (before after errors_before errors_after : WriterState) (ending : Ending) : Type 0 where
+  pub last : prints_last asked ≡ true
+  -- the first end, and both outputs after it
+  pub first : Ending
+  pub writer : WriterState
+  pub errors : WriterState
+  pub tried : IsFileTried asked name known before writer errors_before errors first
+  pub faulty : first.status ≡ 5
+  -- how many bytes, and a copy of the call
+  pub len : ℕ
+  pub copy : Call
+  pub same : engine_of copy ≡ engine_of asked
+  pub next : Ending
+  pub again : IsFileTried copy name (front_known len known) writer after errors errors_after next
+  pub ends : ending ≡ both_ends first next
+
+-- A call was made on a file, once or twice.
 abbrev pub IsFileDone : Call → List ℕ → Option (List ℕ) → WriterState → WriterState →
     WriterState → WriterState → Ending → Type 0
 IsFileDone asked name known before after errors_before errors ending =
-    IsFileRun asked name known before after errors_before errors ending
-    ⊎ ((after ≡ before) × IsUnreadable name errors_before errors ending)
+    IsFileTried asked name known before after errors_before errors ending
+    ⊎ IsFrontDone asked name known before after errors_before errors ending
 
 -- ---- tasks
 

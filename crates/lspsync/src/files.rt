@@ -1,9 +1,10 @@
 //! Files of logs, by their names.
 
-ghost use Rattle.std.specs.Prelude.{◌≡◌, ◌++◌, Err, IfOk, IfSome, List, Ok, Option, false, option_map, string_bytes, ℕ};
+ghost use Rattle.std.specs.Prelude.{◌≡◌, ◌++◌, Err, IfOk, IfSome, List, None, Ok, Option, Some, false, option_map, string_bytes, ℕ};
 ghost use Rattle.std.specs.Io.KnownBytes.{Keeps};
 ghost use Rattle.lsp_program.specs.Output.{IsPrinted};
-ghost use Rattle.lspsync.specs.FaultText.{fault_text};
+ghost use Rattle.lspsync.specs.FaultText.{fault_cause, fault_text};
+ghost use Rattle.lspsync.specs.Reasons.{IsCauseOf};
 ghost use Rattle.lspsync.specs.Run.{Ends, IsFileEnding, IsUnreadable, blame_lines};
 ghost use Rattle.lspsync.specs.Run.{status_of};
 
@@ -13,7 +14,8 @@ use crate::ends::{Ending, end_missing, end_unlisted, end_well, report, say, stat
 use crate::fault_text::{cause_of, text_of};
 use crate::openings::openings;
 use crate::other_settings::{equal_text, setting_for};
-use crate::reached::{last_before, settings_of};
+use crate::reached::{Front, front_before, settings_of};
+use crate::reasons::{reason_for, reason_text};
 use crate::wanted::Wanted;
 use itoa::Buffer;
 use lsp_program::{STREAM_FAULT, digits, print};
@@ -52,6 +54,26 @@ pub struct LogFile<T> {
     is_swapped: bool,
 }
 
+/// The end of a run over a file.
+#[derive(Drop)]
+pub struct FileEnd {
+    pub ending: Ending,
+    /// The part of the log before its fault, if that can be shown.
+    pub front: Option<Front>,
+}
+
+impl FileEnd {
+    /// Makes an end without such a part.
+    pub fn whole(ending: Ending) -> FileEnd
+        ensures { result ≡ record { ending = ending; front = None } }
+    {
+        FileEnd {
+            ending,
+            front: None,
+        }
+    }
+}
+
 impl<T> LogFile<T> {
     /// Takes the file of a call, before its first byte is read.
     pub fn new(alloc: Global, file: T, call: &Call) -> LogFile<T>
@@ -64,6 +86,16 @@ impl<T> LogFile<T> {
             settings: settings_of(call),
             is_swapped: is_swapped(call),
         }
+    }
+}
+
+impl<T> LogFile<T> {
+    /// Returns what a faulty log seems to be: the saved text, or by its first bytes.
+    fn seems(&self) -> Option<&'static str> {
+        if self.is_swapped {
+            return Some(SWAPPED);
+        }
+        hint(&self.first)
     }
 }
 
@@ -86,22 +118,24 @@ fn keep(first: &mut Vec<u8>, bytes: &[u8]) {
     let _ = first.extend_from_slice(&bytes[..room.min(bytes.len())]);
 }
 
-/// Ends with the outcome of a run over a file, or reports its fault.
+/// Ends with the outcome of a run over a file, or reports its fault. `repeats` says whether the call
+/// is made once more on the part before the fault.
 pub fn end_file<T, F: Folder, E: Sink>(
     alloc: Global,
     name: &str,
     log: &LogFile<T>,
     wanted: Option<Wanted>,
     answer: Result<Outcome, EngineFault>,
+    repeats: bool,
     folder: &F,
     errors: &mut E,
-) -> Ending
+) -> FileEnd
     ensures { IsFileEnding name.now wanted (F.bytes folder.now name.now) answer
-        (E.seen errors.old) (E.seen errors.new) result }
+        (E.seen errors.old) (E.seen errors.new) result.ending }
 {
     match answer {
-        Ok(outcome) => end_outcome(alloc, name, wanted, outcome, folder, errors),
-        Err(fault) => end_fault(alloc, name, log, fault, folder, errors),
+        Ok(outcome) => { FileEnd::whole(end_outcome(alloc, name, wanted, outcome, folder, errors)) }
+        Err(fault) => end_fault(alloc, name, log, fault, repeats, folder, errors),
     }
 }
 
@@ -135,22 +169,50 @@ fn end_fault<T, F: Folder, E: Sink>(
     name: &str,
     log: &LogFile<T>,
     fault: EngineFault,
+    repeats: bool,
     folder: &F,
     errors: &mut E,
-) -> Ending
-    ensures { (wanted : Option Wanted) (known : Option (List ℕ)) →
-        IsFileEnding name.now wanted known (Err fault)
-        (E.seen errors.old) (E.seen errors.new) result }
+) -> FileEnd
+    ensures { (wanted : Option Wanted) →
+        IsFileEnding name.now wanted (F.bytes folder.now name.now) (Err fault)
+        (E.seen errors.old) (E.seen errors.new) result.ending }
 {
     match (fault, log.error) {
-        (EngineFault::Read, Some(error)) => unreadable(alloc, name, error, errors),
+        (EngineFault::Read, Some(error)) => {
+            FileEnd::whole(unreadable(alloc, name, error, errors))
+        }
         _ => match cause_of(fault) {
             Some(cause) => {
-                let hint = hint_on(alloc, name, log, fault, folder);
-                blame(name, fault, cause, hint.as_deref(), errors)
+                let cause = cause_in(alloc, name, log, fault, cause, folder);
+                let front = front_on(alloc, name, log, fault, folder);
+                let hint = hint_on(alloc, log.seems(), front, repeats);
+                let ending = blame(name, fault, cause, hint.as_deref(), errors);
+                FileEnd { ending, front }
             }
-            None => report(fault, errors),
+            None => FileEnd::whole(report(fault, errors)),
         },
+    }
+}
+
+/// Returns what is said of the cause of a fault: of a record that can't come where it is the reason,
+/// if it is found.
+fn cause_in<T, F: Folder>(
+    alloc: Global,
+    name: &str,
+    log: &LogFile<T>,
+    fault: EngineFault,
+    cause: &'static str,
+    folder: &F,
+) -> &'static str
+    ensures { fault_cause fault ≡ Some cause.now →
+        IsCauseOf (F.bytes folder.now name.now) fault result.now }
+{
+    let (EngineFault::BadLog { place }, Some(settings)) = (fault, &log.settings) else {
+        return cause;
+    };
+    match reason_for(alloc, name, settings, place, folder) {
+        Some(reason) => reason_text(reason),
+        None => cause,
     }
 }
 
@@ -186,21 +248,34 @@ fn is_swapped(call: &Call) -> bool {
     }
 }
 
-/// Returns what a faulty log seems to be by its first bytes; else up to where it can be replayed.
-fn hint_on<T, F: Folder>(
+/// Returns the part of a log before its fault, if it can be shown, and if the file seems to be a log.
+fn front_on<T, F: Folder>(
     alloc: Global,
     name: &str,
     log: &LogFile<T>,
     fault: EngineFault,
     folder: &F,
+) -> Option<Front> {
+    if log.seems().is_some() {
+        return None;
+    }
+    front_before(alloc, name, log.settings.as_ref()?, fault, folder)
+}
+
+/// Returns what a faulty log seems to be, else what is shown of it, or can be.
+fn hint_on(
+    alloc: Global,
+    seems: Option<&str>,
+    front: Option<Front>,
+    repeats: bool,
 ) -> Option<String> {
-    if log.is_swapped {
-        return String::from_str(alloc, SWAPPED).ok();
+    if let Some(seems) = seems {
+        return String::from_str(alloc, seems).ok();
     }
-    if let Some(hint) = hint(&log.first) {
-        return String::from_str(alloc, hint).ok();
+    let number = front?.records;
+    if repeats {
+        return format!(in alloc; "the output is of the log up to message {number}").ok();
     }
-    let number = last_before(alloc, name, log.settings.as_ref()?, fault, folder)?;
     format!(in alloc; "`replay --at {number}` shows the texts before it").ok()
 }
 

@@ -6,14 +6,16 @@
 //! - `ends`: how a run ends, and what is said of it.
 //! - `command_line`: the words that the program is called with.
 //! - `fault_text`: the text of a fault's line, and its cause.
+//! - `again`: a call that is made once more, on the part of its log before a fault.
 //! - `beginning`: what a file that is no log seems to be.
-//! - `other_settings`: by which other settings a log gives a saved text.
 //! - `openings`: which messages opened the documents of a log.
-//! - `reached`: up to which record a faulty log can be replayed.
+//! - `other_settings`: by which other settings a log gives a saved text.
+//! - `reached`: the part of a log before its fault. `reasons`: why a record can't come there.
 //! - `wanted`: the document that a call names.
 //! - `process`: the process's own files and terminal.
 #![tactic(auto)]
 
+mod again;
 mod beginning;
 mod command_line;
 mod ends;
@@ -23,6 +25,7 @@ mod openings;
 mod other_settings;
 mod process;
 mod reached;
+mod reasons;
 mod run;
 #[cfg(test)]
 mod tests;

@@ -4,22 +4,22 @@ ghost use Rattle.std.specs.Prelude.{◌≡◌, IfOk, IfSome, MatchResult, Some, 
 ghost use Rattle.lspsync.specs.Openings.{AreListed, IsList, IsListOf};
 
 use crate::files::Folder;
+use crate::reached::{Fronts, front_before};
 use crate::wanted::Wanted;
 use lsp_program::MAX_TURNS;
 use lsp_replay::{EngineFault, Missing, Outcome, Told, list_openings};
 use std::alloc::Global;
 use std::io::Read;
 
-/// A list that can't be made: out of memory, or the file can't be read to its end.
+/// A list that can't be made: out of memory, or the file can't be read.
 #[derive(Clone, Copy, Debug)]
 pub struct Unlisted;
 
 /// Returns which messages opened the documents of a log, if one is missing and the log is a file,
-/// unlike a pipe: it is read once more.
+/// unlike a pipe: it is read once more, up to a fault if it has one.
 ///
 /// # Errors
-/// Out of memory, or the file can't be read to its end: it can't be opened again, or it has a fault
-/// after the part that was asked for.
+/// Out of memory, or the file can't be read again.
 pub fn openings<F: Folder>(
     alloc: Global,
     name: &str,
@@ -39,10 +39,10 @@ pub fn openings<F: Folder>(
         return Ok(None);
     }
     // without memory a call's document isn't known
-    let (Some(wanted), Ok(file)) = (wanted, folder.open(name)) else {
+    let Some(wanted) = wanted else {
         return Err(Unlisted);
     };
-    let Ok(words) = list_of(alloc, file, wanted) else {
+    let Some(words) = list_in(alloc, name, &wanted, folder) else {
         return Err(Unlisted);
     };
     match String::from_utf8(words) {
@@ -51,17 +51,52 @@ pub fn openings<F: Folder>(
     }
 }
 
-/// Returns which messages opened the documents of a log.
-fn list_of<T: Read + Drop>(alloc: Global, log: T, wanted: Wanted) -> Result<Vec<u8>, EngineFault>
-    ensures { IfOk result (λ words. IsListOf wanted (T.remaining log) words.items) }
+/// Returns the list of a file, or of the part before the fault of its log.
+fn list_in<F: Folder>(alloc: Global, name: &str, wanted: &Wanted, folder: &F) -> Option<Vec<u8>>
+    ensures { IfSome result (λ words.
+        IsList wanted.now (F.bytes folder.now name.now) words.items) }
 {
+    match list_of(alloc, folder.open(name).ok()?, wanted) {
+        Ok(words) => Some(words),
+        Err(fault) => {
+            let front = front_before(alloc, name, &wanted.settings, fault, folder)?;
+            list_before(alloc, name, wanted, front.len, folder)
+        }
+    }
+}
+
+/// Returns the list of so many bytes at the front of a file.
+fn list_before<F: Folder>(
+    alloc: Global,
+    name: &str,
+    wanted: &Wanted,
+    len: u64,
+    folder: &F,
+) -> Option<Vec<u8>>
+    ensures { IfSome result (λ words.
+        IsList wanted.now (F.bytes folder.now name.now) words.items) }
+{
+    let fronts = Fronts { folder, len };
+    let file = fronts.open(name).ok()?;
+    list_of(alloc, file, wanted).ok()
+}
+
+/// Returns which messages opened the documents of a log.
+fn list_of<T: Read + Drop>(alloc: Global, log: T, wanted: &Wanted) -> Result<Vec<u8>, EngineFault>
+    ensures { IfOk result (λ words. IsListOf wanted.now (T.remaining log) words.items) }
+{
+    let Ok(ending) = String::from_str(alloc, &wanted.ending) else {
+        return Err(EngineFault::NoMemory);
+    };
     let mut input = Told::new(log);
     let mut words = Told::new(Vec::new(alloc));
-    let Wanted {
-        settings,
+    list_openings(
+        alloc,
+        &mut input,
+        &mut words,
+        wanted.settings,
         ending,
-        ..
-    } = wanted;
-    list_openings(alloc, &mut input, &mut words, settings, ending, MAX_TURNS)?;
+        MAX_TURNS,
+    )?;
     Ok(words.into_inner())
 }

@@ -8,17 +8,20 @@ ghost use Rattle.clap.specs.declared.error.kind.ErrorKind.TheVariants.{DisplayHe
 ghost use Rattle.lsp_stream.specs.Ports.{ports};
 ghost use Rattle.lsp_program.specs.Output.{IsPrinted, IsTextPrinted, allowed_turns, streams};
 ghost use Rattle.log_session.specs.Run.{IsEngineRun};
-ghost use Rattle.lspsync.specs.Run.{IsEnding, IsFaultEnd, IsFileDone, IsHeaded, IsHelpEnd, IsLoaded};
+ghost use Rattle.lspsync.specs.Run.{IsEnding, IsFaultEnd, IsFileDone, IsFileTried, IsHeaded};
+ghost use Rattle.lspsync.specs.Run.{IsHelpEnd, IsLoaded};
 ghost use Rattle.lspsync.specs.Run.{IsNotLoaded, IsPerformed, IsProgramRun, IsTaskDone};
 ghost use Rattle.lspsync.specs.Run.{IsCallDone, answer_after_flush, engine_of, fault_after};
 ghost use Rattle.lspsync.specs.Run.{shown_name};
 
+use crate::again::copied;
 use crate::command_line::{Call, Task, parse};
 use crate::ends::{CONTRARY, Ending, both, end_after, end_well, is_write_fault, report, say};
-use crate::files::{Folder, LogFile, end_file, read_text, unreadable};
+use crate::files::{FileEnd, Folder, LogFile, end_file, read_text, unreadable};
+use crate::reached::Fronts;
 use crate::wanted::wanted_by;
 use clap::error as clap_error;
-use lsp_program::{MAX_TURNS, USAGE, flush, print, print_text};
+use lsp_program::{BAD_INPUT, MAX_TURNS, USAGE, flush, print, print_text};
 use lsp_replay::{
     Comparison, Duplex, EngineFault, Outcome, Sink, Source, Told, check, check_live, compare,
     convert, explain, explain_live, replay, replay_part, rewrite, serve, trace, trace_live,
@@ -145,7 +148,8 @@ fn run_input<R: Source, W: Sink, E: Sink>(
     end_after(first, second, errors)
 }
 
-/// Runs the engine that a call names over a file, and flushes the output.
+/// Makes a call on a file. If it prints only at the end of its log, and the log has a fault, then
+/// it is made once more on the part before that.
 fn run_file<F: Folder, W: Sink, E: Sink>(
     alloc: Global,
     call: Call,
@@ -158,16 +162,52 @@ fn run_file<F: Folder, W: Sink, E: Sink>(
         (W.seen output.old) (W.seen output.new)
         (E.seen errors.old) (E.seen errors.new) result }
 {
+    let copy = copied(alloc, &call);
+    let repeats = copy.is_some();
+    let FileEnd { ending, front } = run_log(alloc, call, name, repeats, folder, output, errors);
+    if ending.status != BAD_INPUT || ending.output_failed {
+        return ending;
+    }
+    match (copy, front) {
+        (Some(copy), Some(front)) => {
+            let fronts = Fronts {
+                folder,
+                len: front.len,
+            };
+            let next = run_log(alloc, copy, name, false, &fronts, output, errors);
+            both(ending, next.ending)
+        }
+        _ => ending,
+    }
+}
+
+/// Runs the engine that a call names over a file, and flushes the output.
+fn run_log<F: Folder, W: Sink, E: Sink>(
+    alloc: Global,
+    call: Call,
+    name: &str,
+    repeats: bool,
+    folder: &F,
+    output: &mut W,
+    errors: &mut E,
+) -> FileEnd
+    ensures { IsFileTried call name.now (F.bytes folder.now name.now)
+        (W.seen output.old) (W.seen output.new)
+        (E.seen errors.old) (E.seen errors.new) result.ending }
+{
     match folder.open(name) {
         Ok(file) => {
             let mut log = Told::new(LogFile::new(alloc, file, &call));
             let wanted = wanted_by(alloc, &call);
             let Performed { answer, second } = perform(alloc, call, &mut log, output);
             let log = log.into_inner();
-            let first = end_file(alloc, name, &log, wanted, answer, folder, errors);
-            end_after(first, second, errors)
+            let first = end_file(alloc, name, &log, wanted, answer, repeats, folder, errors);
+            FileEnd {
+                ending: end_after(first.ending, second, errors),
+                front: first.front,
+            }
         }
-        Err(error) => unreadable(alloc, name, error, errors),
+        Err(error) => FileEnd::whole(unreadable(alloc, name, error, errors)),
     }
 }
 

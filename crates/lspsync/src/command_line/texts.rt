@@ -57,8 +57,9 @@ pub const REPLAY: &str = "Print the documents that are open at the end of a log,
 
 pub const REPLAY_EXAMPLE: &str =
     "A line of JSON has the document's `languageId`, `text`, `uri` and `version`, in
-order of opening. The status is that of `check`. Nothing is printed where the
-log is faulty.
+order of opening. The status is that of `check`. Where a log in a file is
+faulty, it is the documents before the fault; on standard input nothing is
+printed then.
 
 With `--at N` it is the documents after the Nth record, as `check` counts; what
 comes after it isn't read. With `--uri URI` it is the last text of one document
@@ -82,7 +83,7 @@ mark alone, a line says so. Else the lines that differ are printed, with the
 messages that made what differs: one is wrong, a later one is missing or
 wrong, or an earlier mistake led it to the wrong line. Messages about the
 document that were refused come last. `\\u{a0}` and the like are characters
-that can't be seen.
+that can't be seen. Of a faulty log in a file it is the text before the fault.
 
 The status is 0 where the texts are equal, byte for byte, else 1. Where no
 document's URI ends so, a line on standard error says so, and the status is 1;

@@ -2,10 +2,12 @@
 
 use super::*;
 use crate::process::Announced;
+use lsp_frame::frame;
 use lsp_replay::CallEnd::{Fail as Fails, Take};
-use lsp_samples::bodies::{AFTER_ONE_UNIT, INITIALIZE, OPEN, OPEN_EMOJI, WHOLE};
-use lsp_samples::logs::log;
+use lsp_samples::bodies::{ACCEPTED, AFTER_ONE_UNIT, EXIT, INITIALIZE, OPEN, OPEN_EMOJI, WHOLE};
+use lsp_samples::logs::{LINE, log};
 use std::io::Read;
+use std::str;
 use std::test::Fail;
 
 /// What `check` prints of a good log, of its first two records, and of the log twice.
@@ -22,6 +24,19 @@ const BETWEEN: &str =
 
 const CUT: &str =
     "lspsync: cut.log: truncated at 400: the log ends inside a message (docs/PROTOCOL.md#codes)\nlspsync: cut.log: `replay --at 2` shows the texts before it\n";
+
+/// The same where the texts up to there are printed, and where a document isn't there.
+const CUT_SHOWN: &str =
+    "lspsync: cut.log: truncated at 400: the log ends inside a message (docs/PROTOCOL.md#codes)\nlspsync: cut.log: the output is of the log up to message 2\n";
+
+const CUT_MISSING: &str =
+    "lspsync: cut.log: truncated at 400: the log ends inside a message (docs/PROTOCOL.md#codes)\nlspsync: cut.log: the output is of the log up to message 2\nlspsync: cut.log: no single document was open whose URI ends so\n  message 2 opened \"file:///a\"\n";
+
+const CUT_PIPE: &str =
+    "lspsync: cut.pipe: truncated at 400: the log ends inside a message (docs/PROTOCOL.md#codes)\n";
+
+const BAD_MARK: &str =
+    "lspsync: marks.log: bad log at 513: no `>` or `<` is here (docs/PROTOCOL.md#codes)\nlspsync: marks.log: the output is of the log up to message 3\n";
 
 const NVIM: &str =
     "lspsync: nvim.log: frame fault F1 at 8: no header can have this byte here (docs/PROTOCOL.md#codes)\nlspsync: nvim.log: a log of Neovim; bin/log-from makes a session of it\n";
@@ -46,8 +61,8 @@ const NO_DOCUMENT: &str =
 const UNLISTED: &str =
     "lspsync: short.log: no single document was open whose URI ends so\nlspsync: short.log: its documents can't be listed: out of memory, or it can't be read to its end\n";
 
-const UNLISTED_CUT: &str =
-    "lspsync: cut.log: no single document was open whose URI ends so\nlspsync: cut.log: its documents can't be listed: out of memory, or it can't be read to its end\n";
+const LISTED_CUT: &str =
+    "lspsync: cut.log: no single document was open whose URI ends so\n  message 2 opened \"file:///a\"\n";
 
 const PIPE: &str = "lspsync: pipe: no single document was open whose URI ends so\n";
 
@@ -59,6 +74,12 @@ const SAME: &str = "\"file:///a\" after message 3: the text is the file's\n";
 
 const DIFFERENT: &str =
     "\"file:///a\" after message 3: the text is not the file's:\nline 1 (made by messages 3, 2): \"aXc\"\n  the file, which differs from character 2 on, has: \"abc\\n\"\nFor each line, a message named is wrong, a later one is missing or wrong, or an earlier mistake led it to the wrong line. Look at the lowest numbers after the opening first.\n";
+
+const BEFORE_CUT: &str =
+    "\"file:///a\" after message 2: the text is not the file's:\nline 1 (made by message 2): \"abc\"\n  the file, which differs from character 2 on, has: \"aXc\"\nFor each line, a message named is wrong, a later one is missing or wrong, or an earlier mistake led it to the wrong line. Look at the lowest numbers after the opening first.\n";
+
+const OPENED: &str =
+    "{\"languageId\":\"plaintext\",\"text\":\"abc\",\"uri\":\"file:///a\",\"version\":1}\n";
 
 const BY_UTF_32: &str = "lspsync: emoji.log: with `--encoding utf-32` the texts are equal\n";
 
@@ -98,7 +119,14 @@ static ROWS: [(&str, u8, &str, &str); 36] = [
     ("lspsync compare heavy good.log", 4, "", NO_MEMORY),
     ("lspsync check heavy", 4, "", NO_MEMORY),
     ("lspsync compare saved.txt good.log", 1, "", NO_URI),
-    ("lspsync compare a cut.log", 5, "", CUT),
+    ("lspsync compare a cut.log", 5, BEFORE_CUT, CUT_SHOWN),
+    ("lspsync compare saved.txt cut.log", 5, "", CUT_MISSING),
+    ("lspsync replay --uri=a cut.log", 5, "abc", CUT_SHOWN),
+    ("lspsync replay --uri=b cut.log", 5, "", CUT_MISSING),
+    ("lspsync replay cut.log", 5, OPENED, CUT_SHOWN),
+    ("lspsync replay cut.pipe", 5, "", CUT_PIPE),
+    ("lspsync replay --at=3 cut.log", 5, "", CUT),
+    ("lspsync replay --uri=a marks.log", 5, "abc", BAD_MARK),
     ("lspsync check good.log", 0, GOOD, ""),
     ("lspsync check -", 0, GOOD, ""),
     ("lspsync check --live good.log", 0, GOOD, ""),
@@ -118,7 +146,7 @@ static ROWS: [(&str, u8, &str, &str); 36] = [
     // the first record was read once, and then the file fails
     ("lspsync replay --uri=b --at=1 short.log", 1, "", UNLISTED),
     // what is asked for comes before the cut
-    ("lspsync replay --uri=b --at=1 cut.log", 1, "", UNLISTED_CUT),
+    ("lspsync replay --uri=b --at=1 cut.log", 1, "", LISTED_CUT),
     ("lspsync replay --at=9 good.log", 1, "", NO_RECORD),
     (
         "lspsync check good.log --lenient gone.log -",
@@ -142,6 +170,16 @@ static DIFFERING: [(&str, &str); 6] = [
     // It can't be read once more.
     ("lspsync compare --uri=a emoji.txt emoji.pipe", ""),
 ];
+
+/// Returns a log of version 2 with a byte that is no mark.
+fn marked(alloc: Global) -> Result<Vec<u8>, AllocError> {
+    let mut bytes = Vec::from_slice(alloc, LINE)?;
+    for (mark, body) in [(">", INITIALIZE), ("<", ACCEPTED), (">", OPEN), ("?", EXIT)] {
+        bytes.extend_from_slice(mark.as_bytes())?;
+        bytes.extend_from_slice(&frame(alloc, body.as_bytes())?)?;
+    }
+    Ok(bytes)
+}
 
 /// Runs the program with these words, over these files.
 fn answered(alloc: Global, words: &str) -> Result<Answer, AllocError> {
@@ -197,6 +235,88 @@ fn another_setting_is_named(rt: HostRuntime) -> Result<(), Fail> {
             answer.errors.as_slice() == errors.as_bytes(),
             "at {words:?}"
         );
+    }
+    Ok(())
+}
+
+/// The records of a log with their marks, or of version 1 without, and why the last one can't come.
+type Bad = (
+    &'static str,
+    &'static [(&'static str, &'static str)],
+    &'static str,
+);
+
+/// A result of `initialize` with an encoding that nobody knows.
+const UNKNOWN: &str =
+    r#"{"id":1,"jsonrpc":"2.0","result":{"capabilities":{"positionEncoding":"utf-9"}}}"#;
+
+const LAST: &str = "this message comes after `exit`";
+
+static BAD: [Bad; 8] = [
+    ("check", &[("", INITIALIZE), ("", EXIT), ("", OPEN)], LAST),
+    (
+        "check",
+        &[(">", INITIALIZE), (">", EXIT), (">", OPEN)],
+        LAST,
+    ),
+    (
+        "check",
+        &[(">", INITIALIZE), (">", EXIT), (">", WHOLE)],
+        LAST,
+    ),
+    (
+        "trace",
+        &[(">", INITIALIZE), (">", OPEN), (">", WHOLE)],
+        "this change comes before the result of `initialize`",
+    ),
+    (
+        "normalise",
+        &[(">", INITIALIZE), ("<", UNKNOWN)],
+        "this result of `initialize` can't be read, or its encoding is unknown",
+    ),
+    (
+        "check",
+        &[(">", INITIALIZE), (">", EXIT), ("<", UNKNOWN)],
+        "this result of `initialize` can't be read, or its encoding is unknown",
+    ),
+    (
+        "check",
+        &[(">", INITIALIZE), (">", EXIT), ("?", OPEN)],
+        "no `>` or `<` is here",
+    ),
+    (
+        "convert",
+        &[(">", INITIALIZE)],
+        "the log has its replies already",
+    ),
+];
+
+/// Returns whether this is why a log is bad.
+fn is_bad_for(alloc: Global, bad: &Bad) -> Result<bool, Fail> {
+    let (command, records, why) = *bad;
+    let is_one = match records.first() {
+        Some((mark, _)) => mark.is_empty(),
+        None => false,
+    };
+    let mut bytes = Vec::from_slice(alloc, if is_one { b"" } else { LINE })?;
+    for (mark, body) in records {
+        bytes.extend_from_slice(mark.as_bytes())?;
+        bytes.extend_from_slice(&frame(alloc, body.as_bytes())?)?;
+    }
+    let files: [Held<'_>; 2] = [("bad.log", &bytes, &[]), ("pipe", &bytes, &[])];
+    let named = format!(in alloc; "lspsync {command} bad.log")?;
+    let piped = format!(in alloc; "lspsync {command} pipe")?;
+    let named = shelved(alloc, &named, &files, b"", &[], &[])?;
+    let piped = shelved(alloc, &piped, &files, b"", &[], &[])?;
+    let said = format!(in alloc; ": {why} (docs")?;
+    let is_said = str::from_utf8(&named.errors)?.contains(said.as_str());
+    Ok(is_said && named.status == 5 && piped.status == 5)
+}
+
+#[test]
+fn a_bad_record_has_its_reason(rt: HostRuntime) -> Result<(), Fail> {
+    for bad in &BAD {
+        assert!(rt; is_bad_for(rt.alloc(), bad)?, "{}", bad.2);
     }
     Ok(())
 }

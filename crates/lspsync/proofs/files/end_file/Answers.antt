@@ -2,4 +2,4 @@ use Rattle.lspsync.proofs.files.end_file.Goals as goal
 
 pub returns-in-Err : goal.returns-in-Err
 returns-in-Err g c =
-    rw c.in-Err.is (c.end_fault.ensures c.args.wanted (g.F.Folder.bytes c.args.folder.now c.args.name.now))
+    rw c.in-Err.is (c.end_fault.ensures c.args.wanted)

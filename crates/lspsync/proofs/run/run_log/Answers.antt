@@ -1,5 +1,5 @@
 use Rattle.lspsync.proofs.Prelude.{inl}
-use Rattle.lspsync.proofs.run.run_file.Goals as goal
+use Rattle.lspsync.proofs.run.run_log.Goals as goal
 
 pub returns-in-Ok : goal.returns-in-Ok
 returns-in-Ok g c = inl (record {
@@ -18,7 +18,7 @@ returns-in-Ok g c = inl (record {
       ) at c.perform-answer.ensures.performed;
   wanted = c.wanted_by-wanted.result;
   names = c.wanted_by-wanted.ensures;
-  first = c.end_file-first.result;
+  first = c.end_file-first.result.ending;
   errors = g.E.Sink.seen c.end_file-first.new.errors;
   ends = c.end_file-first.ensures;
   lost = c.end_after.ensures;
