@@ -1,11 +1,15 @@
 """What the test programs in Python share: tests of `unittest`, whose last line is `N passed, M failed, K not run`."""
 import json
+import os
+import shutil
 import subprocess
 import sys
 import tempfile
 import unittest
 
 from session_log import EDITOR, Log
+
+TOP = os.path.dirname(os.path.dirname(os.path.realpath(__file__)))
 
 
 def run(*words, data=b"", **more):
@@ -39,17 +43,41 @@ def trace_in_json(found, head="[LSP   - 10:12:13 AM] "):
     return "\n".join(lines) + "\n"
 
 
+def need(condition, why):
+    """Ends a test, or those of a class, that this machine can't run."""
+    if not condition:
+        raise unittest.SkipTest(why)
+
+
+def archive_folder():
+    """Returns the folder of the archive for C, which LASPIDRU_LIB_DIR may name."""
+    folder = os.path.abspath(os.environ.get("LASPIDRU_LIB_DIR", os.path.join(TOP, "build")))
+    need(os.path.exists(os.path.join(folder, "liblaspidru.a")), f"no liblaspidru.a in {folder} (make library)")
+    return folder
+
+
+def node_package(folder):
+    """Puts the package `laspidru` with its addon where Node looks for it."""
+    need(shutil.which("node"), "no node")
+    package, include = os.path.join(folder, "node_modules", "laspidru"), os.path.join(TOP, "crates", "laspidru", "include")
+    shutil.copytree(os.path.join(TOP, "bindings", "node"), package)
+    addon = os.path.join(package, "laspidru.node")
+    if not os.path.exists(addon):
+        need(shutil.which("cc"), "no C compiler")
+        headers = run("node", "-p", 'path.resolve(process.execPath, "../../include/node")')[1].decode().strip()
+        need(os.path.exists(os.path.join(headers, "node_api.h")), f"no node_api.h in {headers} (on Debian: apt-get install libnode-dev)")
+        subprocess.run(["cc", "-O2", "-fPIC", "-shared", "-I", headers, "-I", include, "-o", addon, os.path.join(package, "addon.c"),
+                        os.path.join(archive_folder(), "liblaspidru.a")], check=True)
+
+
 class Case(unittest.TestCase):
+    need = staticmethod(need)
+
     def new_folder(self):
         """Returns a new folder, which goes with the test."""
         made = tempfile.TemporaryDirectory()
         self.addCleanup(made.cleanup)
         return made.name
-
-    def need(self, condition, why):
-        """Ends a test that this machine can't run."""
-        if not condition:
-            self.skipTest(why)
 
 
 class Result(unittest.TextTestResult):
