@@ -1,4 +1,5 @@
 """What the test programs in Python share: tests of `unittest`, whose last line is `N passed, M failed, K not run`."""
+import glob
 import json
 import os
 import shutil
@@ -10,6 +11,7 @@ import unittest
 from session_log import EDITOR, Log
 
 TOP = os.path.dirname(os.path.dirname(os.path.realpath(__file__)))
+DEBIAN_CRATES = "/usr/share/cargo/registry"  # where Debian's packages have the sources of crates
 
 
 def run(*words, data=b"", **more):
@@ -56,8 +58,15 @@ def archive_folder():
     return folder
 
 
+def shared_library():
+    """Returns the path of the library, which LASPIDRU_LIBRARY may name."""
+    path = os.environ.get("LASPIDRU_LIBRARY") or next(iter(glob.glob(os.path.join(TOP, "build", "liblaspidru.so.*.*.*"))), "")
+    need(os.path.exists(path), "no shared library (make library)")
+    return os.path.abspath(path)
+
+
 def node_package(folder):
-    """Puts the package `laspidru` with its addon where Node looks for it."""
+    """Puts the package `laspidru` with its addon where Node looks for it. Returns the addon's path."""
     need(shutil.which("node"), "no node")
     package, include = os.path.join(folder, "node_modules", "laspidru"), os.path.join(TOP, "crates", "laspidru", "include")
     shutil.copytree(os.path.join(TOP, "bindings", "node"), package)
@@ -68,6 +77,26 @@ def node_package(folder):
         need(os.path.exists(os.path.join(headers, "node_api.h")), f"no node_api.h in {headers} (on Debian: apt-get install libnode-dev)")
         subprocess.run(["cc", "-O2", "-fPIC", "-shared", "-I", headers, "-I", include, "-o", addon, os.path.join(package, "addon.c"),
                         os.path.join(archive_folder(), "liblaspidru.a")], check=True)
+    return addon
+
+
+def cargo_copy(folder, *parts):
+    """Copies the crate laspidru, and what else is named, for cargo to build it there."""
+    for part in ("bindings/rust", *parts):
+        shutil.copytree(os.path.join(TOP, part), os.path.join(folder, part), ignore=shutil.ignore_patterns("target", "Cargo.lock"))
+
+
+def cargo_build(folder, crate, *words, debian=(), **patches):
+    """Builds a crate in such a folder without a network, by crates of Debian's and by stand-ins. Returns the folder of programs."""
+    need(shutil.which("cargo"), "no cargo")
+    missing = [it for it in debian if not glob.glob(f"{DEBIAN_CRATES}/{it}-[0-9]*")]
+    need(not missing, f"no crate {', '.join(missing)} (on Debian: librust-NAME-dev)")
+    config = ["source.crates-io.replace-with='debian'", f"source.debian.directory='{DEBIAN_CRATES}'"] if debian else []
+    config += [f"patch.crates-io.{name.replace('_', '-')}.path='{os.path.join(folder, path)}'" for name, path in patches.items()]
+    subprocess.run(["cargo", "build", "--quiet", "--offline", *words, *(it for line in config for it in ("--config", line))], check=True,
+                   cwd=os.path.join(folder, crate),
+                   env={**os.environ, "LASPIDRU_LIB_DIR": archive_folder(), "CARGO_TARGET_DIR": os.path.join(folder, "target")})
+    return os.path.join(folder, "target", "debug")
 
 
 class Case(unittest.TestCase):
