@@ -129,36 +129,12 @@ impl Handle {
         self.batch_by(laspidru_document_batch_of_edits, encoding, edits, texts, batch, fault)
     }
 
-    pub fn document_size(&self, length: &mut Length) -> u32 {
-        unsafe { laspidru_document_size(&mut *self.0.borrow_mut(), length) }
-    }
-
-    pub fn document_line(&self, number: u32, line: &mut Line) -> u32 {
-        unsafe { laspidru_document_line(&mut *self.0.borrow_mut(), number, line) }
-    }
-
-    pub fn document_offset(&self, encoding: u32, position: Position, offset: &mut usize) -> u32 {
-        unsafe { laspidru_document_offset(&mut *self.0.borrow_mut(), encoding, position, offset) }
-    }
-
-    pub fn document_position(&self, encoding: u32, offset: usize, position: &mut Position) -> u32 {
-        unsafe { laspidru_document_position(&mut *self.0.borrow_mut(), encoding, offset, position) }
-    }
-
     pub fn document_bytes(&self, start: usize, len: usize) -> Vec<u8> {
         self.copied(laspidru_document_copy, start, len)
     }
 
-    pub fn batch_len(&self, len: &mut usize) -> u32 {
-        unsafe { laspidru_batch_len(&mut *self.0.borrow_mut(), len) }
-    }
-
     pub fn batch_edit(&self, index: usize, edit: &mut Edit, out: &mut [u8], copied: &mut usize) -> u32 {
         unsafe { laspidru_batch_edit(&mut *self.0.borrow_mut(), index, edit, out.as_mut_ptr(), out.len(), copied) }
-    }
-
-    pub fn framer_new(&self, max_body: usize) -> u32 {
-        unsafe { laspidru_framer_new(&mut *self.0.borrow_mut(), max_body) }
     }
 
     pub fn framer_feed(&self, piece: &[u8], taken: &mut Taken) -> u32 {
@@ -168,22 +144,6 @@ impl Handle {
     /// The body of the message that is buffered, which has so many bytes.
     pub fn framer_body(&self, len: usize) -> Vec<u8> {
         self.copied(laspidru_framer_body, 0, len)
-    }
-
-    pub fn framer_next(&self) -> u32 {
-        unsafe { laspidru_framer_next(&mut *self.0.borrow_mut()) }
-    }
-
-    pub fn framer_at_rest(&self, at_rest: &mut bool) -> u32 {
-        unsafe { laspidru_framer_at_rest(&mut *self.0.borrow_mut(), at_rest) }
-    }
-
-    pub fn server_new(&self, settings: &Settings) -> u32 {
-        unsafe { laspidru_server_new(&mut *self.0.borrow_mut(), settings) }
-    }
-
-    pub fn client_new(&self, settings: &ClientSettings) -> u32 {
-        unsafe { laspidru_client_new(&mut *self.0.borrow_mut(), settings) }
     }
 
     pub fn client_call(&self, call: Lifecycle, len: &mut usize) -> u32 {
@@ -355,6 +315,30 @@ impl Handle {
     pub fn output_copy(&self, len: usize) -> Vec<u8> {
         self.copied(laspidru_output_copy, 0, len)
     }
+}
+
+/// Declares methods of a handle, each a call with the same arguments. SAFETY: as of the calls above.
+macro_rules! calls {
+    ($($name:ident = $call:ident($($argument:ident: $kind:ty),*);)*) => {
+        impl Handle {
+            $(pub fn $name(&self, $($argument: $kind),*) -> u32 {
+                unsafe { $call(&mut *self.0.borrow_mut(), $($argument),*) }
+            })*
+        }
+    };
+}
+
+calls! {
+    document_size = laspidru_document_size(length: &mut Length);
+    document_line = laspidru_document_line(number: u32, line: &mut Line);
+    document_offset = laspidru_document_offset(encoding: u32, position: Position, offset: &mut usize);
+    document_position = laspidru_document_position(encoding: u32, offset: usize, position: &mut Position);
+    batch_len = laspidru_batch_len(len: &mut usize);
+    framer_new = laspidru_framer_new(max_body: usize);
+    framer_next = laspidru_framer_next();
+    framer_at_rest = laspidru_framer_at_rest(at_rest: &mut bool);
+    server_new = laspidru_server_new(settings: &Settings);
+    client_new = laspidru_client_new(settings: &ClientSettings);
 }
 
 /// What a call has of an open document; none where no document of its URI is open.
