@@ -14,6 +14,7 @@ Each log begins with initialize, initialized and the documents that are opened. 
   tiny         notifications of 30 bytes
 """
 import argparse
+import itertools
 import json
 import random
 import sys
@@ -29,6 +30,7 @@ DID_CHANGE = (
     '{"textDocument":{"uri":"%s","version":%d},"contentChanges":[%s]}}'
 )
 FOREIGN_BYTES = 10_000
+MAIN = "file:///home/user/project/src/main.rs"
 
 
 def frame(body):
@@ -116,19 +118,13 @@ class Typist:
         return frame(DID_CHANGE % (self.uri, self.version, changes))
 
 
-def keystrokes(options, chance):
-    typist = Typist(chance, "file:///home/user/project/src/main.rs", options.lines)
-    yield typist.open()
+def keystrokes(options, typist):
     while True:
         yield typist.message(typist.change())
 
 
-def requests(options, chance):
-    typist = Typist(chance, "file:///home/user/project/src/main.rs", options.lines)
-    yield typist.open()
-    number = 1
-    while True:
-        number += 1
+def requests(options, typist):
+    for number in itertools.count(2):
         yield typist.message(typist.change())
         place = {"line": typist.line, "character": typist.column}
         yield message("textDocument/completion", {"textDocument": {"uri": typist.uri}, "position": place}, number)
@@ -143,9 +139,7 @@ def documents(options, chance):
             yield typist.message(typist.change())
 
 
-def batches(options, chance):
-    typist = Typist(chance, "file:///home/user/project/src/main.rs", options.lines)
-    yield typist.open()
+def batches(options, typist):
     while True:
         changes = []
         for _ in range(options.changes):
@@ -154,9 +148,7 @@ def batches(options, chance):
         yield typist.message(",".join(changes))
 
 
-def replace_all(options, chance):
-    typist = Typist(chance, "file:///home/user/project/src/main.rs", options.lines)
-    yield typist.open()
+def replace_all(options, typist):
     words = [json.dumps("answer"), json.dumps("number")]
     while True:
         rows = range(min(options.changes, options.lines) - 1, -1, -1)
@@ -164,29 +156,20 @@ def replace_all(options, chance):
 
 
 def whole(options, chance):
-    uri = "file:///home/user/project/src/main.rs"
     text = text_of_bytes(options.text)
-    yield opened(uri, text)
-    version = 1
-    while True:
-        version += 1
+    yield opened(MAIN, text)
+    for version in itertools.count(2):
         place = int(chance() * len(text))
         change = json.dumps(text[:place] + "é" + text[place:], ensure_ascii=False)
-        yield frame(DID_CHANGE % (uri, version, '{"text":%s}' % change))
+        yield frame(DID_CHANGE % (MAIN, version, '{"text":%s}' % change))
 
 
 def opens(options, chance):
     text = text_of_bytes(options.text)
-    number = 0
-    while True:
-        number += 1
+    for number in itertools.count(1):
         uri = "file:///home/user/project/src/%d.rs" % number
         yield opened(uri, text)
-        yield closed(uri)
-
-
-def closed(uri):
-    return message("textDocument/didClose", {"textDocument": {"uri": uri}})
+        yield message("textDocument/didClose", {"textDocument": {"uri": uri}})
 
 
 def diagnostic(number):
@@ -226,16 +209,12 @@ def foreign_params(uri):
     ]
 
 
-def foreign(options, chance):
-    typist = Typist(chance, "file:///home/user/project/src/main.rs", options.lines)
-    yield typist.open()
+def foreign(options, typist):
     calls = foreign_params(typist.uri)
-    number = 1
-    while True:
-        number += 1
-        if chance() < 0.05:
+    for number in itertools.count(2):
+        if typist.chance() < 0.05:
             yield typist.message(typist.change())
-        method, params, is_request = calls[int(chance() * len(calls))]
+        method, params, is_request = calls[int(typist.chance() * len(calls))]
         yield message(method, params, number if is_request else None)
 
 
@@ -244,24 +223,21 @@ def tiny(options, chance):
         yield frame('{"jsonrpc":"2.0","method":"a"}')
 
 
-KINDS = {
-    "keystrokes": keystrokes,
-    "requests": requests,
-    "documents": documents,
-    "batches": batches,
-    "replace-all": replace_all,
-    "whole": whole,
-    "opens": opens,
-    "foreign": foreign,
-    "tiny": tiny,
-}
+# Those that begin with one document, in which someone types, and the others
+TYPING = {"keystrokes": keystrokes, "requests": requests, "batches": batches, "replace-all": replace_all, "foreign": foreign}
+KINDS = {"documents": documents, "whole": whole, "opens": opens, "tiny": tiny}
 
 
 def session(options):
-    capabilities = {"general": {"positionEncodings": ["utf-16"]}}
+    capabilities, chance = {"general": {"positionEncodings": ["utf-16"]}}, random.Random(options.seed).random
     yield message("initialize", {"processId": None, "rootUri": None, "capabilities": capabilities}, 1)
     yield message("initialized", {})
-    yield from KINDS[options.kind](options, random.Random(options.seed).random)
+    if options.kind in KINDS:
+        yield from KINDS[options.kind](options, chance)
+    else:
+        typist = Typist(chance, MAIN, options.lines)
+        yield typist.open()
+        yield from TYPING[options.kind](options, typist)
 
 
 def number(text):
@@ -274,7 +250,7 @@ def number(text):
 
 def parsed(words):
     parser = argparse.ArgumentParser(description=__doc__, formatter_class=argparse.RawDescriptionHelpFormatter)
-    parser.add_argument("kind", choices=KINDS)
+    parser.add_argument("kind", choices=[*TYPING, *KINDS])
     parser.add_argument("--bytes", type=number, default=1_000_000, help="length of the log, at least (as 64M; 1M)")
     parser.add_argument("--lines", type=number, default=1_000, help="lines of each document (1,000)")
     parser.add_argument("--documents", type=number, default=1_000, help="how many documents (1,000)")
