@@ -197,23 +197,14 @@ release:
 verify:
 	@install/verify "$(VERSION)" $(or $(SUMS),"$(RELEASES)/laspidru-$(VERSION).sha256")
 
-quick:
-	@tools/quick $(CRATE)
-
-ready:
-	@tools/ready $(CRATE)
-
 gate:
 	@.ci/run
 
-minutes:
-	@tools/minutes
+quick ready edits refused callers:
+	@tools/$@ $(CRATE)
 
-edits:
-	@tools/edits $(CRATE)
-
-refused:
-	@tools/refused $(CRATE)
+minutes bindings c:
+	@tools/$@
 
 pages:
 	@failed=0; for tool in "tools/links" "tools/definitions --check"; do $$tool || failed=$$((failed + 1)); done; \
@@ -228,17 +219,8 @@ test:
 conformance:
 	@conformance/test
 
-callers:
-	@tools/callers $(CRATE)
-
 examples:
 	@tools/test examples
-
-bindings:
-	@tools/bindings
-
-c:
-	@tools/c
 
 targets:
 	@tools/targets $(ARGS) $(TARGET)
