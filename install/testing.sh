@@ -43,6 +43,12 @@ fails() {
     fi
 }
 
+# fails_with WORDS COMMAND ..: it fails, and says these words
+fails_with() {
+    fails "${@:2}" >"$made/said" 2>&1
+    says "$1" "$made/said"
+}
+
 says() { grep -qF -- "$1" "$2" || { echo "missing: $1"; cat "$2"; return 1; }; }
 
 # Prints the last line, and returns whether no part failed.
