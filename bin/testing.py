@@ -8,7 +8,7 @@ import sys
 import tempfile
 import unittest
 
-from session_log import EDITOR, Log
+from session_log import EDITOR, Log, written_header
 
 TOP = os.path.dirname(os.path.dirname(os.path.realpath(__file__)))
 DEBIAN_CRATES = "/usr/share/cargo/registry"  # where Debian's packages have the sources of crates
@@ -19,6 +19,12 @@ def run(*words, data=b"", **more):
     how = {"input": data, "stdout": subprocess.PIPE, "stderr": subprocess.PIPE, "timeout": 60, **more}
     done = subprocess.run(words, **how)
     return done.returncode, done.stdout, (done.stderr or b"").decode()
+
+
+def frame(body):
+    """Returns the frame of a body, which may be given as what its JSON is."""
+    body = json.dumps(body).encode() if not isinstance(body, bytes) else body
+    return written_header(len(body)) + body
 
 
 def records(data):
