@@ -21,6 +21,12 @@ def run(*words, data=b"", **more):
     return done.returncode, done.stdout, (done.stderr or b"").decode()
 
 
+def read(*path):
+    """Returns what is in a file."""
+    with open(os.path.join(*path), "rb") as file:
+        return file.read()
+
+
 def frame(body):
     """Returns the frame of a body, which may be given as what its JSON is."""
     body = json.dumps(body).encode() if not isinstance(body, bytes) else body
