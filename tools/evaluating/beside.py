@@ -13,7 +13,7 @@ from .values import CannotRun, case, some, utf8
 COMMANDS = """
 check, check --lenient, check --explain, check --brief, check --all, check --explain --lenient, check --explain --encoding utf-8,
 check --all --max-text 6 --max-docs 1 --max-changes 2, check --live, check --brief --live, trace, trace --texts --bodies,
-trace --live --max-body 4096 --encoding utf-8, replay, replay --at 4, replay --uri a, replay --at 4 --uri file:///a,
+trace --live --max-body 4096 --encoding utf-8, replay, replay --at 4, replay --uri a, replay --uri /a, replay --at 4 --uri file:///a,
 replay --encoding utf-32, normalise, normalise --squash, normalise --squash --max-changes 1 --max-body 4096, normalise --documents,
 normalise --max-body 4096 --live, normalise --whole, normalise --whole --documents --live, normalise --whole --max-body 4096,
 normalise --documents --squash, normalise --squash --whole, normalise --squash --live, convert, convert --max-body 4096, compare,

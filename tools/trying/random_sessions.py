@@ -211,16 +211,25 @@ def chosen_sessions():
         ("long", [*begin, {"event": "open", "textDocument": document}, {"event": "edit", **change}]),
     ):
         yield f"{name}.events", b"".join(json.dumps(it).encode() + b"\n" for it in events)
-    def opened(text):
-        return {"method": "textDocument/didOpen", "params": {"textDocument": {**document, "text": text}}}
+    def opened(text, uri="file:///a"):
+        return {"method": "textDocument/didOpen", "params": {"textDocument": {**document, "uri": uri, "text": text}}}
+    def inserted(version, text, **more):
+        start = {"line": 0, "character": 0}
+        return {"method": CHANGE, "params": {"textDocument": {"uri": "file:///a", "version": version},
+                                             "contentChanges": [{"range": {"start": start, "end": start}, "text": text, **more}]}}
     # (a text with a byte order mark and two forms of line ends, of which each message made one)
     last = {"range": {"start": {"line": 1, "character": 0}, "end": {"line": 2, "character": 0}}, "text": "c\n"}
+    wrong = {"rangeLength": 1}
     stale = {"method": CHANGE, "params": {"textDocument": {"uri": "file:///a", "version": 1}, "contentChanges": [{"text": "b"}]}}
     begin = {"id": 1, "method": "initialize", "params": {"capabilities": {}}}
     for name, messages in (
         ("refusals", [opened("a"), *7 * [stale]]),
         ("rare", [{"id": 5, "method": 3}, {"method": "textDocument/didClose"}, opened(""), {"method": CHANGE, "params": change}]),
         ("ends", [opened("\ufeffa\rb\n"), {"method": CHANGE, "params": {**change, "contentChanges": [last]}}]),
+        # (a whole URI after one that ends so; a line that twelve messages made, with a habit; a body that fits, whose frame would not)
+        ("names", [opened("b", "file:///b/a"), opened("a")]),
+        ("makers", [opened("x"), *(inserted(it, chr(95 + it), **(wrong if it in (2, 3, 4, 13) else {})) for it in range(2, 14))]),
+        ("frame", [opened(""), inserted(2, 3859 * "x")]),
     ):
         bodies = [json.dumps({"jsonrpc": "2.0", **it}).encode() for it in (begin, *messages)]
         yield f"{name}.log", b"".join(b"Content-Length: %d\r\n\r\n%s" % (len(it), it) for it in bodies)
