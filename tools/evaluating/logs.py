@@ -176,7 +176,8 @@ def run_log(run, words, data, saved=None, name=None):
         return Output(out + again.out, run("status_of", end), line + again.error)
     line = b"".join(bytes(run("error_line", name, run("missing_text", it))) for it in end.x_missing.args)
     if name.args and end.x_missing.args and end.x_missing.args[0].tag == "Document":
-        engine = run("openings_engine", asked.args[0], utf8(options["uri"]))
+        text = some(list_of(saved or b"")) if command == "compare" else NONE
+        engine = run("openings_engine", asked.args[0], utf8(options["uri"]), text)
         listed, found = run_engine(run, engine, data)
         line += found if listed.tag == "Ok" else run_engine(run, engine, front_of(run, engine, data)[0])[1]
     return Output(out, end.x_status, line)

@@ -1,6 +1,24 @@
 -- The places at which two texts have other lines, as a loop finds them.
-use Rattle.line_diff.proofs.Prelude.{◌≡◌, ℕ, zero, suc, ◌+◌, ◌-◌, ◌<◌, ◌⊎◌, inl, inr, List, ◌++◌, Some, None, length, drop, refl, arith, drop-drop, length-drop, hunk_of, hunks_from, next_gap, common_steps}
+use Rattle.std.proofs.lemmas.List.Sums.{sum_by-append}
+use Rattle.std.specs.List.{sum_by}
+use Rattle.line_diff.specs.Hunks.{lines_at}
+use Rattle.line_diff.proofs.Prelude.{◌≡◌, ℕ, zero, suc, ◌+◌, ◌-◌, ◌<◌, ◌≤◌, ◌⊎◌, inl, inr, List, ◌++◌, Some, None, length, drop, refl, arith, drop-drop, length-drop, hunk_of, hunks_from, next_gap, common_steps}
 use Rattle.line_diff.specs.declared.hunks.Gap.{Gap}
+use Rattle.line_diff.specs.declared.hunks.Hunk.{Hunk}
+
+few_in : (start other_start : ℕ) (gap : Gap)
+    → sum_by lines_at (hunk_of start other_start gap) ≤ gap.lines + gap.others
+few_in start other_start gap = grind (arith, common_steps)
+
+-- A hunk has no more lines than its gap has of both texts.
+pub few_more : (start other_start : ℕ) (gap : Gap) (hunks : List Hunk)
+    → sum_by lines_at (hunks ++ hunk_of start other_start gap)
+    ≤ sum_by lines_at hunks + (gap.lines + gap.others)
+few_more start other_start gap hunks = grind (
+  arith,
+  sum_by-append lines_at hunks (hunk_of start other_start gap),
+  few_in start other_start gap,
+)
 
 dropped : (start more : ℕ) (lines : List (List ℕ))
     → drop (suc more) (drop start lines) ≡ drop (start + (more + 1)) lines

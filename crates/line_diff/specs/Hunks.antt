@@ -85,3 +85,7 @@ hunks_from (suc steps) farthest start other_start lines others =
 -- The hunks of two texts. Each step takes a line of the first.
 unfoldable pub hunks_of : ℕ → List (List ℕ) → List (List ℕ) → List Hunk
 hunks_of farthest lines others = hunks_from (length lines) farthest 0 0 lines others
+
+-- How many lines differ at a hunk: those of the text that has more of them there.
+abbrev pub lines_at : Hunk → ℕ
+lines_at hunk = max (hunk.end - hunk.start) (hunk.other_end - hunk.other_start)

@@ -1,6 +1,7 @@
 pub mod Alike
 pub mod Common
 pub mod Comparison
+pub mod Differing
 pub mod Hunks
 pub mod Lines
 pub mod Makers

@@ -1,8 +1,8 @@
 //! Where two texts have other lines.
 
-ghost use Rattle.std.specs.Prelude.{◌≡◌, ◌<◌, ◌+◌, ◌^◌, ◌++◌, IfOk, IfSome, OnOk, drop, length, map, option_map};
+ghost use Rattle.std.specs.Prelude.{◌≡◌, ◌≤◌, ◌<◌, ◌+◌, ◌^◌, ◌++◌, IfOk, IfSome, OnOk, drop, length, map, option_map, sum_by};
 ghost use Rattle.line_diff.specs.Common.{are_equal};
-ghost use Rattle.line_diff.specs.Hunks.{agreed, best_gap, better, gap_at, gap_of, hunk_of, hunks_of, next_gap};
+ghost use Rattle.line_diff.specs.Hunks.{agreed, best_gap, better, gap_at, gap_of, hunk_of, hunks_of, lines_at, next_gap};
 
 use crate::lines::line_at;
 use std::alloc::{AllocError, Global};
@@ -15,6 +15,16 @@ pub struct Hunk {
     pub end: usize,
     pub other_start: usize,
     pub other_end: usize,
+}
+
+impl Hunk {
+    /// Returns how many lines differ here: those of the text that has more of them.
+    pub(crate) fn lines(&self) -> usize
+        ensures { result ≡ lines_at self.now }
+    {
+        let lines = self.end.saturating_sub(self.start);
+        lines.max(self.other_end.saturating_sub(self.other_start))
+    }
 }
 
 /// So many lines of one text, and so many of another, come before lines that agree. `agreed` says how
@@ -185,9 +195,11 @@ pub fn hunks_of(
     lines: &[&str],
     others: &[&str],
 ) -> Result<Vec<Hunk>, AllocError>
-    ensures { IfOk result (λ found. found.items
+    ensures value { IfOk result (λ found. found.items
         ≡ hunks_of farthest (map (λ line. line.now) lines.entry.now)
         (map (λ line. line.now) others.entry.now)) }
+    ensures within { IfOk result (λ found.
+        sum_by lines_at found.items ≤ length lines.entry.now + length others.entry.now) }
 {
     let mut found = Vec::new(alloc);
     let mut start = 0;

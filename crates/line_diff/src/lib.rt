@@ -6,6 +6,7 @@
 //! - `report`: how the text and a file differ, in words.
 //! - `makers`: by which changes a line differs.
 //! - `lines`: the lines of a text. `hunks`: where two texts have other lines.
+//! - `differing`: how many lines of two texts differ.
 //! - `alike`: whether texts differ by line ends, the last line end and a byte order mark alone.
 //! - `names`: names of files as a person types them, and URIs that end so.
 //! - `shown`: a line in quotes, with what can't be seen in it.
@@ -13,6 +14,7 @@
 
 mod alike;
 mod comparison;
+mod differing;
 mod hunks;
 mod lines;
 mod makers;
@@ -25,6 +27,7 @@ mod shown;
 mod tracked;
 
 pub use comparison::Comparison;
+pub use differing::differing_lines;
 pub use names::{ends_so, is_exactly};
 pub use owners::Splice;
 pub use tracked::TrackedText;

@@ -17,7 +17,7 @@ use std::alloc::{AllocError, Global};
 use std::marker::Model;
 
 /// Lines that agree are sought where fewer lines than this come before them in each text.
-const FARTHEST: usize = 2_000;
+pub(crate) const FARTHEST: usize = 2_000;
 
 /// What follows from a report.
 const LAST_WORDS: &str =

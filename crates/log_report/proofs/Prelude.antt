@@ -29,7 +29,7 @@ pub use Rattle.log_report.specs.Habits.{Habits, all_but, habits_at, habits_of, n
 pub use Rattle.log_report.specs.Lines.{FactsData, Known, LineView, facts_of, hint_in, hint_of, hint_with, is_not_open, is_strict_in, is_stale_refusal, is_strict_refusal, is_unread, known_after, last_in, lead_of, lines, named_in, noted_in, noted_uri, nothing_known, or_unread, uri_of}
 pub use Rattle.log_report.specs.Mentions.{Mention, is_mention, last_for, last_record, mentioned, most_mentions, without}
 pub use Rattle.log_report.specs.Notes.{Terms, batch_notes, change_notes, changes_words, differing_line, has_lone_return, if_left, left_by, note_words, notes_from, notes_if, notes_on, notes_words, past_words, replaced_by, side_words, taken_as, usual_words}
-pub use Rattle.log_report.specs.Openings.{listing_openings, no_openings, opening_words}
+pub use Rattle.log_report.specs.Openings.{Candidate, candidate_of, candidate_words, is_nearer, listing_openings, nearest, no_openings, placed}
 pub use Rattle.log_report.specs.Reasons.{edit_reason, end_words, error_reason, hint_words, idle_words, is_idle, position_words, range_sent, reason_words, store_reason, version_words}
 pub use Rattle.log_report.specs.Tallies.{Tally, count_of, raised, tallied, tally_words}
 pub use Rattle.log_report.specs.Trace.{body_json, document_after, facts_members, first_members, id_json, id_of, is_json, json_string, last_members, member, method_of, notes_json, reason_json, side_word, text_json, trace_line, tracing, version_json, within}

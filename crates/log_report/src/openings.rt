@@ -1,12 +1,15 @@
 //! Which message opened each document of a log first.
 
-ghost use Rattle.std.specs.Prelude.{◌≡◌, ◌++◌, OnOk, flat_map, option_map, string_bytes, take};
-ghost use Rattle.log_report.specs.Openings.{listed_words, more_words, most_openings, no_openings, none_words, opening_words, openings_after, openings_words};
+ghost use Rattle.std.specs.Prelude.{◌≡◌, ◌≤◌, ◌++◌, [], IfOk, OnOk, Some, flat_map, length, option_map, string_bytes, take};
+ghost use Rattle.std.specs.List.{insert};
+ghost use Rattle.log_report.specs.Compare.{open_text_of};
+ghost use Rattle.log_report.specs.Openings.{differing_words, listed_words, more_words, most_openings, nearest, no_openings, none_words, openings_after, openings_words};
+ghost use Rattle.log_report.specs.Openings.{is_nearer, lines_differing, placed, candidate_of, candidate_words};
 
 use crate::counts::tallies::{Tally, add, has_tallies};
 use crate::members::{push_json_string, push_number, push_words};
-use line_diff::ends_so;
-use lsp_server::Phase;
+use line_diff::{differing_lines, ends_so};
+use lsp_server::{Phase, Server};
 use std::alloc::{AllocError, Global};
 use std::marker::Model;
 
@@ -18,32 +21,52 @@ const LISTED: usize = 20;
 pub struct Openings {
     alloc: Global,
     ending: String,
+    // The text that they are compared with.
+    saved: Option<String>,
     // Those whose URIs end so.
     fitting: Vec<Tally>,
     others: Vec<Tally>,
 }
 
 impl Model for Openings {
-    ghost use Rattle.std.specs.Prelude.{string_bytes};
+    ghost use Rattle.std.specs.Prelude.{option_map, string_bytes};
     ghost use Rattle.log_report.specs.Openings as spec;
 
     ghost Value = { spec.OpeningsData };
 
     ghost view = { λ o. record {
       ending = string_bytes o.ending;
+      saved = option_map string_bytes o.saved;
       fitting = o.fitting.items;
       others = o.others.items;
     } };
 }
 
+/// A document of the list, and how many of its lines differ from the saved text's, if that is known.
+#[derive(Drop)]
+struct Candidate<'a> {
+    opening: &'a Tally,
+    lines: Option<usize>,
+}
+
+impl<'a> Model for Candidate<'a> {
+    ghost use Rattle.log_report.specs.Openings as spec;
+
+    ghost Value = { spec.Candidate };
+
+    ghost view = { λ candidate. record { opening = candidate.opening.now; lines = candidate.lines } };
+}
+
 impl Openings {
     /// Starts before the first record.
-    pub fn nothing(alloc: Global, ending: String) -> Self
-        ensures { result ≡ no_openings (string_bytes ending) }
+    pub fn nothing(alloc: Global, ending: String, saved: Option<String>) -> Self
+        ensures { result
+            ≡ no_openings (string_bytes ending) (option_map string_bytes saved) }
     {
         Openings {
             alloc,
             ending,
+            saved,
             fitting: Vec::new(alloc),
             others: Vec::new(alloc),
         }
@@ -65,20 +88,103 @@ impl Openings {
         }
     }
 
-    /// Writes the list at the end, with the server in this phase: of the documents whose URIs end
-    /// as they should, else of all.
-    pub fn push(&self, buffer: &mut Vec<u8>, phase: Phase) -> Result<(), AllocError>
+    /// Writes the list at the end, with this server: of the documents whose URIs end as they should,
+    /// else of all.
+    pub fn push(&self, buffer: &mut Vec<u8>, server: &Server) -> Result<(), AllocError>
         ensures { OnOk result
-            (buffer.new.items ≡ buffer.old.items ++ openings_words phase self.now) }
+            (buffer.new.items ≡ buffer.old.items ++ openings_words server.now self.now) }
     {
         if has_tallies(self.fitting.as_slice()) {
-            return push_list(self.alloc, buffer, self.fitting.as_slice());
+            return self.push_list(buffer, server, self.fitting.as_slice());
         }
         if has_tallies(self.others.as_slice()) {
-            return push_list(self.alloc, buffer, self.others.as_slice());
+            return self.push_list(buffer, server, self.others.as_slice());
         }
-        push_words(buffer, none_words(phase))
+        push_words(buffer, none_words(server.phase()))
     }
+
+    /// Writes a line for each of the first of these documents, and how many more there are.
+    fn push_list(
+        &self,
+        buffer: &mut Vec<u8>,
+        server: &Server,
+        documents: &[Tally],
+    ) -> Result<(), AllocError>
+        ensures { OnOk result (buffer.new.items
+            ≡ buffer.old.items ++ listed_words self.now.saved server.now documents.now) }
+    {
+        let candidates = self.nearest(server, documents)?;
+        push_candidates(self.alloc, buffer, first_of(candidates.as_slice()))?;
+        push_more(buffer, documents.len().saturating_sub(LISTED))
+    }
+
+    /// Returns the candidates of documents, nearest first.
+    fn nearest<'a>(
+        &self,
+        server: &Server,
+        documents: &'a [Tally],
+    ) -> Result<Vec<Candidate<'a>>, AllocError>
+        ensures { IfOk result (λ candidates.
+            candidates.items ≡ nearest (candidate_of self.now.saved server.now) [] documents.entry.now) }
+    {
+        let mut candidates = Vec::new(self.alloc);
+        for opening in documents {
+            let lines = self.lines_differing(server, &opening.words)?;
+            place(&mut candidates, Candidate { opening, lines })?;
+        }
+        Ok(candidates)
+    }
+
+    /// Returns how many lines of a document differ from the saved text's, if there is one and the
+    /// document is open.
+    fn lines_differing(&self, server: &Server, uri: &str) -> Result<Option<usize>, AllocError>
+        ensures { IfOk result (λ lines. lines
+            ≡ lines_differing self.now.saved (open_text_of server.now (Some uri.now))) }
+    {
+        let (Some(saved), Some(document)) = (&self.saved, server.store().get(uri)) else {
+            return Ok(None);
+        };
+        let text = document.text().to_string(self.alloc)?;
+        Ok(Some(differing_lines(self.alloc, &text, saved)?))
+    }
+}
+
+/// Returns whether a document with so many lines that differ comes before another one.
+fn is_nearer(lines: Option<usize>, other: Option<usize>) -> bool
+    ensures { result ≡ is_nearer lines other }
+{
+    match (lines, other) {
+        (Some(lines), Some(other)) => lines < other,
+        (lines, _) => lines.is_some(),
+    }
+}
+
+/// Returns where a candidate is put among those that are nearest first: after those as near.
+fn index_for(candidates: &[Candidate<'_>], candidate: &Candidate<'_>) -> usize
+    ensures within { result ≤ length candidates.now }
+    ensures index { insert candidates.now result candidate.now ≡ placed candidate.now candidates.now }
+{
+    let mut next = 0;
+    'candidates: while next < candidates.len() {
+        let other = &candidates[next];
+        if is_nearer(candidate.lines, other.lines) {
+            return next;
+        }
+        next += 1;
+    }
+    next
+}
+
+/// Puts a candidate among those that are nearest first.
+fn place<'a>(
+    candidates: &mut Vec<Candidate<'a>>,
+    candidate: Candidate<'a>,
+) -> Result<(), AllocError>
+    ensures { OnOk result (candidates.new.items ≡ placed candidate.entry candidates.old.items) }
+{
+    let index = index_for(candidates.as_slice(), &candidate);
+    candidates.insert(index, candidate)?;
+    Ok(())
 }
 
 /// Returns why no document can be listed, with the server in this phase at the end.
@@ -93,45 +199,56 @@ fn none_words(phase: Phase) -> &'static str
     }
 }
 
-/// Writes a line for each of the first documents, and how many more there are.
-fn push_list(alloc: Global, buffer: &mut Vec<u8>, documents: &[Tally]) -> Result<(), AllocError>
-    ensures { OnOk result (buffer.new.items ≡ buffer.old.items ++ listed_words documents.now) }
+/// Returns the candidates that are listed.
+fn first_of<'a, 'b>(candidates: &'b [Candidate<'a>]) -> &'b [Candidate<'a>]
+    ensures { result.now ≡ take most_openings candidates.now }
 {
-    push_openings(alloc, buffer, first_of(documents))?;
-    push_more(buffer, documents.len().saturating_sub(LISTED))
-}
-
-/// Returns the documents that are listed.
-fn first_of(documents: &[Tally]) -> &[Tally]
-    ensures { result.now ≡ take most_openings documents.now }
-{
-    if documents.len() <= LISTED {
-        documents
+    if candidates.len() <= LISTED {
+        candidates
     } else {
-        &documents[..LISTED]
+        &candidates[..LISTED]
     }
 }
 
-fn push_openings(alloc: Global, buffer: &mut Vec<u8>, documents: &[Tally]) -> Result<(), AllocError>
-    ensures { OnOk result
-        (buffer.new.items ≡ buffer.old.items ++ flat_map opening_words documents.now) }
+fn push_candidates(
+    alloc: Global,
+    buffer: &mut Vec<u8>,
+    candidates: &[Candidate<'_>],
+) -> Result<(), AllocError>
+    ensures { OnOk result (buffer.new.items ≡ buffer.old.items ++ flat_map candidate_words candidates.now) }
 {
-    for document in documents {
-        push_opening(alloc, buffer, document)?;
+    for candidate in candidates {
+        push_candidate(alloc, buffer, candidate)?;
     }
     Ok(())
 }
 
 /// Writes the line of a document.
-fn push_opening(alloc: Global, buffer: &mut Vec<u8>, document: &Tally) -> Result<(), AllocError>
-    ensures { OnOk result
-        (buffer.new.items ≡ buffer.old.items ++ opening_words document.now) }
+fn push_candidate(
+    alloc: Global,
+    buffer: &mut Vec<u8>,
+    candidate: &Candidate<'_>,
+) -> Result<(), AllocError>
+    ensures { OnOk result (buffer.new.items ≡ buffer.old.items ++ candidate_words candidate.now) }
 {
+    let opening = candidate.opening;
     push_words(buffer, "  message ")?;
-    push_number(buffer, document.first)?;
+    push_number(buffer, opening.first)?;
     push_words(buffer, " opened ")?;
-    push_json_string(alloc, buffer, &document.words)?;
+    push_json_string(alloc, buffer, &opening.words)?;
+    push_differing(buffer, candidate.lines)?;
     push_words(buffer, "\n")
+}
+
+/// Writes how many lines differ, if that is known.
+fn push_differing(buffer: &mut Vec<u8>, lines: Option<usize>) -> Result<(), AllocError>
+    ensures { OnOk result (buffer.new.items ≡ buffer.old.items ++ differing_words lines) }
+{
+    let Some(lines) = lines else {
+        return Ok(());
+    };
+    push_words(buffer, ", differing lines: ")?;
+    push_number(buffer, lines as u64)
 }
 
 /// Writes how many documents aren't listed, if there are some.

@@ -24,7 +24,8 @@ pub record IsListOf (wanted : Wanted) (left : Option (List ℕ)) (words : List �
   pub file : ReaderState
   pub writer : WriterState
   pub outcome : Outcome
-  pub ran : IsEngineRun (openings_engine wanted.settings (string_bytes wanted.ending)) allowed_turns
+  pub ran : IsEngineRun (openings_engine wanted.settings (string_bytes wanted.ending)
+      (option_map string_bytes wanted.saved)) allowed_turns
       (ports (file_opened left) nothing_written) (ports file writer) (Ok outcome)
   pub is : writer.written ≡ Some words
 

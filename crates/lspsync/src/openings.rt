@@ -6,6 +6,7 @@ ghost use Rattle.lspsync.specs.Openings.{AreListed, IsList, IsListOf};
 use crate::files::Folder;
 use crate::reached::{Fronts, front_before};
 use crate::wanted::Wanted;
+use log_session::copied_text;
 use lsp_program::MAX_TURNS;
 use lsp_replay::{EngineFault, Missing, Outcome, Told, list_openings};
 use std::alloc::Global;
@@ -16,7 +17,8 @@ use std::io::Read;
 pub struct Unlisted;
 
 /// Returns which messages opened the documents of a log, if one is missing and the log is a file,
-/// unlike a pipe: it is read once more, up to a fault if it has one.
+/// unlike a pipe: it is read once more, up to a fault if it has one. If the call names a saved text,
+/// those come first that are nearest to it.
 ///
 /// # Errors
 /// Out of memory, or the file can't be read again.
@@ -81,11 +83,14 @@ fn list_before<F: Folder>(
     list_of(alloc, file, wanted).ok()
 }
 
-/// Returns which messages opened the documents of a log.
+/// Returns which messages opened the documents of a log, compared with the saved text if there is one.
 fn list_of<T: Read + Drop>(alloc: Global, log: T, wanted: &Wanted) -> Result<Vec<u8>, EngineFault>
     ensures { IfOk result (λ words. IsListOf wanted.now (T.remaining log) words.items) }
 {
     let Ok(ending) = String::from_str(alloc, &wanted.ending) else {
+        return Err(EngineFault::NoMemory);
+    };
+    let Ok(saved) = copied_text(alloc, wanted.saved.as_deref()) else {
         return Err(EngineFault::NoMemory);
     };
     let mut input = Told::new(log);
@@ -96,6 +101,7 @@ fn list_of<T: Read + Drop>(alloc: Global, log: T, wanted: &Wanted) -> Result<Vec
         &mut words,
         wanted.settings,
         ending,
+        saved,
         MAX_TURNS,
     )?;
     Ok(words.into_inner())

@@ -37,7 +37,7 @@ impl Printer for ListOpenings {
     }
 
     fn finish(&mut self, _line_due: bool, buffer: &mut Vec<u8>) -> Finished {
-        self.openings.push(buffer, self.session.server().phase())?;
+        self.openings.push(buffer, self.session.server())?;
         Ok(Some(self.session.outcome()))
     }
 }

@@ -109,8 +109,10 @@ enum Command {
     TraceLive,
     /// `compare` of the document that ends in `a` with this text.
     Compare(&'static str),
-    /// The messages that opened documents, for one that ends in `b/a`.
+    /// The messages that opened documents, for one that ends in `b/a`, and for one that ends in `c`
+    /// and is compared with this text.
     Openings,
+    Nearest(&'static str),
 }
 
 /// Some bytes of a row.
@@ -259,7 +261,12 @@ fn call<R: Source, W: Sink>(
         }
         Command::Openings => {
             let ending = String::from_str(alloc, "b/a")?;
-            list_openings(alloc, from, to, settings, ending, turns)
+            list_openings(alloc, from, to, settings, ending, None, turns)
+        }
+        Command::Nearest(text) => {
+            let ending = String::from_str(alloc, "c")?;
+            let saved = Some(String::from_str(alloc, text)?);
+            list_openings(alloc, from, to, settings, ending, saved, turns)
         }
         Command::Compare(text) => {
             let ending = String::from_str(alloc, "a")?;

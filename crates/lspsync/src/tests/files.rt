@@ -55,6 +55,13 @@ const BROKEN: &str = "lspsync: broken.log: a call that was to fail\n";
 const NO_URI: &str =
     "lspsync: good.log: no single document was open whose URI ends so\n  message 2 opened \"file:///a\"\n";
 
+/// The same, where the documents are compared with a file.
+const NO_URI_COMPARED: &str =
+    "lspsync: good.log: no single document was open whose URI ends so\n  message 2 opened \"file:///a\", differing lines: 1\n";
+
+const CUT_COMPARED: &str =
+    "lspsync: cut.log: truncated at 400: the log ends inside a message (docs/PROTOCOL.md#codes)\nlspsync: cut.log: the output is of the log up to message 2\nlspsync: cut.log: no single document was open whose URI ends so\n  message 2 opened \"file:///a\", differing lines: 0\n";
+
 const NO_DOCUMENT: &str =
     "lspsync: begun.log: no single document was open whose URI ends so\n  no message opened a document\n";
 
@@ -118,9 +125,9 @@ static ROWS: [(&str, u8, &str, &str); 36] = [
     ("lspsync compare gone.txt", 3, "", NO_SAVED),
     ("lspsync compare heavy good.log", 4, "", NO_MEMORY),
     ("lspsync check heavy", 4, "", NO_MEMORY),
-    ("lspsync compare saved.txt good.log", 1, "", NO_URI),
+    ("lspsync compare saved.txt good.log", 1, "", NO_URI_COMPARED),
     ("lspsync compare a cut.log", 5, BEFORE_CUT, CUT_SHOWN),
-    ("lspsync compare saved.txt cut.log", 5, "", CUT_MISSING),
+    ("lspsync compare saved.txt cut.log", 5, "", CUT_COMPARED),
     ("lspsync replay --uri=a cut.log", 5, "abc", CUT_SHOWN),
     ("lspsync replay --uri=b cut.log", 5, "", CUT_MISSING),
     ("lspsync replay cut.log", 5, OPENED, CUT_SHOWN),

@@ -17,7 +17,7 @@ returns c =
       alike,
       judgement,
       c.deref-4.ensures.value,
-      c.in_ok-found.ensures,
+      c.in_ok-found.ensures.value,
       c.deref-2.ensures.value,
       c.deref-3.ensures.value,
       c.in_ok-rows.ensures,

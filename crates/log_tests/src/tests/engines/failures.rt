@@ -14,7 +14,7 @@ static SERVED: [Case; 1] = [Case {
 }];
 
 /// The log commands over a log of version 1.
-static OVER_1: [Case; 12] = [
+static OVER_1: [Case; 13] = [
     Case {
         command: Command::Check,
         input: Bytes::Frames(WORKED),
@@ -71,6 +71,14 @@ static OVER_1: [Case; 12] = [
         input: Bytes::Frames(&[INITIALIZE, OPEN, CLOSE]),
         output: Bytes::Plain(b"  message 2 opened \"file:///a\"\n"),
         end: Ended(0, 3, 0),
+        records: &[],
+        flushes: &[],
+    },
+    Case {
+        command: Command::Nearest("abc\nd"),
+        input: Bytes::Frames(&[INITIALIZE, OPEN]),
+        output: Bytes::Plain(b"  message 2 opened \"file:///a\", differing lines: 2\n"),
+        end: Ended(0, 2, 0),
         records: &[],
         flushes: &[],
     },

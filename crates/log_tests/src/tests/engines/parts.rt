@@ -90,8 +90,12 @@ fn a_document_is_named_by_how_it_ends(rt: HostRuntime) -> Result<(), Fail> {
     Ok(())
 }
 
-/// The sessions, and the lists for a document that ends in `b/a`.
-static LISTS: [Row; 3] = [
+/// Opens one of three lines.
+const THREE: &str =
+    r#"{"jsonrpc":"2.0","method":"textDocument/didOpen","params":{"textDocument":{"languageId":"c","text":"a\nb\nc\n","uri":"three","version":1}}}"#;
+
+/// The sessions, and the lists for a document that ends in `b/a`, or that is compared with a text.
+static LISTS: [Row; 5] = [
     Row(
         Command::Openings,
         Bytes::Frames(&[INITIALIZE, OPEN, CLOSE, SHORT, OPEN]),
@@ -109,6 +113,24 @@ static LISTS: [Row; 3] = [
         Bytes::Frames(&[OPEN, INITIALIZE]),
         Ended(0, 2, 0),
         Bytes::Plain(b"  no message opened a document\n"),
+    ),
+    // The nearest comes first, one before another that is as near, and a closed one last.
+    Row(
+        Command::Nearest("x\nb\nd\n"),
+        Bytes::Frames(&[INITIALIZE, OPEN, CLOSE, SHORT, OTHER, THREE]),
+        Ended(0, 6, 0),
+        Bytes::Plain(
+            b"  message 6 opened \"three\", differing lines: 2\n  message 4 opened \"a\", differing lines: 3\n  message 5 opened \"file:///b/a\", differing lines: 3\n  message 2 opened \"file:///a\"\n",
+        ),
+    ),
+    // A line end is no difference of a line.
+    Row(
+        Command::Nearest("x\r\n"),
+        Bytes::Frames(&[INITIALIZE, SHORT, OTHER]),
+        Ended(0, 3, 0),
+        Bytes::Plain(
+            b"  message 3 opened \"file:///b/a\", differing lines: 0\n  message 2 opened \"a\", differing lines: 1\n",
+        ),
     ),
 ];
 
