@@ -1,24 +1,38 @@
 -- The parts of a message with one change of a range, by their bytes.
-use Rattle.lsp_message.proofs.Prelude.{◌≡◌, ℕ, List, [], ◌∷◌, ◌++◌, take, drop, length, get_or, true, false, Option, Some, None, ◌≤◌, ◌<◌, max, refl, sym, ap, ap₂, ◌∙◌, arith, codes, ◌==◌, get_or-take, length-take-le, take-append-drop, drop-cons, suc, or_cases, eqb-true, ◌||◌, not, option_map, option_and_then, append_assoc, ends_word, is_stop, IsNumber, escape, Data, Members, number, string, array, object, no_members, no_items, item, put, unsigned, number_of, of_members, read, tokens, json_tokens, members_tokens, Range, content_change_in, member_at, natural_in, range_of, IsTaken, IsValueAt, IsLengthAt, common_steps}
+use Rattle.lsp_message.proofs.Prelude.{◌≡◌, ℕ, List, [], ◌∷◌, ◌++◌, take, drop, length, get_or, true, false, Bool, Option, Some, None, ◌≤◌, ◌<◌, max, refl, sym, subst, ap, ap₂, ◌∙◌, arith, codes, ◌==◌, get_or-take, length-take-le, take-append-drop, drop-cons, suc, eqb-true, ◌||◌, option_map, option_and_then, append_assoc, ends_word, IsNumber, escape, Data, Members, Num, number, string, array, object, no_members, no_items, item, put, unsigned, number_of, of_members, read, max_depth, tokens, json_tokens, members_tokens, Range, content_change_in, member_at, natural_in, range_of, IsTaken, IsValueAt, IsLengthAt, common_steps}
+use Rattle.std.proofs.lemmas.List.Sums.{prefix_len-le-length, prefix_len_passes}
+use Rattle.std.specs.List.{prefix_len}
 use Rattle.json.specs.Json as json
+use Rattle.json.specs.Run.{is_plain}
 use Rattle.json.specs.Text.{content}
 use Rattle.json.specs.Token as kind
-use Rattle.json.specs.Tree.{members_depth}
+use Rattle.json.specs.Word.{is_operator, is_space}
 use Rattle.json.specs.Lex.{token, comma, colon, lex, between, punctuate, fresh, after_value, begins_colon}
 use Rattle.json.proofs.Printed.Strings.{content-escape, lex-escape}
 use Rattle.json.proofs.Printed.Numbers.{lex-number}
 use Rattle.json.proofs.Printed.Plain.{escape_on_plain}
+use Rattle.lsp_message.specs.inside.Lexemes.{AreLaterAt}
 use Rattle.lsp_message.proofs.Grammar.{read_json}
 
 -- ---- blanks
 
-pub space_read : (rest : List ℕ) → lex between (codes " " ++ rest) ≡ lex between rest
-unfolding lex
-space_read rest = refl
+-- by either of two tests
+pub either : (a b : Bool) {P : Type 0} → (a ≡ true → P) → (b ≡ true → P) → (a || b) ≡ true → P
+either true b one other holds = one refl
+either false b one other holds = other holds
 
-pub line_feed_read : (rest : List ℕ) → lex between (codes "\n" ++ rest) ≡ lex between rest
+blank_is : (x : ℕ) (rest : List ℕ) (blank : ℕ) → lex between (blank ∷ rest) ≡ lex between rest → (x == blank) ≡ true
+    → lex between (x ∷ rest) ≡ lex between rest
+blank_is x rest blank skipped is =
+    subst (λ (n : ℕ). lex between (n ∷ rest) ≡ lex between rest) (sym (eqb-true x blank is)) skipped
+
+blank_byte : (x : ℕ) (rest : List ℕ) → is_space x ≡ true → lex between (x ∷ rest) ≡ lex between rest
 unfolding lex
-line_feed_read rest = refl
+blank_byte x rest =
+    either (x == 32 || x == 9 || x == 10) (x == 13)
+    (either (x == 32 || x == 9) (x == 10)
+    (either (x == 32) (x == 9) (blank_is x rest 32 refl) (blank_is x rest 9 refl)) (blank_is x rest 10 refl))
+    (blank_is x rest 13 refl)
 
 pub no_bytes : (rest : List ℕ) → (length rest == 0) ≡ true → lex between rest ≡ []
 unfolding lex
@@ -26,10 +40,10 @@ no_bytes [] e = refl
 no_bytes (x ∷ xs) e = let never : ⊥ = omega (arith, eqb-true (length (x ∷ xs)) 0 e) in absurd never
 
 -- what is left after a blank means the same
-pub blank_read : (text : List ℕ) (i : ℕ) → i < length text → (get_or text i 0 == 32 || get_or text i 0 == 10) ≡ true
+pub blank_read : (text : List ℕ) (i : ℕ) → i < length text → is_space (get_or text i 0) ≡ true
     → lex between (drop (suc i) text) ≡ lex between (drop i text)
 blank_read text i within blank =
-    grind (arith, common_steps, or_cases, eqb-true, drop-cons, space_read, line_feed_read)
+    sym (ap (lex between) (drop-cons text i 0 within) ∙ blank_byte (get_or text i 0) (drop (suc i) text) blank)
 
 -- ---- texts and numbers
 
@@ -38,13 +52,30 @@ pub split_is : (text beginning rest : List ℕ) (at : ℕ) → beginning ≡ tak
 split_is text beginning rest at front back = sym (take-append-drop at text) ∙ ap₂ (λ a b. a ++ b) (sym front) (sym back)
 
 -- bytes before the first that stops a string's plain text are written as they are
-pub escape_up_to : (text : List ℕ) (len : ℕ) → len ≤ length text
-    → ((k : ℕ) → k < len → is_stop (get_or text k 0) ≡ false) → escape (take len text) ≡ take len text
-escape_up_to text len within unstopped =
-    let long = length-take-le len text within in
-    escape_on_plain true (take len text) (λ k p q.
-    let before : k < len = omega (arith, long, q) in
-    ap (λ x. not (is_stop x)) (get_or-take len text k 0 before) ∙ ap not (unstopped k before))
+pub plain_escape : (text : List ℕ)
+    → escape (take (prefix_len is_plain text) text) ≡ take (prefix_len is_plain text) text
+plain_escape text =
+    let long = length-take-le (prefix_len is_plain text) text (prefix_len-le-length is_plain text) in
+    escape_on_plain true (take (prefix_len is_plain text) text) (λ k p q.
+    let before : k < prefix_len is_plain text = omega (arith, long, q) in
+    ap is_plain (get_or-take (prefix_len is_plain text) text k 0 before) ∙ prefix_len_passes is_plain text k 0 before)
+
+or_other : (a b : Bool) → b ≡ true → (a || b) ≡ true
+or_other true b is = refl
+or_other false b is = is
+
+byte_ends : (x : ℕ) (rest : List ℕ) (byte : ℕ) → ends_word (byte ∷ rest) ≡ true → (x == byte) ≡ true
+    → ends_word (x ∷ rest) ≡ true
+byte_ends x rest byte ends is = subst (λ (n : ℕ). ends_word (n ∷ rest) ≡ true) (sym (eqb-true x byte is)) ends
+
+-- a word ends before a delimiter
+pub delimiter_ends : (x : ℕ) (rest : List ℕ) → (x == 44 || x == 125 || x == 93 || is_space x) ≡ true
+    → ends_word (x ∷ rest) ≡ true
+delimiter_ends x rest =
+    either (x == 44 || x == 125 || x == 93) (is_space x)
+    (either (x == 44 || x == 125) (x == 93)
+    (either (x == 44) (x == 125) (byte_ends x rest 44 refl) (byte_ends x rest 125 refl)) (byte_ends x rest 93 refl))
+    (or_other (is_operator x) (is_space x))
 
 -- ---- values
 
@@ -68,11 +99,11 @@ unfolding lex
 plain_text_read old start inside end rest text blanks opened split closed is =
     grind (arith, common_steps, ap₂, content-escape, lex-escape)
 
-pub number_read : (old start digits rest : List ℕ) (n : ℕ) → lex between old ≡ lex between start
-    → start ≡ digits ++ rest → IsNumber digits → ends_word rest ≡ true → number_of digits ≡ Some (unsigned n)
-    → IsValueAt 0 old (number (unsigned n)) rest
+pub number_read : (old start digits rest : List ℕ) (x : Num) → lex between old ≡ lex between start
+    → start ≡ digits ++ rest → IsNumber digits → ends_word rest ≡ true → number_of digits ≡ Some x
+    → IsValueAt 0 old (number x) rest
 unfolding punctuate
-number_read old start digits rest n blanks split is ended value =
+number_read old start digits rest x blanks split is ended value =
     let read : lex between old ≡ token (kind.number digits) ∷ lex between rest =
     blanks ∙ ap (lex between) split ∙ lex-number digits rest is ended in
     record {
@@ -87,15 +118,6 @@ abbrev pub IsName : List ℕ → List ℕ → Type 0
 IsName piece name = (rest : List ℕ) → lex between (piece ++ rest)
     ≡ token (kind.string name) ∷ colon ∷ lex between rest
 
--- a text goes on after a value with members that are put in, and with the brace that closes their object
-pub record AreLaterAt (deep : ℕ) (old : List ℕ) (into : Members → Members) (new : List ℕ) : Type 0 where
-  pub members : json.Members
-  pub is : (found : Members) → of_members members found ≡ Some (into found)
-  pub within : members_depth members ≤ deep
-  pub ends : begins_colon (lex between old) ≡ false
-  pub tokens : punctuate after_value (lex between old)
-      ≡ members_tokens members ++ punctuate after_value (lex between new)
-
 pub closed : {old new : List ℕ} → IsTaken old (codes "}") new → AreLaterAt 0 old (λ ms. ms) new
 unfolding lex punctuate
 closed t = record {
@@ -107,7 +129,7 @@ closed t = record {
 }
 
 -- the tokens of a member's value and of the members after it
-value_tokens : {k l : ℕ} {a b c : List ℕ} {x : Data} {into : Members → Members} (v : IsValueAt k a x b)
+pub value_tokens : {k l : ℕ} {a b c : List ℕ} {x : Data} {into : Members → Members} (v : IsValueAt k a x b)
     (rest : AreLaterAt l b into c)
     → punctuate fresh (lex between a)
     ≡ (json_tokens v.json ++ members_tokens rest.members) ++ punctuate after_value (lex between c)
@@ -164,13 +186,14 @@ listed t v u =
           ∙ sym (append_assoc (json_tokens v.json) (kind.end_array ∷ []) _));
     }
 
-pub body_read : (body rest : List ℕ) (d : Data) → IsValueAt 6 body d rest → lex between rest ≡ [] → read body ≡ Some d
+pub body_read : {k : ℕ} (body rest : List ℕ) (d : Data) → IsValueAt k body d rest → k ≤ max_depth
+    → lex between rest ≡ [] → read body ≡ Some d
 unfolding punctuate
-body_read body rest d v ends =
+body_read body rest d v deep ends =
     let shallow = v.within in
     let text : tokens body ≡ json_tokens v.json ++ [] =
     v.tokens (ap begins_colon ends) ∙ ap (λ ls. json_tokens v.json ++ punctuate after_value ls) ends in
-    read_json body v.json d text (omega (arith, shallow)) v.is
+    read_json body v.json d text (omega (arith, shallow, deep)) v.is
 
 -- ---- the change
 

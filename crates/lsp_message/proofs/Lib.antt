@@ -7,7 +7,8 @@
 -- `Incoming::read.ok` has two main ways. By tokens, each object is read a member at a time: `Grammar` says what
 -- one more token or member makes of the value (`members_next`), `Openings` what the first token does, `Puts` what
 -- a kept member is then, and why a scalar is enough. A keystroke is read by its bytes: `Lexemes` says what each
--- part of its text is read as. `Digits` is for numbers.
+-- part of its text is read as. `Passed` is for values that are passed over by their bytes, `Foreign` for the
+-- messages that these are in, and `Digits` for numbers.
 mod Prelude
 pub mod Readings
 pub mod Sound
@@ -25,3 +26,6 @@ pub mod Openings
 pub mod Puts
 pub mod Digits
 pub mod Lexemes
+pub mod Plain
+pub mod Passed
+pub mod Foreign

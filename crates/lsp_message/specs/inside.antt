@@ -8,3 +8,4 @@ pub mod Reading
 pub mod Scalars
 pub mod Objects
 pub mod Lexemes
+pub mod Foreign

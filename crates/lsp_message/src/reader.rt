@@ -18,19 +18,22 @@
 //! - `object`: an object, of whose members some are kept.
 //! - `message`, `params`, `document`, `changes`, `change`, `range`, `position`: the objects of the
 //!   protocol, each with the members that are kept of it.
-//! - `keystroke`: a `didChange` in its usual layout, read by its bytes; `cursor`: what is left of a
-//!   text.
+//! - `keystroke`: a `didChange` in its usual layout, read by its bytes; `foreign`: a message that
+//!   isn't on the texts, so too. `cursor`: what is left of a text; `pass`: values that are passed
+//!   over; `bytes`: the bytes at the beginning of a text.
 //! - `noted`: what notes go by, as the `rangeLength` of changes, which nobody needs to apply them.
 //! - `scalar`: a text, a whole number or null.
 //! - `number`: which numbers are in range.
 //! - `skip`: values that are skipped.
 //! - `fault`: why reading stops.
 
+mod bytes;
 mod change;
 mod changes;
 mod cursor;
 mod document;
 mod fault;
+mod foreign;
 mod incoming;
 mod keystroke;
 mod message;
@@ -38,6 +41,7 @@ mod noted;
 mod number;
 mod object;
 mod params;
+mod pass;
 mod position;
 mod range;
 mod scalar;

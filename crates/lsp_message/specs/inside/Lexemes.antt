@@ -1,11 +1,13 @@
 -- What the bytes of a text are read as. In names, `At`: after blanks at the beginning of the text
 -- `old`, and `new` is what follows.
-use Rattle.std.specs.Prelude.{◌≡◌, ◌≤◌, ◌∷◌, ◌++◌}
-use Rattle.lsp_message.specs.Prelude.{ℕ, ℤ, List, [], Bool, true, false, Option, Some, None, codes, Data, number, unsigned, array, object, no_members, no_items, item, of_json, read, Range}
+use Rattle.std.specs.Prelude.{◌≡◌, ◌<◌, ◌≤◌, ◌∷◌, ◌++◌, ◌==◌, ◌||◌}
+use Rattle.lsp_message.specs.Prelude.{ℕ, ℤ, List, [], Bool, true, false, Option, Some, None, codes, length, Data, Members, number, unsigned, array, object, no_members, no_items, item, of_json, of_members, read, Range}
 use Rattle.serde_json.specs.Data.{string, put}
 use Rattle.json.specs.Json.{Json}
-use Rattle.json.specs.Lex.{lex, between, punctuate, fresh, after_value, begins_colon}
-use Rattle.json.specs.Tree.{json_tokens, depth}
+use Rattle.json.specs.Json as json
+use Rattle.json.specs.Lex.{token, colon, lex, between, punctuate, fresh, after_value, begins_colon}
+use Rattle.json.specs.Token as kind
+use Rattle.json.specs.Tree.{json_tokens, depth, members_tokens, members_depth}
 use Rattle.lsp_message.specs.Incoming.{incoming_of, did_change}
 use Rattle.lsp_message.specs.Lengths.{lengths_found, lengths_of}
 use Rattle.lsp_message.specs.Message.{message_of}
@@ -34,6 +36,42 @@ IsReadAt deep old new Is = (d : Data) × IsValueAt deep old d new × Is d
 abbrev pub in_order : {A : Type 0} → Bool → A → A → A × A
 in_order false first second = (first, second)
 in_order true first second = (second, first)
+
+-- Members that are put after a value, and the brace that closes their object.
+pub record AreLaterAt (deep : ℕ) (old : List ℕ) (into : Members → Members) (new : List ℕ) : Type 0 where
+  pub members : json.Members
+  pub is : (found : Members) → of_members members found ≡ Some (into found)
+  pub within : members_depth members ≤ deep
+  pub ends : begins_colon (lex between old) ≡ false
+  pub tokens : punctuate after_value (lex between old)
+      ≡ members_tokens members ++ punctuate after_value (lex between new)
+
+-- ---- what is passed over
+
+-- A value, of which nothing is kept.
+pub record IsPassed (deep : ℕ) (old new : List ℕ) : Type 0 where
+  pub value : Data
+  pub is : IsValueAt deep old value new
+  pub shorter : length new < length old
+
+-- A string, after its opening quote.
+pub record IsString (inside new : List ℕ) : Type 0 where
+  pub text : List ℕ
+  pub lexemes : lex between (34 ∷ inside) ≡ token (kind.string text) ∷ lex between new
+  pub shorter : length new < length inside
+
+-- A member: its name, a colon and its value, which begins at `start`.
+pub record IsMember (deep : ℕ) (old new : List ℕ) : Type 0 where
+  pub name : List ℕ
+  pub start : List ℕ
+  pub named : lex between old ≡ token (kind.string name) ∷ colon ∷ lex between start
+  pub passed : IsPassed deep start new
+  pub shorter : length start ≤ length old
+
+-- Whether a backslash before this byte is an escape of two bytes.
+abbrev pub is_short_escape : ℕ → Bool
+is_short_escape x =
+    x == 34 || x == 92 || x == 47 || x == 98 || x == 102 || x == 110 || x == 114 || x == 116
 
 -- ---- a message with one change of a range
 

@@ -3,15 +3,13 @@
 //! A call returns `None` where the text goes on otherwise. The text may be JSON all the same, and
 //! is then read by its tokens.
 
-ghost use Rattle.std.specs.Prelude.{◌≡◌, ◌++◌, ◌||◌, ◌==◌, ◌≤◌, [], drop, length, take, IfSome, IsTrue, Some, true};
-ghost use Rattle.json.specs.Print.{escape};
-ghost use Rattle.json.specs.Run.{is_stop};
+ghost use Rattle.std.specs.Prelude.{◌≡◌, ◌++◌, [], IfSome, IsTrue, Some};
 ghost use Rattle.json.specs.Lex.{lex, between};
-ghost use Rattle.json.specs.Word.{ends_word};
 ghost use Rattle.serde_json.specs.Data.{number, string, unsigned};
 ghost use Rattle.lsp_message.specs.Params.{coordinate_in, version_in};
 ghost use Rattle.lsp_message.specs.inside.Lexemes.{IsTaken, IsValueAt, IsReadAt};
 
+use crate::reader::bytes::{blanks_len, digits_len, is_delimited, plain_len};
 use crate::reader::number::{Number, short_natural};
 
 /// What is left of a text.
@@ -26,6 +24,14 @@ impl<'a> Cursor<'a> {
         ensures { result.rest.now ≡ text.now }
     {
         Cursor { rest: text }
+    }
+
+    /// Returns the bytes that are left.
+    #[inline(always)]
+    pub(crate) fn bytes(&self) -> &'a [u8]
+        ensures { result.now ≡ self.now.rest.now }
+    {
+        self.rest.as_bytes()
     }
 
     /// Reads this piece, after blanks.
@@ -58,8 +64,8 @@ impl<'a> Cursor<'a> {
         Some(text)
     }
 
-    /// Reads a whole number below 2^64, after blanks, where a comma, a closing brace or a line
-    /// feed follows it.
+    /// Reads a whole number below 2^64, after blanks, where a comma, a closing bracket or a blank
+    /// follows it.
     pub(crate) fn natural(&mut self) -> Option<u64>
         ensures { IfSome result
             (λ n. IsValueAt 0 self.old.rest.now (number (unsigned n)) self.new.rest.now) }
@@ -67,7 +73,7 @@ impl<'a> Cursor<'a> {
         let text = after_blanks(self.rest);
         let (digits, rest) = text.split_at_checked(digits_len(text.as_bytes()))?;
         let value = short_natural(digits.as_bytes())?;
-        if !json::is_number(digits) || !ends_number(rest) {
+        if !json::is_number(digits) || !is_delimited(rest.as_bytes()) {
             return None;
         }
         self.rest = rest;
@@ -109,7 +115,7 @@ fn after<'a>(text: &'a str, piece: &str) -> Option<&'a str>
     if beginning == piece { Some(rest) } else { None }
 }
 
-/// Returns the text after spaces and line feeds, which mean nothing between lexemes.
+/// Returns the text after blanks, which mean nothing between lexemes.
 #[inline(always)]
 fn after_blanks(text: &str) -> &str
     ensures { lex between text.now ≡ lex between result.now }
@@ -127,74 +133,5 @@ fn skip_blanks(text: &str) -> &str
     match text.split_at_checked(blanks_len(text.as_bytes())) {
         Some((_, rest)) => rest,
         None => text,
-    }
-}
-
-/// Returns the number of spaces and line feeds at the beginning.
-fn blanks_len(text: &[u8]) -> usize
-    ensures { lex between (drop result text.now) ≡ lex between text.now }
-{
-    let mut len = 0;
-    for byte in text {
-        if !is_blank(*byte) {
-            return len;
-        }
-        len += 1;
-    }
-    len
-}
-
-/// Returns whether a byte is a space or a line feed.
-#[inline(always)]
-fn is_blank(byte: u8) -> bool
-    ensures { result ≡ (byte == 32 || byte == 10) }
-{
-    (byte == b' ') | (byte == b'\n')
-}
-
-/// Returns the number of bytes before the first that a string has only as an escape, or its end.
-fn plain_len(text: &[u8]) -> usize
-    ensures { escape (take result text.now) ≡ take result text.now }
-{
-    let mut len = 0;
-    for byte in text {
-        if stops(*byte) {
-            return len;
-        }
-        len += 1;
-    }
-    len
-}
-
-/// Returns whether a byte ends the plain text of a string.
-#[inline(always)]
-fn stops(byte: u8) -> bool
-    ensures { result ≡ is_stop byte }
-{
-    (byte == b'"') | (byte == b'\\') | (byte < b' ')
-}
-
-/// Returns the number of digits at the beginning.
-fn digits_len(text: &[u8]) -> usize
-    ensures { result ≤ length text.now }
-{
-    let mut len = 0;
-    for byte in text {
-        if !byte.is_ascii_digit() {
-            return len;
-        }
-        len += 1;
-    }
-    len
-}
-
-/// Returns whether a number ends before this text.
-#[inline(always)]
-fn ends_number(text: &str) -> bool
-    ensures { IsTrue result → ends_word text.now ≡ true }
-{
-    match text.as_bytes().split_first() {
-        Some((byte, _)) => (*byte == b',') | (*byte == b'}') | (*byte == b'\n'),
-        None => false,
     }
 }

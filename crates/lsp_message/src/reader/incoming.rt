@@ -20,6 +20,7 @@ use crate::params::{
     ChangeParams, CloseParams, OpenParams, ParamsFault, params_change, params_close, params_open,
 };
 use crate::reader::fault::Fault;
+use crate::reader::foreign::read_foreign;
 use crate::reader::keystroke::read_keystroke;
 use crate::reader::message::MessageMembers;
 use crate::reader::noted::{Noted, is_noted, lengths_found, may_be_noted};
@@ -211,7 +212,7 @@ fn noted_of(alloc: Global, message: Message) -> Result<(Incoming, Noted), AllocE
     }
 }
 
-/// Reads a text, a keystroke by its bytes; `None` where it has to be read as a tree.
+/// Reads a text, one of a usual layout by its bytes; `None` where it has to be read as a tree.
 fn read_text(alloc: Global, text: &str, scratch: &mut Scratch) -> Result<Option<Incoming>, Fault>
     ensures ok { IfOk result (λ r. IfSome r (λ m. (d : Data) × (read_value text.now ≡ Some d)
         × (incoming_view m ≡ incoming_of (message_of d)))) }
@@ -219,7 +220,10 @@ fn read_text(alloc: Global, text: &str, scratch: &mut Scratch) -> Result<Option<
 {
     match read_keystroke(alloc, text)? {
         Some((params, _)) => Ok(Some(Incoming::DidChange(Some(params)))),
-        None => read_tokens(alloc, text, scratch),
+        None => match read_foreign(alloc, text)? {
+            Some(incoming) => Ok(Some(incoming)),
+            None => read_tokens(alloc, text, scratch),
+        },
     }
 }
 

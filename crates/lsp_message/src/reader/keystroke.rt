@@ -1,8 +1,8 @@
 //! A `textDocument/didChange` of one change in a usual layout, read by its bytes.
 //!
 //! Editors send the members of a keystroke's message in one order, and [`write`] has them in the
-//! order of their names (`by_name`). Spaces and line feeds between them may be there or not. A body
-//! of any other layout is left to the reader of tokens.
+//! order of their names (`by_name`). Blanks between them may be there or not. A body of any other
+//! layout is left to the reader of tokens.
 //!
 //! [`write`]: crate::write
 

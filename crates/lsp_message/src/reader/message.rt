@@ -117,6 +117,19 @@ fn call(
     let Some(id) = id else {
         return Ok(Some(notification(alloc, method, params)?));
     };
+    request_by(alloc, id, method)
+}
+
+/// Returns what a request asks, by its id, which may be none; `None` as in [`request`].
+pub(crate) fn request_by(
+    alloc: Global,
+    id: Scalar<'_>,
+    method: &str,
+) -> Result<Option<Incoming>, AllocError>
+    ensures { IfOk result (λ r. IfSome r (λ m. (i : Option Data) (v : Option Data)
+        → IsKeptId (Some id.entry) i
+        → incoming_view m ≡ incoming_of (call_of i method.now v))) }
+{
     match id.id(alloc)? {
         Some(id) => request(alloc, id, method),
         None => Ok(Some(Incoming::NotAMessage { id: None })),
@@ -158,7 +171,7 @@ fn notification(
 }
 
 /// Returns what a message without a method asks, by the id that it names.
-fn response(
+pub(crate) fn response(
     alloc: Global,
     id: Option<Scalar<'_>>,
     has_failed: bool,

@@ -13,7 +13,7 @@ use json::{Invalid, Reader, Token};
 
 /// Skips a value whose arrays and objects nest at most `depth` deep.
 #[cycle(skip)]
-#[inline(always)]
+#[inline(never)]
 #[tactic(auto, using(crate::proofs::Openings::first_tokens))]
 pub(crate) fn skip_value(reader: &mut Reader<'_>, depth: usize) -> Result<(), Invalid>
     ensures ok { OnOk result ((d : Data) × (value_at depth reader.old ≡ Some (d, reader.new))) }
@@ -26,7 +26,7 @@ pub(crate) fn skip_value(reader: &mut Reader<'_>, depth: usize) -> Result<(), In
 
 /// Skips a value as [`skip_value`] does, after its first token.
 #[cycle(skip)]
-#[inline(always)]
+#[inline(never)]
 #[tactic(auto, using(crate::proofs::Openings::first_tokens))]
 pub(crate) fn skip_value_from<'a>(
     reader: &mut Reader<'a>,

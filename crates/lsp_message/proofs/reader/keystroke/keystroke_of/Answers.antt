@@ -1,4 +1,4 @@
-use Rattle.lsp_message.proofs.Prelude.{codes, refl, sym, ap, ◌∙◌, string, object, no_members, put, read, did_change, lex, content}
+use Rattle.lsp_message.proofs.Prelude.{codes, refl, sym, ap, ◌∙◌, arith, string, object, no_members, put, read, did_change, lex, content}
 use Rattle.lsp_message.proofs.Lexemes.{opened, later, closed, string_read, body_read}
 use Rattle.lsp_message.proofs.reader.keystroke.keystroke_of.Goals as goal
 
@@ -17,7 +17,7 @@ returns c =
           (later (codes "method") c.in_ok-take-4.ensures c.in_ok-take-5.ensures (λ rest. refl)
           (string_read _ _ method named.lexemes)
           (later (codes "params") c.in_ok-take-7.ensures c.in_ok-take-8.ensures (λ rest. refl) found.1
-          (closed c.in_ok-take-9.ensures)))) (c.is_at_end.ensures c.if-not-is_at_end.false),
+          (closed c.in_ok-take-9.ensures)))) (omega arith) (c.is_at_end.ensures c.if-not-is_at_end.false),
       ap did_change found.2,
       found.3,
     )

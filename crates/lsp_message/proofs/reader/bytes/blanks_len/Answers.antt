@@ -1,6 +1,6 @@
 use Rattle.lsp_message.proofs.Prelude.{arith, common_steps}
 use Rattle.lsp_message.proofs.Lexemes.{blank_read}
-use Rattle.lsp_message.proofs.reader.cursor.blanks_len.Goals as goal
+use Rattle.lsp_message.proofs.reader.bytes.blanks_len.Goals as goal
 
 pub loop-byte-preserved : goal.loop-byte-preserved
 loop-byte-preserved c =

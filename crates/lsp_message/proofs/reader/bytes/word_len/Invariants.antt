@@ -1,5 +1,5 @@
 use Rattle.lsp_message.proofs.Prelude.{◌≡◌}
-use Rattle.lsp_message.proofs.reader.cursor.digits_len.Given as goal
+use Rattle.lsp_message.proofs.reader.bytes.word_len.Given as goal
 
 abbrev pub invariant-loop-byte : goal.invariant-loop-byte
 invariant-loop-byte l = l.len ≡ l.byte-index
